@@ -1,0 +1,111 @@
+// The written form of every message, each with what the other end reads of it. The fields that a form uses are PID 2, ARG1 258 and
+// ARG2 3, and a counted string is "abc".
+use crate::show;
+use message::Carried;
+use message::Form;
+use message::Found;
+use message::Header;
+use message::Outcome;
+
+// Of each op code the request, the reply that grants it and the CAN'T.
+pub fn show_ops() {
+    show::text(
+        b"\nOf each op code the request, the reply and the CAN'T, each with what the other end reads of it:\n",
+    );
+    ops();
+}
+
+fn ops() {
+    let mut cmd: u8 = 0;
+    while cmd < 128 {
+        op(cmd);
+        cmd += 1;
+    }
+}
+
+fn op(cmd: u8) {
+    let Found::Known(f) = message::request_form(cmd) else {
+        return;
+    };
+    let h = sample(f, cmd);
+    show::text(b"\n");
+    request(f, h);
+    reply(h);
+    cant(h);
+}
+
+fn sample(f: Form, cmd: u8) -> Header {
+    let mut h = Header {
+        host: 5,
+        cmd: cmd,
+        pid: 0,
+        arg1: 0,
+        arg2: 0,
+    };
+    if f.pid {
+        h.pid = 2;
+    }
+    if f.arg1 {
+        h.arg1 = 258;
+    }
+    if f.arg2 {
+        h.arg2 = 3;
+    }
+    h
+}
+
+fn request(f: Form, h: Header) {
+    let mut buffer = [0u8; 266];
+    let written = write_request(f, h, &mut buffer);
+    show::written_request(written, &buffer);
+}
+
+fn write_request(f: Form, h: Header, buffer: &mut [u8]) -> Outcome {
+    let carried = f.carried;
+    match carried {
+        Carried::Counted => message::write_request(h, b"abc", buffer),
+        Carried::Nothing => message::write_request(h, b"", buffer),
+        Carried::Vector => message::write_request(h, b"", buffer),
+    }
+}
+
+fn reply(h: Header) {
+    let mut buffer = [97u8; 266];
+    let written = write_reply(h, &mut buffer);
+    show::written_answer(written, &buffer);
+}
+
+// EXAMINE's reply carries what stands in the buffer; CREATE's has the number of the new process.
+fn write_reply(h: Header, buffer: &mut [u8]) -> Outcome {
+    let cmd = h.cmd;
+    match cmd {
+        6 => message::write_contents(h, buffer),
+        12 => message::write_created(h, 7, buffer),
+        _ => message::write_reply(h, buffer),
+    }
+}
+
+fn cant(h: Header) {
+    let mut buffer = [0u8; 266];
+    let written = message::write_cant(h, &mut buffer);
+    show::written_answer(written, &buffer);
+}
+
+pub fn show_notices() {
+    show::text(
+        b"\nThe notices, then a reason that HALT does not carry and a kind that there is not:\n",
+    );
+    notice(0, 4);
+    notice(1, 0);
+    notice(2, 0);
+    notice(3, 0);
+    notice(1, 4);
+    notice(4, 0);
+}
+
+fn notice(kind: u8, reason: u16) {
+    let mut buffer = [0u8; 266];
+    let vector: [u16; 9] = [1, 2, 3, 4, 5, 6, 4094, 256, 61440];
+    let written = message::write_notice(5, kind, 2, reason, vector, &mut buffer);
+    show::written_answer(written, &buffer);
+}

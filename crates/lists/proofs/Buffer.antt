@@ -1,0 +1,55 @@
+-- Laws of a buffer that is written at its start. Assumes nothing.
+use mathlib.Core.Path.{_≡_, refl, sym, ap}
+use mathlib.Core.List.{List, [], _∷_, _++_, append-assoc, append-nil}
+use Prim.Native.Nat.{ℕ, suc, _+_, _-_, _≤_, _<_}
+use native.Mathlib.Numerals.{add-one}
+use native.Mathlib.Omega.{arith}
+use lib.ListN.{length, take, drop, getD, set, length-append, length-drop, drop-of-length-le}
+use lib.Seq.{append-snoc, drop-cons, set-append-seam, take-all, take-length, take-append-seam, drop-append-add, drop-drop, sets, sets-eq, paste}
+use Rattle.lists.specs.Buffer.{overlay}
+
+-- what was laid over a buffer is its front
+pub take-overlay : (xs buffer : List ℕ) → take (length xs) (overlay xs buffer) ≡ xs
+unfolding overlay
+take-overlay xs buffer = take-append-seam xs (drop (length xs) buffer)
+
+-- a buffer keeps its length
+pub length-overlay : (xs buffer : List ℕ) → length xs ≤ length buffer → length (overlay xs buffer) ≡ length buffer
+unfolding overlay
+length-overlay xs buffer h = simp (length-append, length-drop) (omega arith)
+
+-- stores one after the other from the start lay a list over the buffer
+pub sets-overlay : (xs buffer : List ℕ) → length xs ≤ length buffer → sets buffer 0 xs ≡ overlay xs buffer
+unfolding overlay
+sets-overlay xs buffer h =
+    let e : 0 + length xs ≡ length xs = omega arith in
+    let k : 0 + length xs ≤ length buffer = omega arith in
+    rw e at (sets-eq xs buffer 0 k)
+
+-- a list pasted right behind another lays the two over the buffer
+pub paste-overlay : (xs ys buffer : List ℕ) → paste (overlay xs buffer) (length xs) ys (length ys) ≡ overlay (xs ++ ys) buffer
+unfolding overlay
+paste-overlay xs ys buffer = simp (take-append-seam, take-length, drop-append-add, drop-drop, length-append)
+
+-- a list copied over a lent part's start, in the shape in which the part comes back
+pub paste-part : (at : ℕ) (ys buffer : List ℕ)
+    → take at buffer ++ ((take (length ys) ys ++ drop (length ys) (take (length buffer - at) (drop at buffer))) ++ drop (length buffer - at) (drop at buffer))
+    ≡ paste buffer at ys (length ys)
+paste-part at ys buffer =
+    let rest : List ℕ = drop at buffer in
+    let short : length rest ≤ length buffer - at = simp length-drop (omega arith) in
+    let whole : take (length buffer - at) rest ≡ rest = take-all (length buffer - at) rest short in
+    let none : drop (length buffer - at) rest ≡ [] = drop-of-length-le rest short in
+    simp (whole, none, append-nil, append-assoc, drop-drop)
+
+-- one more element right behind what was laid over a buffer
+pub overlay-snoc : (xs buffer : List ℕ) (a : ℕ) → length xs < length buffer → set (overlay xs buffer) (length xs) a ≡ overlay (xs ++ (a ∷ [])) buffer
+unfolding overlay
+overlay-snoc xs buffer a h =
+    rw (drop-cons buffer (length xs) 0 h, set-append-seam xs (getD buffer (length xs) 0) (drop (suc (length xs)) buffer) a, length-append xs (a ∷ []), add-one (length xs))
+    (sym (append-snoc xs a (drop (suc (length xs)) buffer)))
+
+-- what covers a buffer is all of it
+pub overlay-all : (xs buffer : List ℕ) → length buffer ≤ length xs → overlay xs buffer ≡ xs
+unfolding overlay
+overlay-all xs buffer h = rw (drop-of-length-le buffer h, append-nil xs)

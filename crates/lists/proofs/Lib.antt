@@ -1,0 +1,6 @@
+-- Laws on lists, bytes and words.
+pub mod Bool
+pub mod Buffer
+pub mod Elements
+pub mod Every
+pub mod Word

@@ -1,0 +1,4 @@
+-- Definitions on lists that the contracts of every crate above cite.
+pub mod Buffer
+pub mod Every
+pub mod Word

@@ -1,0 +1,223 @@
+-- The gateway's answers are granted: one law on a form that is known, and one test over the table of op codes, which says that a
+-- reply uses every field that its request uses. Assumes nothing.
+use mathlib.Core.Path.{_≡_, refl, sym, ap, _∙_}
+use mathlib.Core.Bool.{Bool, true, false, not, cond, _&&_, _||_, false≢true}
+use mathlib.Core.List.{List, []}
+use Prim.Native.Nat.{ℕ, zero, suc, _+_, _-_, _*_, _<_, _≤_}
+use native.Mathlib.Nat.{not-suc-le-zero}
+use native.Mathlib.Omega.{arith}
+use borrow.Author.Tests.{ltb-true, lt-ltb, le-ltb, eq-eqb, ne-eqb, eqb-false, not-false}
+use lib.ListN.{length}
+use lib.Dec.{ltb, eqb}
+use Rattle.lists.specs.Every.{every}
+use Rattle.lists.specs.Word.{lowFirst}
+use Rattle.lists.proofs.Bool.{&&-left, &&-right, &&-both, ||-left, ||-right}
+use Rattle.lists.proofs.Every.{every-getD}
+use Rattle.lists.proofs.Word.{length-lowFirst}
+use Rattle.message.specs.declared.header.Header.{Header}
+use Rattle.message.specs.declared.outcome.Outcome.the-variants.{Granted}
+use Rattle.message.specs.declared.outcome.Reading.the-variants.{Message}
+use Rattle.message.specs.declared.table.Carried.the-variants.{Nothing, Counted, Vector}
+use Rattle.message.specs.declared.table.Form.{Form}
+use Rattle.message.specs.declared.table.Found.{Found}
+use Rattle.message.specs.declared.table.Found.the-variants.{Known, Unknown}
+use Rattle.message.specs.declared.table.Op.{Op}
+use Rattle.message.specs.Outcome.{firstFailing}
+use Rattle.message.specs.Table.{bare, stopped, reason as reasoned, row, ops, op, asks, replies, withoutString, requestForm, replyForm, cantForm, noticeForm, answerForm}
+use Rattle.message.specs.Layout.{headerOf, fixedRight}
+use Rattle.message.specs.Refusal.{usedOrZero, unusedZero, carriedLength, wrongLength, wrongHeader, unknown, malformed, misfits}
+use Rattle.message.specs.Exchange.{writeNumber, answered, readNumber, writes, heads, reads}
+use Rattle.message.specs.Answer.{cmdOver, cantOf, createdOf, noticeOf}
+use Rattle.message.specs.Granted.{Answers, AnswersGranted}
+use Rattle.message.proofs.OutcomeLaws.{outcome-zero, message-zero, message-header}
+use Rattle.message.proofs.TestLaws.{Passed, zero-passed, passed-zero}
+
+-- what test 6 asks of a message of a known form
+pub record Fits (f : Form) (h : Header) (carried : ℕ) : Type 0 where
+  pub hosted : h .host ≡ 0 → ⊥
+  pub unused : unusedZero f h ≡ true
+  pub size : carried ≡ carriedLength (f .carried) (h .arg2)
+  pub short : carried ≤ 256
+
+-- a message that fits a known form passes every test of its writer
+pub fits-number : (f : Form) (h : Header) (carried : ℕ) (buffer : List ℕ) → 266 ≤ length buffer → Fits f h carried → writeNumber (Known f) h carried buffer ≡ 0
+unfolding writeNumber firstFailing wrongLength wrongHeader misfits
+fits-number f h carried buffer room p =
+    let enough : 10 ≤ 10 + carried = omega arith in
+    let most : 10 + carried ≤ 266 = omega (arith, p .short) in
+    rw (le-ltb (length buffer) 266 room, le-ltb _ _ enough, le-ltb _ _ most, ne-eqb (h .host) 0 (p .hosted), p .unused, ← p .size, eq-eqb (10 + carried) (10 + carried) refl)
+
+-- what a reader of requests found: a host, a CMD of the table, and no unused field that is not zero
+pub record Asked (h : Header) : Type 0 where
+  pub hosted : h .host ≡ 0 → ⊥
+  pub known : h .cmd < length ops
+  pub unused : unusedZero (asks (op (h .cmd))) h ≡ true
+
+known-form : (cmd : ℕ) → unknown (requestForm cmd) ≡ false → cmd < length ops
+unfolding requestForm
+known-form cmd e = go (ltb cmd (length ops)) refl e
+  where
+    go : (t : Bool) → ltb cmd (length ops) ≡ t → unknown (cond t (Known (asks (op cmd))) Unknown) ≡ false → cmd < length ops
+    go true p q = ltb-true cmd (length ops) p
+    go false p q = absurd (false≢true (sym q))
+
+requestForm-known : (cmd : ℕ) → cmd < length ops → requestForm cmd ≡ Known (asks (op cmd))
+unfolding requestForm
+requestForm-known cmd h = rw (lt-ltb cmd (length ops) h)
+
+asked-passed : (fixed : Bool) (h : Header) (n : ℕ) → Passed fixed (requestForm (h .cmd)) h n → Asked h
+unfolding wrongHeader misfits
+asked-passed fixed h n p =
+    let known = known-form (h .cmd) (p .known) in
+    let formed = rw (requestForm-known (h .cmd) known) at (p .formed) in
+    record {
+      hosted = eqb-false (h .host) 0 (||-right (not fixed) (eqb (h .host) 0) (p .headed));
+      known = known;
+      unused = not-false (unusedZero (asks (op (h .cmd))) h) (||-left _ _ formed);
+    }
+
+pub asked-read : (m : List ℕ) (h : Header) → reads requestForm m ≡ Message h → Asked h
+unfolding reads readNumber
+asked-read m h e =
+    rw (message-header _ (headerOf m) h e) at
+    (asked-passed (fixedRight m) (headerOf m) (length m) (zero-passed _ _ _ _ (message-zero _ (headerOf m) h e)))
+
+-- a field that f uses, g uses
+implied : Bool → Bool → Bool
+implied a b = not a || b
+
+-- every field that f uses, g uses
+covers : Form → Form → Bool
+covers f g = implied (f .pid) (g .pid) && implied (f .arg1) (g .arg1) && implied (f .arg2) (g .arg2)
+
+-- every reply uses the fields of its request: one test, computed over the table
+replies-cover : every (λ (o : Op). covers (asks o) (replies o)) ops ≡ true
+unfolding covers implied
+replies-cover = refl
+
+implied-zero : (a b : Bool) (value : ℕ) → implied a b ≡ true → usedOrZero a value ≡ true → usedOrZero b value ≡ true
+unfolding implied
+implied-zero true true value e z = refl
+implied-zero true false value e z = absurd (false≢true e)
+implied-zero false true value e z = refl
+implied-zero false false value e z = z
+
+covers-zero : (f g : Form) (h : Header) → covers f g ≡ true → unusedZero f h ≡ true → unusedZero g h ≡ true
+unfolding covers unusedZero
+covers-zero f g h c z =
+    let p = usedOrZero (f .pid) (h .pid) in
+    let a = usedOrZero (f .arg1) (h .arg1) in
+    let b = usedOrZero (f .arg2) (h .arg2) in
+    let cp = implied (f .pid) (g .pid) in
+    let ca = implied (f .arg1) (g .arg1) in
+    let cb = implied (f .arg2) (g .arg2) in
+    let z2 = &&-left (p && a) b z in
+    let c2 = &&-left (cp && ca) cb c in
+    &&-both (usedOrZero (g .pid) (h .pid) && usedOrZero (g .arg1) (h .arg1)) (usedOrZero (g .arg2) (h .arg2))
+    (&&-both (usedOrZero (g .pid) (h .pid)) (usedOrZero (g .arg1) (h .arg1))
+    (implied-zero (f .pid) (g .pid) (h .pid) (&&-left cp ca c2) (&&-left p a z2))
+    (implied-zero (f .arg1) (g .arg1) (h .arg1) (&&-right cp ca c2) (&&-right p a z2)))
+    (implied-zero (f .arg2) (g .arg2) (h .arg2) (&&-right (cp && ca) cb c) (&&-right (p && a) b z))
+
+-- the form of the reply to a known request
+answerForm-reply : (cmd : ℕ) → cmd < length ops → answerForm cmd ≡ Known (replies (op cmd))
+unfolding answerForm replyForm
+answerForm-reply cmd h =
+    let low : cmd < 64 = omega arith in
+    rw (lt-ltb cmd 64 low, lt-ltb cmd (length ops) h)
+
+-- and of its CAN'T, unless it is NOP
+answerForm-cant : (cmd : ℕ) → (cmd ≡ 0 → ⊥) → cmd < length ops → answerForm (cmd + 128) ≡ Known (withoutString (asks (op cmd)))
+unfolding answerForm cantForm
+answerForm-cant cmd other h =
+    let no-reply : 64 ≤ cmd + 128 = omega arith in
+    let no-notice : 128 ≤ cmd + 128 = omega arith in
+    let same : cmd + 128 - 128 ≡ cmd = omega arith in
+    rw (le-ltb _ _ no-reply, le-ltb _ _ no-notice, same, ne-eqb cmd 0 other, requestForm-known cmd h)
+
+-- a header whose form uses PID may have any
+named-unused : (f : Form) (h : Header) (pid : ℕ) → f .pid ≡ true → unusedZero f h ≡ true → unusedZero f (createdOf h pid) ≡ true
+unfolding unusedZero createdOf
+named-unused f h pid named z =
+    let p = usedOrZero (f .pid) (h .pid) in
+    let a = usedOrZero (f .arg1) (h .arg1) in
+    let b = usedOrZero (f .arg2) (h .arg2) in
+    rw named (&&-both a b (&&-right p a (&&-left (p && a) b z)) (&&-right (p && a) b z))
+
+module _ (h : Header) (buffer : List ℕ) (a : Asked h) (room : 266 ≤ length buffer) where
+  reply-unused : unusedZero (replies (op (h .cmd))) h ≡ true
+  reply-unused =
+      covers-zero (asks (op (h .cmd))) (replies (op (h .cmd))) h
+      (every-getD (λ (o : Op). covers (asks o) (replies o)) ops (row bare bare) (h .cmd) replies-cover (a .known)) (a .unused)
+
+  -- a reply whose string has the right length
+  replied : (carried : ℕ) → carried ≡ carriedLength (replies (op (h .cmd)) .carried) (h .arg2) → carried ≤ 256
+      → writeNumber (answerForm (h .cmd)) h carried buffer ≡ 0
+  replied carried size short =
+      rw (answerForm-reply (h .cmd) (a .known))
+      (fits-number (replies (op (h .cmd))) h carried buffer room
+      (record { hosted = a .hosted; unused = reply-unused; size = size; short = short }))
+
+  reply : replies (op (h .cmd)) .carried ≡ Nothing → writes answerForm h [] buffer .outcome ≡ Granted 10
+  unfolding writes answered carriedLength
+  reply e = sym (outcome-zero _ 10 (replied 0 (rw e) (omega arith)))
+
+  contents : replies (op (h .cmd)) .carried ≡ Counted → h .arg2 ≤ 256 → heads answerForm h (h .arg2) buffer .outcome ≡ Granted (10 + h .arg2)
+  unfolding heads answered carriedLength
+  contents e short = sym (outcome-zero _ (10 + h .arg2) (replied (h .arg2) (rw e) short))
+
+  created : (pid : ℕ) → replies (op (h .cmd)) .pid ≡ true → replies (op (h .cmd)) .carried ≡ Nothing
+      → writes answerForm (createdOf h pid) [] buffer .outcome ≡ Granted 10
+  unfolding writes answered carriedLength createdOf
+  created pid named e =
+      let r = replies (op (h .cmd)) in
+      let p : Fits r (createdOf h pid) 0 =
+      record { hosted = a .hosted; unused = named-unused r h pid named reply-unused; size = rw e; short = omega arith } in
+      sym (outcome-zero _ 10 (rw (answerForm-reply (h .cmd) (a .known)) (fits-number r (createdOf h pid) 0 buffer room p)))
+
+  cant : (h .cmd ≡ 0 → ⊥) → writes answerForm (cantOf h) [] buffer .outcome ≡ Granted 10
+  unfolding writes answered carriedLength cantOf unusedZero
+  cant other =
+      let f = withoutString (asks (op (h .cmd))) in
+      let low : h .cmd < 128 = omega (arith, a .known) in
+      let p : Fits f (cantOf h) 0 =
+      record { hosted = a .hosted; unused = a .unused; size = refl; short = omega arith } in
+      let known : answerForm (cantOf h .cmd) ≡ Known f = rw (lt-ltb (h .cmd) 128 low) (answerForm-cant (h .cmd) other (a .known)) in
+      sym (outcome-zero _ 10 (rw known (fits-number f (cantOf h) 0 buffer room p)))
+
+  answers : Answers h buffer
+  answers = record { reply = reply; created = created; contents = contents; cant = cant }
+
+module _ (host pid reason : ℕ) (buffer : List ℕ) (hosted : host ≡ 0 → ⊥) (room : 266 ≤ length buffer) where
+  -- a notice whose form is that of its kind
+  noticed : (kind : ℕ) (f : Form) → answerForm (cmdOver 64 4 kind) ≡ Known f → unusedZero f (noticeOf host kind pid reason) ≡ true → f .carried ≡ Vector
+      → writeNumber (answerForm (cmdOver 64 4 kind)) (noticeOf host kind pid reason) 18 buffer ≡ 0
+  unfolding noticeOf carriedLength
+  noticed kind f known unused carried =
+      let p : Fits f (noticeOf host kind pid reason) 18 =
+      record { hosted = hosted; unused = unused; size = rw carried; short = omega arith } in
+      rw known (fits-number f (noticeOf host kind pid reason) 18 buffer room p)
+
+  -- TRAP may carry a reason, the other kinds none
+  by-kind : (kind : ℕ) → kind < 4 → ((kind ≡ 0 → ⊥) → reason ≡ 0)
+      → writeNumber (answerForm (cmdOver 64 4 kind)) (noticeOf host kind pid reason) 18 buffer ≡ 0
+  unfolding answerForm noticeForm unusedZero noticeOf
+  by-kind zero l silent = noticed 0 reasoned refl refl refl
+  by-kind (suc zero) l silent = noticed 1 stopped refl (rw (silent (omega arith))) refl
+  by-kind (suc (suc zero)) l silent = noticed 2 stopped refl (rw (silent (omega arith))) refl
+  by-kind (suc (suc (suc zero))) l silent = noticed 3 stopped refl (rw (silent (omega arith))) refl
+  by-kind (suc (suc (suc (suc k)))) l silent = absurd (omega arith)
+
+notice : (host kind pid reason : ℕ) (vector buffer : List ℕ) → (host ≡ 0 → ⊥) → kind < 4 → ((kind ≡ 0 → ⊥) → reason ≡ 0)
+    → length vector ≡ 9 → 266 ≤ length buffer → writes answerForm (noticeOf host kind pid reason) (lowFirst vector) buffer .outcome ≡ Granted 28
+unfolding writes answered noticeOf
+notice host kind pid reason vector buffer hosted low silent nine room =
+    let size : length (lowFirst vector) ≡ 18 = length-lowFirst vector ∙ ap (λ (n : ℕ). 2 * n) nine in
+    rw size (sym (outcome-zero _ 28 (by-kind host pid reason buffer hosted room kind low silent)))
+
+pub answers-granted : AnswersGranted
+answers-granted =
+    record {
+      answers = λ m h buffer e room. answers h buffer (asked-read m h e) room;
+      notice = notice;
+    }

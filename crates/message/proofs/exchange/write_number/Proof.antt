@@ -1,0 +1,35 @@
+-- `message::exchange::write_number` meets its contract: at each `return` the tests before it did not fail. Assumes nothing.
+use Prim.Native.Nat.{_<_, _≤_, _+_}
+use native.Mathlib.Omega.{arith}
+use borrow.Author.Tests.{lt-ltb, le-ltb}
+use borrow.Author.Needs.{needs}
+use Rattle.message.specs.Refusal.{wrongLength}
+use Rattle.message.specs.Outcome.{firstFailing}
+use Rattle.message.specs.Exchange.{writeNumber}
+use Rattle.message.proofs.exchange.write_number.Statement.{statement}
+use Rattle.message.proofs.exchange.write_number.Tie as tie
+
+returns : tie.Need-returns
+unfolding writeNumber firstFailing
+returns c = rw (lt-ltb _ _ (c .if1 .taken))
+
+returns-2 : tie.Need-returns-2
+unfolding writeNumber firstFailing wrongLength
+returns-2 c =
+    let n = c .before .before .before .args .carried in
+    let long : 266 < 10 + n = omega arith in
+    let enough : 10 ≤ 10 + n = omega arith in
+    rw (le-ltb _ _ (c .before .if1 .left), le-ltb _ _ enough, lt-ltb _ _ long)
+
+add-refusal : tie.Need-add-refusal
+add-refusal c = search needs
+
+refusal-requires : tie.Need-refusal-requires
+refusal-requires c κs = search needs
+
+returns-3 : tie.Need-returns-3
+unfolding writeNumber firstFailing
+returns-3 c = rw (le-ltb _ _ (c .before .before .if1 .left)) (c .refusal .ensures)
+
+pub write-number-spec : {M : Type 1} → statement M
+write-number-spec = tie.close (tie.spec returns returns-2 add-refusal refusal-requires returns-3)

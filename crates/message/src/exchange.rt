@@ -1,0 +1,66 @@
+// Writing and reading a message whose form was found: what requests and answers have in common.
+use crate::header::Header;
+use crate::header::fixed_right;
+use crate::header::put_string;
+use crate::outcome::Outcome;
+use crate::outcome::Reading;
+use crate::refusal::refusal;
+use crate::table::Found;
+ghost use mathlib.Core.Path.{_≡_};
+ghost use Prim.Native.Nat.{_≤_};
+ghost use lib.ListN.{length};
+ghost use Rattle.message.specs.Layout.{headerOf};
+ghost use Rattle.message.specs.Exchange.{writeNumber, headAs, writeAs, readAs};
+
+// The number of the first of a writer's tests that fails, or 0, for a string of this length.
+fn write_number(found: Found, h: Header, carried: usize, buffer: &[u8]) -> u8
+    ensures { λ r. ⌜ r ≡ writeNumber found h carried (now (buffer .entry)) ⌝ }
+{
+    if buffer.len() < 266 {
+        return 1;
+    }
+    if 256 < carried {
+        return 3;
+    }
+    refusal(true, found, h, 10 + carried)
+}
+
+// The header of a message whose string, of this length, stands behind the tenth byte already.
+pub fn write_head(found: Found, h: Header, carried: usize, buffer: &mut [u8]) -> Outcome
+    ensures { λ r. ⌜ r ≡ headAs found h carried (now (buffer .entry)) .outcome ⌝ }
+    ensures { λ _. ⌜ now (buffer .exit) ≡ headAs found h carried (now (buffer .entry)) .buffer ⌝ }
+{
+    let number = write_number(found, h, carried, buffer);
+    if number != 0 {
+        return Outcome::Refused(number);
+    }
+    h.put(buffer);
+    Outcome::Granted(10 + carried)
+}
+
+// A message: its header, and its string behind it.
+pub fn write(found: Found, h: Header, string: &[u8], buffer: &mut [u8]) -> Outcome
+    ensures { λ r. ⌜ r ≡ writeAs found h (now (string .entry)) (now (buffer .entry)) .outcome ⌝ }
+    ensures { λ _. ⌜ now (buffer .exit) ≡ writeAs found h (now (string .entry)) (now (buffer .entry)) .buffer ⌝ }
+{
+    let number = write_number(found, h, string.len(), buffer);
+    if number != 0 {
+        return Outcome::Refused(number);
+    }
+    h.put(buffer);
+    put_string(string, buffer);
+    Outcome::Granted(10 + string.len())
+}
+
+// The fields of a message of ten bytes or more, or the number of the first test that fails.
+pub fn read(found: Found, h: Header, message: &[u8]) -> Reading
+    requires { ⌜ 10 ≤ length (now message) ⌝ }
+    requires { ⌜ h ≡ headerOf (now message) ⌝ }
+    ensures { λ r. ⌜ r ≡ readAs found (now (message .entry)) ⌝ }
+{
+    let number = refusal(fixed_right(message), found, h, message.len());
+    if number != 0 {
+        return Reading::Refused(number);
+    }
+    Reading::Message(h)
+}

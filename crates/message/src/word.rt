@@ -1,0 +1,37 @@
+// A 16-bit word as two bytes, and the nine words of a state vector as 18.
+ghost use mathlib.Core.Path.{_≡_};
+ghost use Rattle.lists.specs.Word.{high, low, word, lowFirst};
+
+pub fn high_byte(w: u16) -> u8
+    ensures { λ r. ⌜ r ≡ high w ⌝ }
+{
+    (w / 256) as u8
+}
+
+pub fn low_byte(w: u16) -> u8
+    ensures { λ r. ⌜ r ≡ low w ⌝ }
+{
+    (w % 256) as u8
+}
+
+// The word with this high and this low byte.
+pub fn word_of(high_byte: u8, low_byte: u8) -> u16
+    ensures { λ r. ⌜ r ≡ word «high_byte» «low_byte» ⌝ }
+{
+    high_byte as u16 * 256 + low_byte as u16
+}
+
+// A state vector, each word's low byte first.
+pub fn vector_bytes(vector: [u16; 9]) -> [u8; 18]
+    ensures { λ r. ⌜ r ≡ lowFirst vector ⌝ }
+{
+    let mut bytes = [0u8; 18];
+    let mut i = 0;
+    while i < 9 {
+        let w = vector[i];
+        bytes[2 * i] = low_byte(w);
+        bytes[2 * i + 1] = high_byte(w);
+        i += 1;
+    }
+    bytes
+}
