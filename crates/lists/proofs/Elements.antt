@@ -1,18 +1,39 @@
--- A list by its elements. Assumes nothing.
-use mathlib.Core.Path.{_≡_, refl, ap}
-use mathlib.Core.List.{List, [], _∷_}
-use Prim.Native.Nat.{ℕ, zero, suc, _≤_}
+-- Laws of a list by its elements. Assumes nothing.
+use mathlib.Core.Path.{_≡_, refl, sym, ap, _∙_}
+use mathlib.Core.List.{List, [], _∷_, _++_}
+use Prim.Native.Nat.{ℕ, zero, suc, _+_, _≤_, _<_}
 use native.Mathlib.Nat.{not-suc-le-zero}
+use native.Mathlib.Numerals.{add-one}
 use native.Mathlib.Omega.{arith}
-use lib.ListN.{length, take, getD}
+use lib.ListN.{length, take, getD, set}
+use Rattle.lists.specs.Buffer.{overlay}
+use Rattle.lists.specs.Elements.{elements}
+use Rattle.lists.proofs.Buffer.{overlay-snoc}
 
--- f 0, f 1, .., n of them
-abbrev pub elements : (ℕ → ℕ) → ℕ → List ℕ
-elements f zero = []
-elements f (suc n) = f 0 ∷ elements (λ (i : ℕ). f (suc i)) n
+pub length-elements : (f : ℕ → ℕ) (n : ℕ) → length (elements f n) ≡ n
+length-elements f zero = refl
+length-elements f (suc n) = ap suc (length-elements (λ (i : ℕ). f (suc i)) n)
+
+pub getD-elements : (f : ℕ → ℕ) (n k : ℕ) → k < n → getD (elements f n) k 0 ≡ f k
+getD-elements f zero k h = absurd (not-suc-le-zero h)
+getD-elements f (suc n) zero h = refl
+getD-elements f (suc n) (suc k) h = getD-elements (λ (i : ℕ). f (suc i)) n k (omega arith)
+
+-- one more element
+pub elements-snoc : (f : ℕ → ℕ) (n : ℕ) → elements f (suc n) ≡ elements f n ++ (f n ∷ [])
+elements-snoc f zero = refl
+elements-snoc f (suc n) = ap (λ (r : List ℕ). f 0 ∷ r) (elements-snoc (λ (i : ℕ). f (suc i)) n)
 
 -- the front of a list is written out by its elements
 pub take-elements : (n : ℕ) (xs : List ℕ) → n ≤ length xs → take n xs ≡ elements (λ (i : ℕ). getD xs i 0) n
 take-elements zero xs h = refl
 take-elements (suc n) [] h = absurd (not-suc-le-zero h)
 take-elements (suc n) (x ∷ xs) h = ap (λ (r : List ℕ). x ∷ r) (take-elements n xs (omega arith))
+
+-- a turn of the loop that writes elements one after the other
+pub elements-step : (f : ℕ → ℕ) (buffer : List ℕ) (i : ℕ) → i < length buffer → set (overlay (elements f i) buffer) i (f i) ≡ overlay (elements f (i + 1)) buffer
+elements-step f buffer i h =
+    let at : length (elements f i) ≡ i = length-elements f i in
+    ap (λ (n : ℕ). set (overlay (elements f i) buffer) n (f i)) (sym at)
+    ∙ overlay-snoc (elements f i) buffer (f i) (omega arith)
+    ∙ ap (λ (xs : List ℕ). overlay xs buffer) (sym (elements-snoc f i) ∙ ap (elements f) (sym (add-one i)))

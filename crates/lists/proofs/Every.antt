@@ -1,12 +1,14 @@
 -- What a test of a whole list says of each element. Assumes nothing.
-use mathlib.Core.Path.{_≡_}
-use mathlib.Core.Bool.{Bool, true, false, _&&_, false≢true}
+use mathlib.Core.Path.{_≡_, refl, sym, _∙_}
+use mathlib.Core.Bool.{Bool, true, false, _&&_}
 use mathlib.Core.List.{List, [], _∷_}
-use Prim.Native.Nat.{ℕ, zero, suc, _<_}
-use native.Mathlib.Nat.{not-suc-le-zero}
+use mathlib.Core.Logic.{⊎-elim}
+use Prim.Native.Nat.{ℕ, zero, suc, _+_, _<_}
+use native.Mathlib.Nat.{not-suc-le-zero, le-of-suc-le-suc, eq-or-lt-of-le}
+use native.Mathlib.Numerals.{add-one}
 use native.Mathlib.Omega.{arith}
 use lib.ListN.{length, getD}
-use Rattle.lists.specs.Every.{every}
+use Rattle.lists.specs.Every.{every, below}
 use Rattle.lists.proofs.Bool.{&&-left, &&-right}
 
 -- the rule of a table, from one test that is computed over all of it
@@ -14,3 +16,25 @@ pub every-getD : {A : Type 0} (p : A → Bool) (xs : List A) (d : A) (k : ℕ) �
 every-getD p [] d k e h = absurd (not-suc-le-zero h)
 every-getD p (x ∷ xs) d zero e h = &&-left (p x) (every p xs) e
 every-getD p (x ∷ xs) d (suc k) e h = every-getD p xs d k (&&-right (p x) (every p xs) e) (omega arith)
+
+-- what a test of every number below n says of each of them
+pub below-at : (f : ℕ → Bool) (n k : ℕ) → k < n → below f n ≡ true → f k ≡ true
+below-at f zero k h e = absurd (not-suc-le-zero h)
+below-at f (suc n) k h e =
+    ⊎-elim (λ q. rw q (&&-left (f n) (below f n) e)) (λ l. below-at f n k l (&&-right (f n) (below f n) e)) (eq-or-lt-of-le (le-of-suc-le-suc h))
+
+-- and what says it of all
+pub below-all : (f : ℕ → Bool) (n : ℕ) → ((k : ℕ) → k < n → f k ≡ true) → below f n ≡ true
+below-all f zero h = refl
+below-all f (suc n) h = rw (h n (omega arith)) (below-all f n (λ k l. h k (omega arith)))
+
+-- as a loop makes the test: one more, or one that fails
+pub below-more : (f : ℕ → Bool) (k : ℕ) → below f k ≡ true → f k ≡ true → below f (k + 1) ≡ true
+below-more f k h e = rw (add-one k, e, h)
+
+pub below-fails : (f : ℕ → Bool) (n k : ℕ) → k < n → f k ≡ false → below f n ≡ false
+below-fails f n k h e = go (below f n) refl
+  where
+    go : (t : Bool) → below f n ≡ t → t ≡ false
+    go true q = sym (below-at f n k h q) ∙ e
+    go false q = refl

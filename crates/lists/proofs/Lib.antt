@@ -3,4 +3,5 @@ pub mod Bool
 pub mod Buffer
 pub mod Elements
 pub mod Every
+pub mod First
 pub mod Word

@@ -1,4 +1,6 @@
 -- Definitions on lists that the contracts of every crate above cite.
 pub mod Buffer
+pub mod Elements
 pub mod Every
+pub mod First
 pub mod Word

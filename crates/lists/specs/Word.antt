@@ -1,6 +1,8 @@
 -- A 16-bit word as two bytes.
 use Prim.Native.Nat.{ℕ, _+_, _*_, _/_, _%_}
 use mathlib.Core.List.{List, [], _∷_}
+use lib.ListN.{getD}
+use Rattle.lists.specs.Elements.{elements}
 
 -- the high byte of a word
 abbrev pub high : ℕ → ℕ
@@ -18,3 +20,7 @@ word h l = h * 256 + l
 unfoldable pub lowFirst : List ℕ → List ℕ
 lowFirst [] = []
 lowFirst (w ∷ ws) = low w ∷ high w ∷ lowFirst ws
+
+-- the nine words of 18 bytes, low byte first
+unfoldable pub vectorOf : List ℕ → List ℕ
+vectorOf bytes = elements (λ (i : ℕ). word (getD bytes (2 * i + 1) 0) (getD bytes (2 * i) 0)) 9

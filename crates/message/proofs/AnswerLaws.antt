@@ -20,10 +20,11 @@ use Rattle.message.specs.declared.outcome.Reading.the-variants.{Message}
 use Rattle.message.specs.declared.table.Carried.the-variants.{Nothing, Counted, Vector}
 use Rattle.message.specs.declared.table.Form.{Form}
 use Rattle.message.specs.declared.table.Found.{Found}
-use Rattle.message.specs.declared.table.Found.the-variants.{Known, Unknown}
+use Rattle.message.specs.declared.table.Found.the-variants.{Known}
 use Rattle.message.specs.declared.table.Op.{Op}
+use Rattle.message.specs.declared.table.Row.the-variants.{Listed, Unlisted}
 use Rattle.message.specs.Outcome.{firstFailing}
-use Rattle.message.specs.Table.{bare, stopped, reason as reasoned, row, ops, op, asks, replies, withoutString, requestForm, replyForm, cantForm, noticeForm, answerForm}
+use Rattle.message.specs.Table.{bare, stopped, reason as reasoned, row, ops, op, asks, replies, rowOf, formOf, withoutString, requestForm, replyForm, cantForm, noticeForm, answerForm}
 use Rattle.message.specs.Layout.{headerOf, fixedRight}
 use Rattle.message.specs.Refusal.{usedOrZero, unusedZero, carriedLength, wrongLength, wrongHeader, unknown, malformed, misfits}
 use Rattle.message.specs.Exchange.{writeNumber, answered, readNumber, writes, heads, reads}
@@ -54,15 +55,15 @@ pub record Asked (h : Header) : Type 0 where
   pub unused : unusedZero (asks (op (h .cmd))) h ≡ true
 
 known-form : (cmd : ℕ) → unknown (requestForm cmd) ≡ false → cmd < length ops
-unfolding requestForm
+unfolding requestForm rowOf
 known-form cmd e = go (ltb cmd (length ops)) refl e
   where
-    go : (t : Bool) → ltb cmd (length ops) ≡ t → unknown (cond t (Known (asks (op cmd))) Unknown) ≡ false → cmd < length ops
+    go : (t : Bool) → ltb cmd (length ops) ≡ t → unknown (formOf asks (cond t (Listed (op cmd)) Unlisted)) ≡ false → cmd < length ops
     go true p q = ltb-true cmd (length ops) p
     go false p q = absurd (false≢true (sym q))
 
 requestForm-known : (cmd : ℕ) → cmd < length ops → requestForm cmd ≡ Known (asks (op cmd))
-unfolding requestForm
+unfolding requestForm rowOf
 requestForm-known cmd h = rw (lt-ltb cmd (length ops) h)
 
 asked-passed : (fixed : Bool) (h : Header) (n : ℕ) → Passed fixed (requestForm (h .cmd)) h n → Asked h
@@ -121,7 +122,7 @@ covers-zero f g h c z =
 
 -- the form of the reply to a known request
 answerForm-reply : (cmd : ℕ) → cmd < length ops → answerForm cmd ≡ Known (replies (op cmd))
-unfolding answerForm replyForm
+unfolding answerForm replyForm rowOf
 answerForm-reply cmd h =
     let low : cmd < 64 = omega arith in
     rw (lt-ltb cmd 64 low, lt-ltb cmd (length ops) h)

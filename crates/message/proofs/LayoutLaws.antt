@@ -12,7 +12,7 @@ use Rattle.lists.specs.Buffer.{Bytes}
 use Rattle.lists.specs.Word.{high, low, word}
 use Rattle.lists.proofs.Bool.{&&-left, &&-right}
 use Rattle.lists.proofs.Word.{word-high-low, high-word, low-word}
-use Rattle.lists.proofs.Elements.{elements, take-elements}
+use Rattle.lists.proofs.Elements.{take-elements}
 use Rattle.message.specs.declared.header.Header.{Header}
 use Rattle.message.specs.Layout.{header, written, headerOf, stringOf, fixedRight}
 

@@ -9,6 +9,8 @@ use Rattle.message.specs.declared.table.Carried.{Carried}
 use Rattle.message.specs.declared.table.Carried.the-variants.{Nothing, Counted, Vector}
 use Rattle.message.specs.declared.table.Form.{Form}
 use Rattle.message.specs.declared.table.Op.{Op}
+use Rattle.message.specs.declared.table.Row.{Row}
+use Rattle.message.specs.declared.table.Row.the-variants.{Listed, Unlisted}
 use Rattle.message.specs.declared.table.Found.{Found}
 use Rattle.message.specs.declared.table.Found.the-variants.{Known, Unknown}
 
@@ -80,13 +82,22 @@ notices =
 abbrev pub op : ℕ → Op
 op cmd = getD ops cmd (row bare bare)
 
+-- what the table has for a CMD
+unfoldable pub rowOf : ℕ → Row
+rowOf cmd = cond (ltb cmd (length ops)) (Listed (op cmd)) Unlisted
+
+-- the one form of a row or the other
+abbrev pub formOf : (Op → Form) → Row → Found
+formOf which (Listed o) = Known (which o)
+formOf which Unlisted = Unknown
+
 -- 'CMD not a known op code': the form of a request, if its CMD is one of the table
 unfoldable pub requestForm : ℕ → Found
-requestForm cmd = cond (ltb cmd (length ops)) (Known (asks (op cmd))) Unknown
+requestForm cmd = formOf asks (rowOf cmd)
 
 -- the form of the reply that grants a request
 unfoldable pub replyForm : ℕ → Found
-replyForm cmd = cond (ltb cmd (length ops)) (Known (replies (op cmd))) Unknown
+replyForm cmd = formOf replies (rowOf cmd)
 
 -- the same fields with no string
 abbrev pub withoutString : Form → Form

@@ -6,7 +6,7 @@ use crate::header::Header;
 use crate::outcome::Outcome;
 use crate::outcome::Reading;
 use crate::table::answer_form;
-use crate::word::vector_bytes;
+use words::vector_bytes;
 ghost use mathlib.Core.Path.{_≡_};
 ghost use mathlib.Core.List.{[]};
 ghost use Rattle.lists.specs.Word.{lowFirst};

@@ -1,7 +1,7 @@
 // The ten bytes that every message starts with, and the string behind them.
-use crate::word::high_byte;
-use crate::word::low_byte;
-use crate::word::word_of;
+use words::high_byte;
+use words::low_byte;
+use words::word_of;
 ghost use mathlib.Core.Path.{_≡_};
 ghost use Prim.Native.Nat.{_+_, _≤_};
 ghost use lib.ListN.{length};

@@ -37,7 +37,6 @@ mod refusal;
 mod request;
 mod table;
 pub mod theorems;
-mod word;
 
 pub use answer::read_answer;
 pub use answer::write_cant;

@@ -1,6 +1,6 @@
 // The table of op codes: which fields each message uses, and what string it carries. Nothing else knows which op uses what.
 ghost use mathlib.Core.Path.{_≡_};
-ghost use Rattle.message.specs.Table.{requestForm, answerForm, replyForm, noticeForm, cantForm, withoutString};
+ghost use Rattle.message.specs.Table.{rowOf, requestForm, answerForm, replyForm, noticeForm, cantForm, withoutString};
 
 // What stands behind the ten bytes of the header.
 pub enum Carried {
@@ -22,6 +22,12 @@ pub struct Form {
 
 // One op code: the form of its request, and the form of the reply that grants it.
 pub struct Op(pub Form, pub Form);
+
+// What the table has for a CMD.
+pub enum Row {
+    Listed(Op),
+    Unlisted,
+}
 
 // The form that belongs to a CMD.
 pub enum Found {
@@ -118,17 +124,30 @@ impl Form {
     }
 }
 
-// The form of a request with this CMD.
-pub fn request_form(cmd: u8) -> Found
-    ensures { λ r. ⌜ r ≡ requestForm cmd ⌝ }
+// The row of an op code.
+fn row_of(cmd: u8) -> Row
+    ensures { λ r. ⌜ r ≡ rowOf cmd ⌝ }
 {
     let i = cmd as usize;
     if i < OPS.len() {
         let op = OPS[i];
-        let form = op.0;
-        Found::Known(form)
+        Row::Listed(op)
     } else {
-        Found::Unknown
+        Row::Unlisted
+    }
+}
+
+// The form of a request with this CMD.
+pub fn request_form(cmd: u8) -> Found
+    ensures { λ r. ⌜ r ≡ requestForm cmd ⌝ }
+{
+    let found = row_of(cmd);
+    match found {
+        Row::Listed(op) => {
+            let form = op.0;
+            Found::Known(form)
+        }
+        Row::Unlisted => Found::Unknown,
     }
 }
 
@@ -136,13 +155,13 @@ pub fn request_form(cmd: u8) -> Found
 fn reply_form(cmd: u8) -> Found
     ensures { λ r. ⌜ r ≡ replyForm cmd ⌝ }
 {
-    let i = cmd as usize;
-    if i < OPS.len() {
-        let op = OPS[i];
-        let form = op.1;
-        Found::Known(form)
-    } else {
-        Found::Unknown
+    let found = row_of(cmd);
+    match found {
+        Row::Listed(op) => {
+            let form = op.1;
+            Found::Known(form)
+        }
+        Row::Unlisted => Found::Unknown,
     }
 }
 

@@ -1,23 +1,27 @@
--- `message::table::reply_form` meets its contract: the code's table and the definition's are one list. Assumes nothing.
+-- `message::table::reply_form` meets its contract: the second form of the row, if there is one. Assumes nothing.
 use borrow.Author.Needs.{needs}
-use borrow.Author.Tests.{lt-ltb, le-ltb}
 use Rattle.message.specs.Table.{replyForm}
 use Rattle.message.proofs.table.reply_form.Statement.{statement}
 use Rattle.message.proofs.table.reply_form.Tie as tie
 
-mul-op : tie.Need-mul-op
-mul-op c = search needs
+row-of-requires : tie.Need-row-of-requires
+row-of-requires c κs = search needs
 
-array-copy-out-op : tie.Need-array-copy-out-op
-array-copy-out-op c = search needs
+enum-known-found : tie.Need-enum-known-found
+enum-known-found c = search needs
+
+enum-told : tie.Need-enum-told
+enum-told c = search needs
 
 returns : tie.Need-returns
 unfolding replyForm
-returns c = rw (lt-ltb _ _ (c .before .before .if1 .taken))
+returns c =
+    let f = c .before .before in
+    rw (← f .before .before .row-of .ensures, f .found .given .1)
 
 returns-2 : tie.Need-returns-2
 unfolding replyForm
-returns-2 c = rw (le-ltb _ _ (c .if1 .left))
+returns-2 c = rw (← c .before .before .row-of .ensures, c .enum-told .given .1)
 
 pub reply-form-spec : {M : Type 1} → statement M
-reply-form-spec = tie.close (tie.spec mul-op array-copy-out-op returns returns-2)
+reply-form-spec = tie.close (tie.spec row-of-requires enum-known-found enum-told returns returns-2)

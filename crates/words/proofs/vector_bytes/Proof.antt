@@ -1,4 +1,4 @@
--- `message::word::vector_bytes` meets its contract. The loop's invariant: the bytes of the words passed lie over the array's start. Assumes nothing.
+-- `words::vector_bytes` meets its contract. The loop's invariant: the bytes of the words passed lie over the array's start. Assumes nothing.
 use mathlib.Core.Path.{_≡_, refl, ap, _∙_}
 use Prim.Native.Nat.{ℕ, _≤_, _-_, _*_}
 use native.Mathlib.Omega.{arith}
@@ -9,8 +9,8 @@ use Rattle.lists.specs.Word.{lowFirst}
 use Rattle.lists.specs.Buffer.{overlay}
 use Rattle.lists.proofs.Word.{lowFirst-step, length-lowFirst}
 use Rattle.lists.proofs.Buffer.{overlay-all}
-use Rattle.message.proofs.word.vector_bytes.Statement.{statement}
-use Rattle.message.proofs.word.vector_bytes.Tie as tie
+use Rattle.words.proofs.vector_bytes.Statement.{statement}
+use Rattle.words.proofs.vector_bytes.Tie as tie
 
 abbrev Inv-loop : tie.InvT-loop
 Inv-loop vector bytes₀ i₀ bytes i =

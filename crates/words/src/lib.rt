@@ -1,6 +1,6 @@
-// A 16-bit word as two bytes, and the nine words of a state vector as 18.
+// 16-bit words as bytes, and the nine words of a state vector as 18 bytes, low byte first.
 ghost use mathlib.Core.Path.{_≡_};
-ghost use Rattle.lists.specs.Word.{high, low, word, lowFirst};
+ghost use Rattle.lists.specs.Word.{high, low, word, lowFirst, vectorOf};
 
 pub fn high_byte(w: u16) -> u8
     ensures { λ r. ⌜ r ≡ high w ⌝ }
@@ -21,7 +21,7 @@ pub fn word_of(high_byte: u8, low_byte: u8) -> u16
     high_byte as u16 * 256 + low_byte as u16
 }
 
-// A state vector, each word's low byte first.
+// The bytes of a state vector.
 pub fn vector_bytes(vector: [u16; 9]) -> [u8; 18]
     ensures { λ r. ⌜ r ≡ lowFirst vector ⌝ }
 {
@@ -34,4 +34,17 @@ pub fn vector_bytes(vector: [u16; 9]) -> [u8; 18]
         i += 1;
     }
     bytes
+}
+
+// The state vector of these bytes.
+pub fn vector_of(bytes: [u8; 18]) -> [u16; 9]
+    ensures { λ r. ⌜ r ≡ vectorOf bytes ⌝ }
+{
+    let mut vector = [0u16; 9];
+    let mut i = 0;
+    while i < 9 {
+        vector[i] = word_of(bytes[2 * i + 1], bytes[2 * i]);
+        i += 1;
+    }
+    vector
 }

@@ -1,0 +1,65 @@
+-- Laws of the search among the entries of a process. Assumes nothing.
+use mathlib.Core.Path.{_≡_, refl, sym, ap, _∙_}
+use mathlib.Core.Bool.{Bool, true, false, not, _&&_, true≢false}
+use Prim.Native.Nat.{ℕ, _≤_, _<_}
+use native.Mathlib.Omega.{arith}
+use borrow.Author.Tests.{eqb-true, eq-eqb, not-true}
+use lib.ListN.{length, getD}
+use lib.Dec.{eqb}
+use Rattle.lists.specs.First.{first}
+use Rattle.lists.proofs.Bool.{&&-left, &&-right, &&-both}
+use Rattle.lists.proofs.First.{first-≤, first-before, first-passes, first-is}
+use Rattle.process.specs.declared.record.Breakpoint.{Breakpoint}
+use Rattle.process.specs.declared.record.Process.{Process}
+use Rattle.process.specs.declared.find.Want.{Want}
+use Rattle.process.specs.declared.find.Want.the-variants.{Free, Lifted, At}
+use Rattle.process.specs.Record.{free, entry}
+use Rattle.process.specs.Find.{matches, find}
+
+-- ---- what an entry that matches is
+
+pub matches-free : (b : Breakpoint) → matches Free b ≡ true → b .used ≡ false
+unfolding matches
+matches-free b e = not-true (b .used) e
+
+pub matches-lifted : (b : Breakpoint) → matches Lifted b ≡ true → (b .used ≡ true) × (b .lifted ≡ true)
+unfolding matches
+matches-lifted b e = (&&-left (b .used) (b .lifted) e, &&-right (b .used) (b .lifted) e)
+
+pub matches-at : (a : ℕ) (b : Breakpoint) → matches (At a) b ≡ true → (b .used ≡ true) × (b .address ≡ a)
+unfolding matches
+matches-at a b e =
+    (&&-left (b .used) (eqb (b .address) a) e, eqb-true (b .address) a (&&-right (b .used) (eqb (b .address) a) e))
+
+-- ---- and what is one
+
+pub lifted-matches : (b : Breakpoint) → b .used ≡ true → b .lifted ≡ true → matches Lifted b ≡ true
+unfolding matches
+lifted-matches b u l = &&-both (b .used) (b .lifted) u l
+
+pub at-matches : (a : ℕ) (b : Breakpoint) → b .used ≡ true → b .address ≡ a → matches (At a) b ≡ true
+unfolding matches
+at-matches a b u e = &&-both (b .used) (eqb (b .address) a) u (eq-eqb (b .address) a e)
+
+-- ---- the search
+
+module _ (want : Want) (p : Process) where
+  -- no entry before the one found matches
+  pub find-before : (j : ℕ) → j < find want p → matches want (entry p j) ≡ true → ⊥
+  unfolding find
+  find-before j h e = true≢false (sym e ∙ first-before (matches want) (p .breaks) free j h)
+
+  module _ (eight : length (p .breaks) ≡ 8) where
+    pub find-≤ : find want p ≤ 8
+    unfolding find
+    find-≤ = rw eight at (first-≤ (matches want) (p .breaks))
+
+    -- the one found matches
+    pub find-matches : find want p < 8 → matches want (entry p (find want p)) ≡ true
+    unfolding find
+    find-matches h = first-passes (matches want) (p .breaks) free (omega arith)
+
+    -- the one that matches with none before it is found
+    pub find-is : (k : ℕ) → k < 8 → matches want (entry p k) ≡ true → ((j : ℕ) → j < k → matches want (entry p j) ≡ false) → find want p ≡ k
+    unfolding find
+    find-is k h e none = first-is (matches want) (p .breaks) free k (omega arith) e none

@@ -1,0 +1,149 @@
+-- The test of soundness passes exactly the sound records. The test asks that each entry in use is the first at its address and,
+-- if lifted, the first that is lifted; the rule speaks of any two. Assumes nothing.
+use mathlib.Core.Path.{_≡_, refl, sym, _∙_}
+use mathlib.Core.Bool.{Bool, true, false, not, _&&_, _||_, true≢false}
+use Prim.Native.Nat.{ℕ, _≤_, _<_, _%_}
+use native.Mathlib.Omega.{arith}
+use borrow.Author.Tests.{eqb-true, eqb-false, leb-true, eq-eqb, ne-eqb, le-leb, not-true}
+use lib.ListN.{length}
+use lib.Dec.{eqb, leb}
+use Rattle.lists.specs.Every.{below}
+use Rattle.lists.proofs.Bool.{&&-left, &&-right, &&-both}
+use Rattle.lists.proofs.Every.{below-at, below-all}
+use Rattle.process.specs.declared.record.Process.{Process}
+use Rattle.process.specs.declared.find.Want.{Want}
+use Rattle.process.specs.declared.find.Want.the-variants.{Lifted, At}
+use Rattle.process.specs.Record.{entry}
+use Rattle.process.specs.Find.{matches, find}
+use Rattle.process.specs.Sound.{Sound, NoBreakpoints, moving, placed, hosted, liftSound, usedSound, entrySound, soundTest}
+use Rattle.process.specs.Theorems.{TestIsSound}
+use Rattle.process.proofs.FindLaws.{lifted-matches, at-matches, find-before, find-is}
+
+-- ---- from the test to the rule
+
+module _ (p : Process) (s : soundTest p ≡ true) where
+  module _ (k : ℕ) (h : k < 8) (u : entry p k .used ≡ true) where
+    kept : usedSound p k ≡ true
+    unfolding soundTest entrySound
+    kept = rw u at (below-at (entrySound p) 8 k h (&&-right (hosted p) (below (entrySound p) 8) s))
+
+    there-is-host : p .host ≡ 0 → ⊥
+    unfolding usedSound
+    there-is-host = eqb-false (p .host) 0 (not-true (eqb (p .host) 0) (&&-left (not (eqb (p .host) 0)) _ kept))
+
+    rest : placed (entry p k .address) && (eqb (find (At (entry p k .address)) p) k && liftSound p k) ≡ true
+    unfolding usedSound
+    rest = &&-right (not (eqb (p .host) 0)) _ kept
+
+    even : entry p k .address % 2 ≡ 0
+    unfolding placed
+    even = eqb-true _ _ (&&-left (eqb (entry p k .address % 2) 0) _ (&&-left (placed (entry p k .address)) _ rest))
+
+    within : entry p k .address ≤ 4094
+    unfolding placed
+    within = leb-true _ _ (&&-right (eqb (entry p k .address % 2) 0) _ (&&-left (placed (entry p k .address)) _ rest))
+
+    firsts : eqb (find (At (entry p k .address)) p) k && liftSound p k ≡ true
+    firsts = &&-right (placed (entry p k .address)) _ rest
+
+    first-there : find (At (entry p k .address)) p ≡ k
+    first-there = eqb-true _ _ (&&-left (eqb (find (At (entry p k .address)) p) k) _ firsts)
+
+    module _ (l : entry p k .lifted ≡ true) where
+      lift : moving (p .run) && eqb (find Lifted p) k ≡ true
+      unfolding liftSound
+      lift = rw l at (&&-right (eqb (find (At (entry p k .address)) p) k) _ firsts)
+
+      moves : moving (p .run) ≡ true
+      moves = &&-left (moving (p .run)) _ lift
+
+      first-lifted : find Lifted p ≡ k
+      first-lifted = eqb-true _ _ (&&-right (moving (p .run)) _ lift)
+
+  unused : p .host ≡ 0 → NoBreakpoints p
+  unused e k h = go (entry p k .used) refl
+    where
+      go : (t : Bool) → entry p k .used ≡ t → t ≡ false
+      go true u = absurd (there-is-host k h u e)
+      go false u = refl
+
+  absent : p .there ≡ false → p .host ≡ 0
+  unfolding soundTest hosted
+  absent e = eqb-true _ _ (rw e at (&&-left (hosted p) _ s))
+
+  passes-sound : Sound p
+  passes-sound = record {
+    absent = λ e. (absent e, unused (absent e));
+    unhosted = unused;
+    different = λ j k l h v u e. find-before (At (entry p k .address)) p j (rw (first-there k h u) l) (at-matches (entry p k .address) (entry p j) v e);
+    even = even;
+    within = within;
+    one-lifted = λ j k l h v u a b. find-before Lifted p j (rw (first-lifted k h u b) l) (lifted-matches (entry p j) v a);
+    moves = moves;
+  }
+
+-- ---- from the rule to the test
+
+module _ (p : Process) (eight : length (p .breaks) ≡ 8) (s : Sound p) where
+  -- no earlier entry has the address
+  none-there : (k : ℕ) → k < 8 → entry p k .used ≡ true → (j : ℕ) → j < k → matches (At (entry p k .address)) (entry p j) ≡ false
+  unfolding matches
+  none-there k h u j l = go (entry p j .used) refl
+    where
+      go : (t : Bool) → entry p j .used ≡ t → t && eqb (entry p j .address) (entry p k .address) ≡ false
+      go true v = ne-eqb _ _ (s .different j k l h v u)
+      go false v = refl
+
+  -- and none is lifted before one that is
+  none-lifted : (k : ℕ) → k < 8 → entry p k .used ≡ true → entry p k .lifted ≡ true → (j : ℕ) → j < k → matches Lifted (entry p j) ≡ false
+  unfolding matches
+  none-lifted k h u m j l = go (entry p j .used) refl (entry p j .lifted) refl
+    where
+      go : (t : Bool) → entry p j .used ≡ t → (v : Bool) → entry p j .lifted ≡ v → t && v ≡ false
+      go true e true f = absurd (s .one-lifted j k l h e u f m)
+      go true e false f = refl
+      go false e v f = refl
+
+  module _ (k : ℕ) (h : k < 8) (u : entry p k .used ≡ true) where
+    lift-sound : liftSound p k ≡ true
+    unfolding liftSound
+    lift-sound = go (entry p k .lifted) refl
+      where
+        go : (t : Bool) → entry p k .lifted ≡ t → not t || (moving (p .run) && eqb (find Lifted p) k) ≡ true
+        go true e =
+            &&-both (moving (p .run)) (eqb (find Lifted p) k) (s .moves k h u e)
+            (eq-eqb _ _ (find-is Lifted p eight k h (lifted-matches (entry p k) u e) (none-lifted k h u e)))
+        go false e = refl
+
+    host-there : p .host ≡ 0 → ⊥
+    host-there e = true≢false (sym u ∙ s .unhosted e k h)
+
+    used-sound : usedSound p k ≡ true
+    unfolding usedSound placed
+    used-sound =
+        rw (
+          ne-eqb _ _ host-there,
+          eq-eqb _ _ (s .even k h u),
+          le-leb _ _ (s .within k h u),
+          eq-eqb _ _ (find-is (At (entry p k .address)) p eight k h (at-matches _ (entry p k) u refl) (none-there k h u)),
+        )
+        lift-sound
+
+  entry-sound : (k : ℕ) → k < 8 → entrySound p k ≡ true
+  unfolding entrySound
+  entry-sound k h = go (entry p k .used) refl
+    where
+      go : (t : Bool) → entry p k .used ≡ t → not t || usedSound p k ≡ true
+      go true u = used-sound k h u
+      go false u = refl
+
+  sound-passes : soundTest p ≡ true
+  unfolding soundTest hosted
+  sound-passes = rw (below-all (entrySound p) 8 entry-sound) (go (p .there) refl)
+    where
+      go : (t : Bool) → p .there ≡ t → (t || eqb (p .host) 0) && true ≡ true
+      go true e = refl
+      go false e = rw (eq-eqb _ _ (s .absent e .0))
+
+pub test-is-sound : TestIsSound
+test-is-sound = record { passes-sound = passes-sound; sound-passes = sound-passes }

@@ -1,0 +1,77 @@
+-- `process::record::Process::sound` meets its contract. The loop's invariant: every entry passed keeps the rules. Assumes nothing.
+use mathlib.Core.Bool.{true}
+use mathlib.Core.Path.{_≡_, refl, sym, _∙_}
+use Prim.Native.Nat.{_≤_, _-_}
+use native.Mathlib.Omega.{arith}
+use borrow.Author.Tests.{not-true, not-false}
+use borrow.Author.Needs.{needs}
+use Rattle.process.specs.Sound.{hosted, entrySound, soundTest}
+use Rattle.lists.specs.Every.{below}
+use Rattle.lists.proofs.Every.{below-more, below-fails}
+use Rattle.process.proofs.record.Process.sound.Statement.{statement}
+use Rattle.process.proofs.record.Process.sound.Tie as tie
+
+abbrev Inv-loop : tie.InvT-loop
+Inv-loop self k₀ k = (k ≤ 8) × (hosted self ≡ true) × (below (entrySound self) k ≡ true)
+
+abbrev μ-loop : tie.MeasureT-loop
+μ-loop self k₀ k = 8 - k
+
+hosted-requires : tie.Need-hosted-requires Inv-loop μ-loop
+hosted-requires c κs = search needs
+
+returns : tie.Need-returns Inv-loop μ-loop
+unfolding soundTest
+returns c = rw (← c .before .hosted .ensures, not-true (c .before .hosted .result) (c .if1 .taken))
+
+loop-holds : tie.Need-loop-holds Inv-loop μ-loop
+loop-holds c = (omega arith, sym (c .before .hosted .ensures) ∙ not-false (c .before .hosted .result) (c .if1 .left), refl)
+
+entry-sound-requires : tie.Need-entry-sound-requires Inv-loop μ-loop
+entry-sound-requires c κs = search needs
+
+returns-2 : tie.Need-returns-2 Inv-loop μ-loop
+unfolding soundTest
+returns-2 c =
+    let e = c .before in
+    let l = e .before .before in
+    let p = l .before .before .before .args .self in
+    let fails = sym (e .entry-sound .ensures) ∙ not-true (e .entry-sound .result) (c .if2 .taken) in
+    rw (l .loop .inv .1, below-fails (entrySound p) 8 (l .loop .k) (e .before .loop-test .taken) fails)
+
+add-k : tie.Need-add-k Inv-loop μ-loop
+add-k c = omega arith
+
+loop-less : tie.Need-loop-less Inv-loop μ-loop
+loop-less c = omega arith
+
+loop-again : tie.Need-loop-again Inv-loop μ-loop
+loop-again c =
+    let e = c .before in
+    let l = e .before .before in
+    let p = l .before .before .before .args .self in
+    let holds = sym (e .entry-sound .ensures) ∙ not-false (e .entry-sound .result) (c .if2 .left) in
+    (omega arith, l .loop .inv .1, below-more (entrySound p) (l .loop .k) (l .loop .inv .2) holds)
+
+returns-3 : tie.Need-returns-3 Inv-loop μ-loop
+unfolding soundTest
+returns-3 c =
+    let l = c .before in
+    let end : l .loop .k ≡ 8 = omega arith in
+    rw (l .loop .inv .1, rw end at (l .loop .inv .2))
+
+pub sound-spec : {M : Type 1} → statement M
+sound-spec =
+    tie.close
+    (tie.spec
+    Inv-loop
+    μ-loop
+    hosted-requires
+    returns
+    loop-holds
+    entry-sound-requires
+    returns-2
+    add-k
+    loop-less
+    loop-again
+    returns-3)

@@ -1,0 +1,10 @@
+// The record of one process: what is known of it, its breakpoints, and whether it is sound.
+mod find;
+mod record;
+mod sound;
+pub mod theorems;
+
+pub use find::Want;
+pub use record::Breakpoint;
+pub use record::Process;
+pub use record::Run;

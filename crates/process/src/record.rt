@@ -1,0 +1,149 @@
+// The process record. Whatever makes a record or writes one anew stands in this file, so that a new field changes it alone.
+ghost use mathlib.Core.Path.{_≡_};
+ghost use Prim.Native.Nat.{_<_};
+ghost use Rattle.process.specs.Record.{free, planted, withCount, withSaved, withLifted, fresh, withRun, withHost, withVector, withEntry, withBreaks, noBreaks};
+
+// What a process is doing.
+pub enum Run {
+    Running,
+    Stepping,
+    Stopped,
+    AtBreak,
+    Ended,
+}
+
+// One of the eight entries of a process. A planted breakpoint, that is one in use and not lifted, has 3, 0 stored at its
+// address and the word that was there saved; a lifted one has its word back in memory until the process next stops.
+pub struct Breakpoint {
+    pub used: bool,
+    pub lifted: bool,
+    pub address: u16,
+    pub count: u16,
+    pub low: u8,
+    pub high: u8,
+}
+
+// What is known of a process. Host 0 means nobody; the vector is R0 to R5, SP, PC, PS.
+pub struct Process {
+    pub there: bool,
+    pub host: u8,
+    pub run: Run,
+    pub vector: [u16; 9],
+    pub breaks: [Breakpoint; 8],
+}
+
+impl Breakpoint {
+    // An entry that is not in use.
+    pub fn free() -> Self
+        ensures { λ r. ⌜ r ≡ free ⌝ }
+    {
+        Breakpoint {
+            used: false,
+            lifted: false,
+            address: 0,
+            count: 0,
+            low: 0,
+            high: 0,
+        }
+    }
+
+    // A planted breakpoint with this saved word.
+    pub fn planted(address: u16, count: u16, low: u8, high: u8) -> Self
+        ensures { λ r. ⌜ r ≡ planted address count low high ⌝ }
+    {
+        Breakpoint {
+            used: true,
+            lifted: false,
+            address: address,
+            count: count,
+            low: low,
+            high: high,
+        }
+    }
+
+    pub fn with_count(mut self, count: u16) -> Self
+        ensures { λ r. ⌜ r ≡ withCount count self ⌝ }
+    {
+        self.count = count;
+        self
+    }
+
+    pub fn with_saved(mut self, low: u8, high: u8) -> Self
+        ensures { λ r. ⌜ r ≡ withSaved low high self ⌝ }
+    {
+        self.low = low;
+        self.high = high;
+        self
+    }
+
+    pub fn with_lifted(mut self) -> Self
+        ensures { λ r. ⌜ r ≡ withLifted self ⌝ }
+    {
+        self.lifted = true;
+        self
+    }
+}
+
+impl Process {
+    // A record with a zero vector and no breakpoints.
+    pub fn fresh(there: bool, host: u8, run: Run) -> Self
+        ensures { λ r. ⌜ r ≡ fresh there host run ⌝ }
+    {
+        let none = Breakpoint::free();
+        let vector = [0u16; 9];
+        let breaks = [none; 8];
+        Process {
+            there: there,
+            host: host,
+            run: run,
+            vector: vector,
+            breaks: breaks,
+        }
+    }
+
+    pub fn with_host(mut self, host: u8) -> Self
+        ensures { λ r. ⌜ r ≡ withHost host self ⌝ }
+    {
+        self.host = host;
+        self
+    }
+
+    pub fn with_run(self, run: Run) -> Self
+        ensures { λ r. ⌜ r ≡ withRun run self ⌝ }
+    {
+        let vector = self.vector;
+        let breaks = self.breaks;
+        Process {
+            there: self.there,
+            host: self.host,
+            run: run,
+            vector: vector,
+            breaks: breaks,
+        }
+    }
+
+    pub fn with_vector(mut self, vector: [u16; 9]) -> Self
+        ensures { λ r. ⌜ r ≡ withVector vector self ⌝ }
+    {
+        self.vector = vector;
+        self
+    }
+
+    // With another breakpoint in entry k.
+    pub fn with_entry(mut self, k: usize, b: Breakpoint) -> Self
+        requires { ⌜ k < 8 ⌝ }
+        ensures { λ r. ⌜ r ≡ withEntry k b self ⌝ }
+    {
+        self.breaks[k] = b;
+        self
+    }
+
+    pub fn without_breaks(mut self) -> Self
+        ensures { λ r. ⌜ r ≡ withBreaks noBreaks self ⌝ }
+    {
+        let none = Breakpoint::free();
+        let breaks = [none; 8];
+        self.breaks = breaks;
+        self
+    }
+}

@@ -1,0 +1,95 @@
+// Whether a process record is sound.
+use crate::find::Want;
+use crate::record::Breakpoint;
+use crate::record::Process;
+use crate::record::Run;
+ghost use mathlib.Core.Path.{_≡_};
+ghost use Prim.Native.Nat.{_<_};
+ghost use Rattle.process.specs.Sound.{moving, placed, hosted, liftSound, entrySound, soundTest};
+
+impl Run {
+    // Running or stepping.
+    pub fn moving(self) -> bool
+        ensures { λ r. ⌜ r ≡ moving self ⌝ }
+    {
+        match self {
+            Run::Running => true,
+            Run::Stepping => true,
+            Run::Stopped => false,
+            Run::AtBreak => false,
+            Run::Ended => false,
+        }
+    }
+}
+
+impl Breakpoint {
+    // At an even address, at most 4,094.
+    pub fn placed(self) -> bool
+        ensures { λ r. ⌜ r ≡ placed (self .address) ⌝ }
+    {
+        let a = self.address;
+        if a % 2 == 0 { a <= 4094 } else { false }
+    }
+}
+
+impl Process {
+    // An absent process has no host.
+    fn hosted(self) -> bool
+        ensures { λ r. ⌜ r ≡ hosted self ⌝ }
+    {
+        if self.there { true } else { self.host == 0 }
+    }
+
+    // Entry k is not lifted, or the process moves and no earlier entry is lifted.
+    fn lift_sound(self, k: usize) -> bool
+        requires { ⌜ k < 8 ⌝ }
+        ensures { λ r. ⌜ r ≡ liftSound self k ⌝ }
+    {
+        let b = self.breaks[k];
+        if !b.lifted {
+            return true;
+        }
+        let run = self.run;
+        if run.moving() {
+            return self.find(Want::Lifted) == k;
+        }
+        false
+    }
+
+    // Entry k is free, or keeps the rules.
+    fn entry_sound(self, k: usize) -> bool
+        requires { ⌜ k < 8 ⌝ }
+        ensures { λ r. ⌜ r ≡ entrySound self k ⌝ }
+    {
+        let b = self.breaks[k];
+        if !b.used {
+            return true;
+        }
+        if self.host == 0 {
+            return false;
+        }
+        if !b.placed() {
+            return false;
+        }
+        if self.find(Want::At(b.address)) != k {
+            return false;
+        }
+        self.lift_sound(k)
+    }
+
+    pub fn sound(self) -> bool
+        ensures { λ r. ⌜ r ≡ soundTest self ⌝ }
+    {
+        if !self.hosted() {
+            return false;
+        }
+        let mut k = 0;
+        while k < 8 {
+            if !self.entry_sound(k) {
+                return false;
+            }
+            k += 1;
+        }
+        true
+    }
+}
