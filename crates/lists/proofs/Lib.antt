@@ -4,4 +4,5 @@ pub mod Buffer
 pub mod Elements
 pub mod Every
 pub mod First
+pub mod MapStep
 pub mod Word

@@ -1,3 +1,7 @@
 -- Laws that several proofs of this crate, and of the crates above, cite.
 pub mod FindLaws
 pub mod SoundTestLaws
+pub mod SeenLaws
+pub mod SoundLaws
+pub mod DepositLaws
+pub mod TestedLaws

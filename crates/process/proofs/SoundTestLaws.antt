@@ -71,7 +71,7 @@ module _ (p : Process) (s : soundTest p ≡ true) where
   unfolding soundTest hosted
   absent e = eqb-true _ _ (rw e at (&&-left (hosted p) _ s))
 
-  passes-sound : Sound p
+  pub passes-sound : Sound p
   passes-sound = record {
     absent = λ e. (absent e, unused (absent e));
     unhosted = unused;
@@ -137,7 +137,7 @@ module _ (p : Process) (eight : length (p .breaks) ≡ 8) (s : Sound p) where
       go true u = used-sound k h u
       go false u = refl
 
-  sound-passes : soundTest p ≡ true
+  pub sound-passes : soundTest p ≡ true
   unfolding soundTest hosted
   sound-passes = rw (below-all (entrySound p) 8 entry-sound) (go (p .there) refl)
     where

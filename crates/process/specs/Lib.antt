@@ -2,4 +2,9 @@
 pub mod Record
 pub mod Find
 pub mod Sound
+pub mod Seen
+pub mod Local
+pub mod Planting
+pub mod Request
+pub mod Report
 pub mod Theorems

@@ -1,5 +1,7 @@
 // The record of one process: what is known of it, its breakpoints, and whether it is sound.
 mod find;
+mod memory;
+mod planting;
 mod record;
 mod sound;
 pub mod theorems;

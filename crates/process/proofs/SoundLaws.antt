@@ -1,0 +1,195 @@
+-- What keeps a record sound. Assumes nothing.
+use mathlib.Core.Path.{_≡_, refl, sym, ap, _∙_}
+use mathlib.Core.Bool.{Bool, true, false, true≢false}
+use mathlib.Core.List.{List}
+use Prim.Native.Nat.{ℕ, _≤_, _<_, _%_}
+use native.Mathlib.Nat.{lt-irrefl}
+use native.Mathlib.Omega.{arith}
+use borrow.Author.Tests.{eqb-true, eqb-false, ltb-true, ltb-false}
+use lib.ListN.{length, getD, set, length-set, getD-replicate}
+use lib.Seq.{getD-set-same, getD-set-other}
+use lib.Dec.{eqb, ltb}
+use Rattle.process.specs.declared.record.Run.{Run}
+use Rattle.process.specs.declared.record.Breakpoint.{Breakpoint}
+use Rattle.process.specs.declared.record.Process.{Process}
+use Rattle.process.specs.Record.{free, noBreaks, fresh, entry, withHost, withRun, withVector, withBreaks, withEntry}
+use Rattle.process.specs.Sound.{Sound, NoBreakpoints, moving}
+
+-- ---- fields other than the entries
+
+pub sound-vector : (v : List ℕ) (p : Process) → Sound p → Sound (withVector v p)
+sound-vector v p s = record {
+  absent = s .absent;
+  unhosted = s .unhosted;
+  different = s .different;
+  even = s .even;
+  within = s .within;
+  one-lifted = s .one-lifted;
+  moves = s .moves;
+}
+
+-- a run state in which what is lifted may be
+pub sound-run : (r : Run) (p : Process) → ((k : ℕ) → k < 8 → entry p k .used ≡ true → entry p k .lifted ≡ true → moving r ≡ true) → Sound p → Sound (withRun r p)
+sound-run r p m s = record {
+  absent = s .absent;
+  unhosted = s .unhosted;
+  different = s .different;
+  even = s .even;
+  within = s .within;
+  one-lifted = s .one-lifted;
+  moves = m;
+}
+
+-- a host for a process that is there
+pub sound-host : (h : ℕ) (p : Process) → p .there ≡ true → (h ≡ 0 → ⊥) → Sound p → Sound (withHost h p)
+sound-host h p t n s = record {
+  absent = λ e. absurd (true≢false (sym t ∙ e));
+  unhosted = λ e. absurd (n e);
+  different = s .different;
+  even = s .even;
+  within = s .within;
+  one-lifted = s .one-lifted;
+  moves = s .moves;
+}
+
+-- ---- no breakpoints at all
+
+no-entry : (k : ℕ) → k < 8 → getD noBreaks k free .used ≡ false
+no-entry k h = ap (λ (b : Breakpoint). b .used) (getD-replicate 8 k free free h)
+
+-- a record with free entries is sound, if an absent one has no host
+pub sound-free : (p : Process) → p .breaks ≡ noBreaks → (p .there ≡ false → p .host ≡ 0) → Sound p
+sound-free p e a =
+    let none : NoBreakpoints p = λ k h. rw e (no-entry k h) in
+    let never : (k : ℕ) → k < 8 → entry p k .used ≡ true → ⊥ = λ k h u. true≢false (sym u ∙ none k h) in
+    record {
+      absent = λ t. (a t, none);
+      unhosted = λ z. none;
+      different = λ j k l h v u q. never k h u;
+      even = λ k h u. absurd (never k h u);
+      within = λ k h u. absurd (never k h u);
+      one-lifted = λ j k l h v u x y. never k h u;
+      moves = λ k h u x. absurd (never k h u);
+    }
+
+-- ---- entries that are alike
+
+-- two entries that differ in count and saved word at the most
+pub record Alike (b c : Breakpoint) : Type 0 where
+  pub used : b .used ≡ c .used
+  pub lifted : b .lifted ≡ c .lifted
+  pub address : b .address ≡ c .address
+
+-- a record whose entries are alike is as sound
+pub sound-alike : (bs : List Breakpoint) (p : Process) → ((k : ℕ) → k < 8 → Alike (getD bs k free) (entry p k)) → Sound p → Sound (withBreaks bs p)
+sound-alike bs p a s = record {
+  absent = λ t. (s .absent t .0, λ k h. a k h .used ∙ s .absent t .1 k h);
+  unhosted = λ z k h. a k h .used ∙ s .unhosted z k h;
+  different = λ j k l h v u e.
+      let b = a j (omega arith) in
+      let c = a k h in
+      s .different j k l h (sym (b .used) ∙ v) (sym (c .used) ∙ u) (sym (b .address) ∙ e ∙ c .address);
+  even = λ k h u. rw (a k h .address) (s .even k h (sym (a k h .used) ∙ u));
+  within = λ k h u. rw (a k h .address) (s .within k h (sym (a k h .used) ∙ u));
+  one-lifted = λ j k l h v u x y.
+      let b = a j (omega arith) in
+      let c = a k h in
+      s .one-lifted j k l h (sym (b .used) ∙ v) (sym (c .used) ∙ u) (sym (b .lifted) ∙ x) (sym (c .lifted) ∙ y);
+  moves = λ k h u x. s .moves k h (sym (a k h .used) ∙ u) (sym (a k h .lifted) ∙ x);
+}
+
+-- ---- another breakpoint in one entry
+
+-- what the rules ask of a breakpoint by itself
+pub record Kept (p : Process) (b : Breakpoint) : Type 0 where
+  pub hosted : p .host ≡ 0 → ⊥
+  pub even : b .address % 2 ≡ 0
+  pub within : b .address ≤ 4094
+  pub moves : b .lifted ≡ true → moving (p .run) ≡ true
+
+-- and of two
+pub record Apart (b c : Breakpoint) : Type 0 where
+  pub different : b .address ≡ c .address → ⊥
+  pub one-lifted : b .lifted ≡ true → c .lifted ≡ true → ⊥
+
+flip : {b c : Breakpoint} → Apart b c → Apart c b
+flip a = record { different = λ e. a .different (sym e); one-lifted = λ x y. a .one-lifted y x }
+
+-- what a sound record says of them
+pub sound-kept : (p : Process) → Sound p → (k : ℕ) → k < 8 → entry p k .used ≡ true → Kept p (entry p k)
+sound-kept p s k h u = record {
+  hosted = λ e. true≢false (sym u ∙ s .unhosted e k h);
+  even = s .even k h u;
+  within = s .within k h u;
+  moves = s .moves k h u;
+}
+
+pub sound-apart : (p : Process) → Sound p → (j k : ℕ) → j < 8 → k < 8 → (j ≡ k → ⊥) → entry p j .used ≡ true → entry p k .used ≡ true → Apart (entry p j) (entry p k)
+sound-apart p s j k i h n v u = go (ltb j k) refl
+  where
+    go : (t : Bool) → ltb j k ≡ t → Apart (entry p j) (entry p k)
+    go true e =
+        let l = ltb-true j k e in
+        record { different = s .different j k l h v u; one-lifted = s .one-lifted j k l h v u }
+    go false e =
+        let l : k < j = omega (arith, ltb-false j k e) in
+        flip (record { different = s .different k j l i u v; one-lifted = s .one-lifted k j l i u v })
+
+module _ (p : Process) (s : Sound p) (eight : length (p .breaks) ≡ 8) (k : ℕ) (h : k < 8) (b : Breakpoint)
+    (kept : b .used ≡ true → Kept p b) (apart : (j : ℕ) → j < 8 → (j ≡ k → ⊥) → entry p j .used ≡ true → b .used ≡ true → Apart (entry p j) b) where
+  abbrev changed : Process
+  changed = withEntry k b p
+
+  same : entry changed k ≡ b
+  same = getD-set-same (p .breaks) k b free (omega arith)
+
+  other : (j : ℕ) → (j ≡ k → ⊥) → entry changed j ≡ entry p j
+  other j n = getD-set-other (p .breaks) k j b free n
+
+  kept-at : (j : ℕ) → j < 8 → entry changed j .used ≡ true → Kept changed (entry changed j)
+  kept-at j l u = go (eqb j k) refl
+    where
+      to : (c : Breakpoint) → Kept p c → Kept changed c
+      to c x = record { hosted = x .hosted; even = x .even; within = x .within; moves = x .moves }
+
+      go : (t : Bool) → eqb j k ≡ t → Kept changed (entry changed j)
+      go true e = let q : entry changed j ≡ b = rw (eqb-true j k e) same in rw q (to b (kept (rw q at u)))
+      go false e = let q = other j (eqb-false j k e) in rw q (to (entry p j) (sound-kept p s j l (rw q at u)))
+
+  apart-at : (i j : ℕ) → i < j → j < 8 → entry changed i .used ≡ true → entry changed j .used ≡ true → Apart (entry changed i) (entry changed j)
+  apart-at i j l m u v = go (eqb i k) refl (eqb j k) refl
+    where
+      go : (t : Bool) → eqb i k ≡ t → (r : Bool) → eqb j k ≡ r → Apart (entry changed i) (entry changed j)
+      go true e true f = absurd (lt-irrefl k (rw (eqb-true i k e, eqb-true j k f) at l))
+      go true e false f =
+          let q : entry changed i ≡ b = rw (eqb-true i k e) same in
+          let n = eqb-false j k f in
+          let r = other j n in
+          rw (q, r) (flip (apart j m n (rw r at v) (rw q at u)))
+      go false e true f =
+          let q : entry changed j ≡ b = rw (eqb-true j k f) same in
+          let n = eqb-false i k e in
+          let r = other i n in
+          rw (r, q) (apart i (omega arith) n (rw r at u) (rw q at v))
+      go false e false f =
+          let q = other i (eqb-false i k e) in
+          let r = other j (eqb-false j k f) in
+          rw (q, r) (sound-apart p s i j (omega arith) m (λ z. lt-irrefl j (rw z at l)) (rw q at u) (rw r at v))
+
+  none-at : p .host ≡ 0 → NoBreakpoints changed
+  none-at z j l = go (entry changed j .used) refl
+    where
+      go : (t : Bool) → entry changed j .used ≡ t → t ≡ false
+      go true u = absurd (kept-at j l u .hosted z)
+      go false u = refl
+
+  pub sound-entry : Sound (withEntry k b p)
+  sound-entry = record {
+    absent = λ t. (s .absent t .0, none-at (s .absent t .0));
+    unhosted = none-at;
+    different = λ i j l m u v. apart-at i j l m u v .different;
+    even = λ j l u. kept-at j l u .even;
+    within = λ j l u. kept-at j l u .within;
+    one-lifted = λ i j l m u v. apart-at i j l m u v .one-lifted;
+    moves = λ j l u. kept-at j l u .moves;
+  }

@@ -1,0 +1,33 @@
+-- What the gateway's tests say of a process and its bytes. Assumes nothing.
+use mathlib.Core.Path.{_≡_, refl, sym, ap, _∙_}
+use mathlib.Core.Bool.{Bool, true, false}
+use mathlib.Core.List.{List}
+use Prim.Native.Nat.{ℕ, _+_, _≤_, _<_, _%_}
+use native.Mathlib.Omega.{arith}
+use lib.ListN.{length, getD}
+use Rattle.process.specs.declared.record.Process.{Process}
+use Rattle.process.specs.Record.{free, entry}
+use Rattle.process.specs.Sound.{Sound}
+use Rattle.process.specs.Local.{Tested}
+use Rattle.process.proofs.SoundTestLaws.{passes-sound}
+use Rattle.process.proofs.SeenLaws.{Spaced, planted-used}
+use Rattle.process.proofs.DepositLaws.{AllSpaced}
+
+module _ (p : Process) (bytes : List ℕ) (t : Tested p bytes) where
+  pub tested-sound : Sound p
+  tested-sound = passes-sound p (t .sound)
+
+  -- a breakpoint's word is within the process's bytes
+  pub tested-inside : (k : ℕ) → k < 8 → entry p k .used ≡ true → entry p k .address + 1 < length bytes
+  tested-inside k h u = omega (arith, tested-sound .within k h u, t .size)
+
+  -- and meets no other's
+  pub tested-spaced : length (p .breaks) ≡ 8 → AllSpaced (p .breaks)
+  tested-spaced eight j k l h x y =
+      let v = planted-used (entry p j) x in
+      let u = planted-used (entry p k) y in
+      record {
+        different = tested-sound .different j k l (omega arith) v u;
+        even = tested-sound .even j (omega arith) v;
+        even-too = tested-sound .even k (omega arith) u;
+      }

@@ -1,0 +1,25 @@
+-- A process record together with the process's own bytes: what a request or report about it changes.
+use mathlib.Core.Path.{_≡_}
+use mathlib.Core.Bool.{true}
+use mathlib.Core.List.{List}
+use Prim.Native.Nat.{ℕ, _+_, _<_}
+use lib.ListN.{length}
+use Rattle.process.specs.declared.record.Process.{Process}
+use Rattle.process.specs.Record.{entry}
+use Rattle.process.specs.Sound.{soundTest}
+
+pub record Local : Type 0 where
+  pub process : Process
+  pub bytes : List ℕ
+
+abbrev pub local : Process → List ℕ → Local
+local p m = record { process = p; bytes = m }
+
+-- what the gateway has tested of a process before it does anything to it: the tests 1 and 2
+pub record Tested (p : Process) (bytes : List ℕ) : Type 0 where
+  pub sound : soundTest p ≡ true
+  pub size : length bytes ≡ 4096
+
+-- the word of every breakpoint is within the process's bytes
+abbrev pub Inside : Process → List ℕ → Type 0
+Inside p bytes = (k : ℕ) → k < 8 → entry p k .used ≡ true → entry p k .address + 1 < length bytes

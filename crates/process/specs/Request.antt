@@ -1,0 +1,141 @@
+-- 'What each request does' to the process that it names, and the tests that rest on the process.
+use mathlib.Core.Bool.{Bool, true, false, cond}
+use mathlib.Core.List.{List, map}
+use Prim.Native.Nat.{ℕ, _+_}
+use lib.ListN.{length, take, drop, getD, replicate}
+use lib.Seq.{paste}
+use lib.Dec.{ltb}
+use Rattle.lists.specs.Word.{lowFirst, vectorOf}
+use Rattle.process.specs.declared.record.Run.{Run}
+use Rattle.process.specs.declared.record.Run.the-variants.{Running, Stepping, Stopped, AtBreak, Ended}
+use Rattle.process.specs.declared.record.Process.{Process}
+use Rattle.process.specs.declared.find.Want.the-variants.{Free, At}
+use Rattle.process.specs.Record.{noBreaks, fresh, withCount, entry, withHost, withRun, withVector, withBreaks, withEntry}
+use Rattle.process.specs.Find.{find}
+use Rattle.process.specs.Sound.{moving}
+use Rattle.process.specs.Seen.{seen, savedFrom, sheltered}
+use Rattle.process.specs.Local.{Local, local}
+use Rattle.process.specs.Planting.{plantedIn, removedFrom, replanted, liftedAt}
+
+-- PC is the eighth word of the vector
+abbrev pub pc : Process → ℕ
+pc p = getD (p .vector) 7 0
+
+-- a change of the record alone
+abbrev pub onRecord : (Process → Process) → Local → Local
+onRecord f l = local (f (l .process)) (l .bytes)
+
+-- ---- tests that rest on the process
+
+-- 'from stopped or at a breakpoint'
+abbrev pub halted : Run → Bool
+halted Running = false
+halted Stepping = false
+halted Stopped = true
+halted AtBreak = true
+halted Ended = false
+
+-- 'only at a breakpoint'
+abbrev pub atBreak : Run → Bool
+atBreak Running = false
+atBreak Stepping = false
+atBreak Stopped = false
+atBreak AtBreak = true
+atBreak Ended = false
+
+-- there is a breakpoint at that address
+unfoldable pub hasBreak : ℕ → Process → Bool
+hasBreak a p = ltb (find (At a) p) 8
+
+-- there is a free entry
+unfoldable pub hasRoom : Process → Bool
+hasRoom p = ltb (find Free p) 8
+
+-- ---- DEBUG and END DEBUG
+
+-- 'the asker debugs it; granted again to the same host'
+abbrev pub debugged : ℕ → Local → Local
+debugged host = onRecord (withHost host)
+
+-- 'Stopped, at a breakpoint or stepping becomes running; ended stays.'
+abbrev pub released : Run → Run
+released Running = Running
+released Stepping = Running
+released Stopped = Running
+released AtBreak = Running
+released Ended = Ended
+
+-- 'all breakpoints go, planted words put back; nobody debugs it'
+unfoldable pub endDebugged : Local → Local
+endDebugged l =
+    local
+    (withRun (released (l .process .run)) (withHost 0 (withBreaks noBreaks (l .process))))
+    (seen (l .process .breaks) (l .bytes))
+
+-- ---- STOP, RESUME, SINGLE STEP, PROCEED BPT
+
+-- 'running or stepping becomes stopped, and a lifted breakpoint is planted again. Other states stay.'
+unfoldable pub halt : Local → Local
+halt l = cond (moving (l .process .run)) (onRecord (withRun Stopped) (replanted l)) l
+
+-- 'to running'
+abbrev pub resumed : Local → Local
+resumed = onRecord (withRun Running)
+
+-- 'or stepping. SINGLE STEP at a breakpoint first lifts the breakpoint at PC, if there is one.'
+unfoldable pub stepped : Local → Local
+stepped l =
+    onRecord (withRun Stepping) (cond (atBreak (l .process .run)) (liftedAt (pc (l .process)) l) l)
+
+-- 'lifts the one at PC, if there, then running'
+unfoldable pub proceeded : Local → Local
+proceeded l = onRecord (withRun Running) (liftedAt (pc (l .process)) l)
+
+-- ---- DEPOSIT and EXAMINE
+
+-- 'seen bytes from ARG1', count of them
+unfoldable pub examined : ℕ → ℕ → Local → List ℕ
+examined at count l = take count (drop at (seen (l .process .breaks) (l .bytes)))
+
+-- the seen memory with a string from an address on
+abbrev pub toBeSeen : ℕ → List ℕ → Local → List ℕ
+toBeSeen at string l = paste (seen (l .process .breaks) (l .bytes)) at string (length string)
+
+-- what is to be seen goes to memory; 'A byte under a planted breakpoint goes to the saved word.'
+unfoldable pub deposited : ℕ → List ℕ → Local → Local
+deposited at string l =
+    local
+    (withBreaks (map (savedFrom (toBeSeen at string l)) (l .process .breaks)) (l .process))
+    (sheltered (l .process .breaks) (l .bytes) (toBeSeen at string l))
+
+-- DEPOSIT STATE VECTOR: 'from byte ARG1', of the vector's 18 bytes
+unfoldable pub vectorDeposited : ℕ → List ℕ → Local → Local
+vectorDeposited at string l =
+    onRecord (withVector (vectorOf (paste (lowFirst (l .process .vector)) at string (length string)))) l
+
+-- ---- BREAK and UNBREAK
+
+-- 'count ARG2; at an existing address only the count changes'; else planted in 'the lowest free of the eight entries'
+unfoldable pub breakSet : ℕ → ℕ → Local → Local
+breakSet a n l =
+    cond (hasBreak a (l .process))
+    (onRecord (withEntry (find (At a) (l .process)) (withCount n (entry (l .process) (find (At a) (l .process))))) l)
+    (plantedIn (find Free (l .process)) a n l)
+
+-- 'UNBREAK puts the word back if it is planted.'
+unfoldable pub breakRemoved : ℕ → Local → Local
+breakRemoved a l = removedFrom (find (At a) (l .process)) l
+
+-- ---- CREATE and DESTROY
+
+-- 'all 4,096 bytes of its memory are zero, vector zero, stopped, debugged by the asker'
+unfoldable pub created : ℕ → Local
+created host = local (fresh true host Stopped) (replicate 4096 0)
+
+-- a cleared record: 'absent, running, all else zero'
+unfoldable pub cleared : Process
+cleared = fresh false 0 Running
+
+-- 'the process is absent, its record cleared; memory bytes stay'
+abbrev pub destroyed : Local → Local
+destroyed = onRecord (λ p. cleared)

@@ -1,0 +1,47 @@
+-- What is seen of a process's memory.
+use mathlib.Core.Bool.{Bool, not, cond, _&&_}
+use mathlib.Core.List.{List, [], _∷_, map}
+use Prim.Native.Nat.{ℕ, _+_, _-_}
+use lib.ListN.{getD, set}
+use lib.Dec.{leb}
+use Rattle.process.specs.declared.record.Breakpoint.{Breakpoint}
+use Rattle.process.specs.Record.{withSaved}
+
+-- the two bytes of a word, low first, at an address
+abbrev pub putWord : ℕ → ℕ → ℕ → List ℕ → List ℕ
+putWord a low high m = set (set m a low) (a + 1) high
+
+-- 'planted (not lifted)'
+abbrev pub isPlanted : Breakpoint → Bool
+isPlanted b = b .used && not (b .lifted)
+
+-- the memory with a breakpoint's saved word in its place, if it is planted
+unfoldable pub restored : Breakpoint → List ℕ → List ℕ
+restored b m = cond (isPlanted b) (putWord (b .address) (b .low) (b .high) m) m
+
+-- 'The seen memory of a process is its memory with the saved word in place of each planted (not lifted) breakpoint.'
+unfoldable pub seen : List Breakpoint → List ℕ → List ℕ
+seen [] m = m
+seen (b ∷ bs) m = seen bs (restored b m)
+
+-- a breakpoint whose saved word, if it is planted, is the word that stands at its address in s
+unfoldable pub savedFrom : List ℕ → Breakpoint → Breakpoint
+savedFrom s b = cond (isPlanted b) (withSaved (getD s (b .address) 0) (getD s (b .address + 1) 0) b) b
+
+-- s, with what stands in the memory m under each planted breakpoint in its place
+unfoldable pub sheltered : List Breakpoint → List ℕ → List ℕ → List ℕ
+sheltered bs m s = seen (map (savedFrom m) bs) s
+
+-- a byte at address i, laid over the part of memory that starts at an address, if it is in there
+unfoldable pub laidByte : ℕ → ℕ → ℕ → List ℕ → List ℕ
+laidByte at i v out = cond (leb at i) (set out (i - at) v) out
+
+-- a planted breakpoint's saved word, laid over that part
+unfoldable pub laidWord : ℕ → Breakpoint → List ℕ → List ℕ
+laidWord at b out =
+    cond (isPlanted b) (laidByte at (b .address + 1) (b .high) (laidByte at (b .address) (b .low) out)) out
+
+-- and all of them
+unfoldable pub laidWords : ℕ → List Breakpoint → List ℕ → List ℕ
+laidWords at [] out = out
+laidWords at (b ∷ bs) out = laidWords at bs (laidWord at b out)
