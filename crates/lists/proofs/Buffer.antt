@@ -4,8 +4,8 @@ use mathlib.Core.List.{List, [], _∷_, _++_, append-assoc, append-nil}
 use Prim.Native.Nat.{ℕ, suc, _+_, _-_, _≤_, _<_}
 use native.Mathlib.Numerals.{add-one}
 use native.Mathlib.Omega.{arith}
-use lib.ListN.{length, take, drop, getD, set, length-append, length-drop, drop-of-length-le}
-use lib.Seq.{append-snoc, drop-cons, set-append-seam, take-all, take-length, take-append-seam, drop-append-add, drop-drop, sets, sets-eq, paste}
+use lib.ListN.{length, take, drop, getD, set, length-append, length-drop, length-take, drop-of-length-le}
+use lib.Seq.{append-snoc, drop-cons, set-append-seam, take-all, take-length, drop-length, take-append-seam, drop-append-add, drop-drop, sets, sets-eq, paste}
 use Rattle.lists.specs.Buffer.{overlay}
 
 -- what was laid over a buffer is its front
@@ -53,3 +53,18 @@ overlay-snoc xs buffer a h =
 pub overlay-all : (xs buffer : List ℕ) → length buffer ≤ length xs → overlay xs buffer ≡ xs
 unfolding overlay
 overlay-all xs buffer h = rw (drop-of-length-le buffer h, append-nil xs)
+
+-- a list copied over the whole of a lent part within the buffer, in the shape in which the part comes back
+pub paste-within : (at : ℕ) (ys buffer : List ℕ)
+    → take at buffer ++ ((take (length ys) ys ++ drop (length ys) (take (at + length ys - at) (drop at buffer))) ++ drop (at + length ys - at) (drop at buffer))
+    ≡ paste buffer at ys (length ys)
+paste-within at ys buffer =
+    let rest : List ℕ = drop at buffer in
+    let size : at + length ys - at ≡ length ys = omega arith in
+    let short : length (take (length ys) rest) ≤ length ys = simp length-take (omega arith) in
+    let none : drop (length ys) (take (length ys) rest) ≡ [] = drop-of-length-le (take (length ys) rest) short in
+    simp (size, none, append-nil, append-assoc, drop-drop)
+
+-- a list copied over all of a buffer
+pub copy-whole : (xs buffer : List ℕ) → length buffer ≡ length xs → take (length xs) xs ++ drop (length xs) buffer ≡ xs
+copy-whole xs buffer e = rw (take-length xs, ← e, drop-length buffer) (append-nil xs)

@@ -5,3 +5,4 @@ pub mod SeenLaws
 pub mod SoundLaws
 pub mod DepositLaws
 pub mod TestedLaws
+pub mod ExamineLaws

@@ -1,17 +1,19 @@
 -- What the gateway's tests say of a process and its bytes. Assumes nothing.
 use mathlib.Core.Path.{_≡_, refl, sym, ap, _∙_}
 use mathlib.Core.Bool.{Bool, true, false}
-use mathlib.Core.List.{List}
+use mathlib.Core.List.{List, map}
 use Prim.Native.Nat.{ℕ, _+_, _≤_, _<_, _%_}
 use native.Mathlib.Omega.{arith}
-use lib.ListN.{length, getD}
+use lib.ListN.{length, getD, length-map}
 use Rattle.process.specs.declared.record.Process.{Process}
-use Rattle.process.specs.Record.{free, entry}
+use Rattle.process.specs.Record.{free, entry, withBreaks}
 use Rattle.process.specs.Sound.{Sound}
+use Rattle.process.specs.Seen.{savedFrom}
 use Rattle.process.specs.Local.{Tested}
-use Rattle.process.proofs.SoundTestLaws.{passes-sound}
+use Rattle.process.proofs.SoundTestLaws.{passes-sound, sound-passes}
 use Rattle.process.proofs.SeenLaws.{Spaced, planted-used}
-use Rattle.process.proofs.DepositLaws.{AllSpaced}
+use Rattle.process.proofs.DepositLaws.{AllSpaced, map-alike}
+use Rattle.process.proofs.SoundLaws.{sound-alike}
 
 module _ (p : Process) (bytes : List ℕ) (t : Tested p bytes) where
   pub tested-sound : Sound p
@@ -31,3 +33,10 @@ module _ (p : Process) (bytes : List ℕ) (t : Tested p bytes) where
         even = tested-sound .even j (omega arith) v;
         even-too = tested-sound .even k (omega arith) u;
       }
+
+-- after the exchange of saved words and memory the tests still hold, for any bytes of the same number
+pub tested-exchanged : (p : Process) (m s : List ℕ) → Tested p m → length (p .breaks) ≡ 8 → length s ≡ 4096 → Tested (withBreaks (map (savedFrom m) (p .breaks)) p) s
+tested-exchanged p m s t eight size =
+    let eight′ : length (map (savedFrom m) (p .breaks)) ≡ 8 = length-map (p .breaks) (savedFrom m) ∙ eight in
+    let sound = sound-alike (map (savedFrom m) (p .breaks)) p (λ k h. map-alike m (p .breaks) k (omega arith)) (tested-sound p m t) in
+    record { sound = sound-passes (withBreaks (map (savedFrom m) (p .breaks)) p) eight′ sound; size = size }

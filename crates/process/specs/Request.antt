@@ -109,9 +109,11 @@ deposited at string l =
     (sheltered (l .process .breaks) (l .bytes) (toBeSeen at string l))
 
 -- DEPOSIT STATE VECTOR: 'from byte ARG1', of the vector's 18 bytes
-unfoldable pub vectorDeposited : ℕ → List ℕ → Local → Local
-vectorDeposited at string l =
-    onRecord (withVector (vectorOf (paste (lowFirst (l .process .vector)) at string (length string)))) l
+unfoldable pub vectorAfter : ℕ → List ℕ → List ℕ → List ℕ
+vectorAfter at string vector = vectorOf (paste (lowFirst vector) at string (length string))
+
+abbrev pub vectorDeposited : ℕ → List ℕ → Local → Local
+vectorDeposited at string l = onRecord (withVector (vectorAfter at string (l .process .vector))) l
 
 -- ---- BREAK and UNBREAK
 

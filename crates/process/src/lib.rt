@@ -1,8 +1,10 @@
 // The record of one process: what is known of it, its breakpoints, and whether it is sound.
+mod deposit;
 mod find;
 mod memory;
 mod planting;
 mod record;
+mod request;
 mod sound;
 pub mod theorems;
 

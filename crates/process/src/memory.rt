@@ -81,7 +81,7 @@ impl Breakpoint {
 
 impl Process {
     // The saved words are laid over a part of memory that starts at address at.
-    fn lay(self, at: usize, out: &mut [u8])
+    pub(crate) fn lay(self, at: usize, out: &mut [u8])
         ensures { λ _. ⌜ now (out .exit) ≡ laidWords at (self .breaks) (now (out .entry)) ⌝ }
     {
         let breaks = self.breaks;
