@@ -6,3 +6,5 @@ pub mod SoundLaws
 pub mod DepositLaws
 pub mod TestedLaws
 pub mod ExamineLaws
+pub mod PlantingLaws
+pub mod ReportLaws

@@ -1,0 +1,90 @@
+-- Laws of planting, lifting and removing: the bytes keep their number, and breakpoints stay within them. Assumes nothing.
+use mathlib.Core.Path.{_≡_, refl, sym, ap, _∙_}
+use mathlib.Core.Bool.{Bool, true, false, cond}
+use mathlib.Core.List.{List}
+use Prim.Native.Nat.{ℕ, _+_, _<_}
+use native.Mathlib.Omega.{arith}
+use borrow.Author.Tests.{eqb-true, eqb-false, ltb-true, lt-ltb, le-ltb}
+use lib.ListN.{length, getD, set, length-set}
+use lib.Seq.{getD-set-same, getD-set-other, set-out}
+use lib.Dec.{eqb, ltb}
+use Rattle.process.specs.declared.record.Breakpoint.{Breakpoint}
+use Rattle.process.specs.declared.record.Process.{Process}
+use Rattle.process.specs.declared.find.Want.the-variants.{Free, Lifted, At}
+use Rattle.process.specs.Record.{free, planted, withLifted, entry, withEntry}
+use Rattle.process.specs.Find.{find}
+use Rattle.process.specs.Seen.{putWord, restored}
+use Rattle.process.specs.Local.{Local, local, Inside}
+use Rattle.process.specs.Planting.{plantedIn, liftedIn, removedFrom, replanted, liftedAt}
+use Rattle.process.proofs.FindLaws.{find-matches, matches-lifted, matches-at}
+use Rattle.process.proofs.SeenLaws.{length-restored}
+
+-- ---- the number of bytes
+
+pub length-plantedIn : (k a n : ℕ) (l : Local) → length (plantedIn k a n l .bytes) ≡ length (l .bytes)
+unfolding plantedIn
+length-plantedIn k a n l = simp length-set
+
+pub length-liftedIn : (k : ℕ) (l : Local) → length (liftedIn k l .bytes) ≡ length (l .bytes)
+unfolding liftedIn
+length-liftedIn k l = length-restored (entry (l .process) k) (l .bytes)
+
+pub length-removedFrom : (k : ℕ) (l : Local) → length (removedFrom k l .bytes) ≡ length (l .bytes)
+unfolding removedFrom
+length-removedFrom k l = length-restored (entry (l .process) k) (l .bytes)
+
+pub length-replanted : (l : Local) → length (replanted l .bytes) ≡ length (l .bytes)
+unfolding replanted
+length-replanted l = go (ltb (find Lifted (l .process)) 8)
+  where
+    go : (t : Bool) → length (cond t (plantedIn (find Lifted (l .process)) (entry (l .process) (find Lifted (l .process)) .address) (entry (l .process) (find Lifted (l .process)) .count) l) l .bytes) ≡ length (l .bytes)
+    go true = length-plantedIn _ _ _ l
+    go false = refl
+
+pub length-liftedAt : (pc : ℕ) (l : Local) → length (liftedAt pc l .bytes) ≡ length (l .bytes)
+unfolding liftedAt
+length-liftedAt pc l = go (ltb (find (At pc) (l .process)) 8)
+  where
+    go : (t : Bool) → length (cond t (liftedIn (find (At pc) (l .process)) l) l .bytes) ≡ length (l .bytes)
+    go true = length-liftedIn _ l
+    go false = refl
+
+-- ---- the number of entries
+
+pub length-entry : (k : ℕ) (b : Breakpoint) (p : Process) → length (withEntry k b p .breaks) ≡ length (p .breaks)
+length-entry k b p = length-set (p .breaks) k b
+
+pub eight-replanted : (l : Local) → length (replanted l .process .breaks) ≡ length (l .process .breaks)
+unfolding replanted plantedIn
+eight-replanted l = go (ltb (find Lifted (l .process)) 8)
+  where
+    go : (t : Bool) → length (cond t (plantedIn (find Lifted (l .process)) (entry (l .process) (find Lifted (l .process)) .address) (entry (l .process) (find Lifted (l .process)) .count) l) l .process .breaks) ≡ length (l .process .breaks)
+    go true = simp length-set
+    go false = refl
+
+-- ---- breakpoints within the bytes
+
+-- another breakpoint in an entry, whose word is within them
+pub inside-entry : (p : Process) (m : List ℕ) (k : ℕ) (b : Breakpoint) → length (p .breaks) ≡ 8 → k < 8 → Inside p m → (b .used ≡ true → b .address + 1 < length m) → Inside (withEntry k b p) m
+inside-entry p m k b eight h i w j l = go (eqb j k) refl
+  where
+    go : (t : Bool) → eqb j k ≡ t → entry (withEntry k b p) j .used ≡ true → entry (withEntry k b p) j .address + 1 < length m
+    go true e =
+        let q : entry (withEntry k b p) j ≡ b = rw (eqb-true j k e) (getD-set-same (p .breaks) k b free (omega arith)) in
+        rw q w
+    go false e = rw (getD-set-other (p .breaks) k j b free (eqb-false j k e)) (i j l)
+
+pub inside-replanted : (p : Process) (m : List ℕ) → length (p .breaks) ≡ 8 → Inside p m → Inside (replanted (local p m) .process) (replanted (local p m) .bytes)
+unfolding replanted plantedIn
+inside-replanted p m eight i = go (ltb (find Lifted p) 8) refl
+  where
+    go : (t : Bool) → ltb (find Lifted p) 8 ≡ t
+        → Inside (cond t (plantedIn (find Lifted p) (entry p (find Lifted p) .address) (entry p (find Lifted p) .count) (local p m)) (local p m) .process)
+        (cond t (plantedIn (find Lifted p) (entry p (find Lifted p) .address) (entry p (find Lifted p) .count) (local p m)) (local p m) .bytes)
+    go true q =
+        let low = ltb-true (find Lifted p) 8 q in
+        let u = matches-lifted (entry p (find Lifted p)) (find-matches Lifted p eight low) .0 in
+        let w = i (find Lifted p) low u in
+        let same : length (putWord (entry p (find Lifted p) .address) 3 0 m) ≡ length m = simp length-set in
+        rw same (inside-entry p m (find Lifted p) _ eight low i (λ x. w))
+    go false q = i
