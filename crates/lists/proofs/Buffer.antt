@@ -1,11 +1,11 @@
 -- Laws of a buffer that is written at its start. Assumes nothing.
-use mathlib.Core.Path.{_≡_, refl, sym, ap}
+use mathlib.Core.Path.{_≡_, refl, sym, ap, _∙_}
 use mathlib.Core.List.{List, [], _∷_, _++_, append-assoc, append-nil}
 use Prim.Native.Nat.{ℕ, suc, _+_, _-_, _≤_, _<_}
 use native.Mathlib.Numerals.{add-one}
 use native.Mathlib.Omega.{arith}
-use lib.ListN.{length, take, drop, getD, set, length-append, length-drop, length-take, drop-of-length-le}
-use lib.Seq.{append-snoc, drop-cons, set-append-seam, take-all, take-length, drop-length, take-append-seam, drop-append-add, drop-drop, sets, sets-eq, paste}
+use lib.ListN.{length, take, drop, getD, set, length-append, length-drop, length-take, drop-of-length-le, List·getD-append}
+use lib.Seq.{length-take-le, drop-at, drop-paste, getD-take, getD-drop, append-snoc, drop-cons, set-append-seam, take-all, take-length, drop-length, take-append-seam, drop-append-add, drop-drop, sets, sets-eq, paste}
 use Rattle.lists.specs.Buffer.{overlay}
 
 -- what was laid over a buffer is its front
@@ -68,3 +68,34 @@ paste-within at ys buffer =
 -- a list copied over all of a buffer
 pub copy-whole : (xs buffer : List ℕ) → length buffer ≡ length xs → take (length xs) xs ++ drop (length xs) buffer ≡ xs
 copy-whole xs buffer e = rw (take-length xs, ← e, drop-length buffer) (append-nil xs)
+
+-- ---- what is pasted is there, and all else as it was
+
+module _ (at : ℕ) (ys buffer : List ℕ) (fits : at + length ys ≤ length buffer) where
+  shape : paste buffer at ys (length ys) ≡ take at buffer ++ (ys ++ drop (at + length ys) buffer)
+  shape = simp (take-length, append-assoc)
+
+  front : length (take at buffer) ≡ at
+  front = length-take-le at buffer (omega arith)
+
+  pub part-paste : take (length ys) (drop at (paste buffer at ys (length ys))) ≡ ys
+  part-paste =
+      ap (λ (b : List ℕ). take (length ys) (drop at b)) shape
+      ∙ ap (take (length ys)) (drop-at (take at buffer) (ys ++ drop (at + length ys) buffer) at front)
+      ∙ take-append-seam ys (drop (at + length ys) buffer)
+
+  pub getD-paste-before : (i : ℕ) → i < at → getD (paste buffer at ys (length ys)) i 0 ≡ getD buffer i 0
+  getD-paste-before i h =
+      ap (λ (b : List ℕ). getD b i 0) shape
+      ∙ List·getD-append (take at buffer) (ys ++ drop (at + length ys) buffer) 0 i (omega (arith, front))
+      ∙ getD-take at buffer i 0 h
+
+  pub getD-paste-behind : (i : ℕ) → at + length ys ≤ i → getD (paste buffer at ys (length ys)) i 0 ≡ getD buffer i 0
+  getD-paste-behind i h =
+      let j : at + length ys + (i - (at + length ys)) ≡ i = omega arith in
+      let behind : drop (at + length ys) (paste buffer at ys (length ys)) ≡ drop (at + length ys) buffer = drop-paste buffer at ys (length ys) (omega arith) (omega arith) in
+      ap (λ (k : ℕ). getD (paste buffer at ys (length ys)) k 0) (sym j)
+      ∙ sym (getD-drop (at + length ys) (paste buffer at ys (length ys)) (i - (at + length ys)) 0)
+      ∙ ap (λ (b : List ℕ). getD b (i - (at + length ys)) 0) behind
+      ∙ getD-drop (at + length ys) buffer (i - (at + length ys)) 0
+      ∙ ap (λ (k : ℕ). getD buffer k 0) j

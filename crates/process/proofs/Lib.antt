@@ -8,3 +8,6 @@ pub mod TestedLaws
 pub mod ExamineLaws
 pub mod PlantingLaws
 pub mod ReportLaws
+pub mod SeenKept
+pub mod SoundKept
+pub mod TheoremLaws

@@ -23,3 +23,8 @@ pub record Tested (p : Process) (bytes : List ℕ) : Type 0 where
 -- the word of every breakpoint is within the process's bytes
 abbrev pub Inside : Process → List ℕ → Type 0
 Inside p bytes = (k : ℕ) → k < 8 → entry p k .used ≡ true → entry p k .address + 1 < length bytes
+
+-- a sound process record with its eight entries and its 4,096 bytes
+pub record Proper (l : Local) : Type 0 where
+  pub tested : Tested (l .process) (l .bytes)
+  pub eight : length (l .process .breaks) ≡ 8

@@ -1,8 +1,33 @@
-// What is proved of a process record. These functions do nothing: each one's contract is a theorem, so that the check of
-// this crate includes it.
-ghost use Rattle.process.specs.Theorems.{TestIsSound};
+// What is proved of a process by itself. These functions do nothing: each one's contract is a theorem, so that the check of this
+// crate includes it.
+ghost use Rattle.process.specs.Theorems.{TestIsSound, DepositIsSeen, SeenStays, EndDebugRestores, StoreIsUnseen, SoundStays};
 
 // The test of soundness passes exactly the sound records.
 pub fn test_is_sound()
     ensures { λ _. ⌜ TestIsSound ⌝ }
+{}
+
+// What is deposited is what is examined, and every other seen byte is as before, planted words or not.
+pub fn deposit_is_seen()
+    ensures { λ _. ⌜ DepositIsSeen ⌝ }
+{}
+
+// BREAK, UNBREAK, lifting, planting again and a silent pass change no seen byte.
+pub fn seen_stays()
+    ensures { λ _. ⌜ SeenStays ⌝ }
+{}
+
+// After END DEBUG memory is what was seen, and no breakpoint is left.
+pub fn end_debug_restores()
+    ensures { λ _. ⌜ EndDebugRestores ⌝ }
+{}
+
+// What the machine stores into a planted word is not seen.
+pub fn store_is_unseen()
+    ensures { λ _. ⌜ StoreIsUnseen ⌝ }
+{}
+
+// A sound record stays sound under every request and report.
+pub fn sound_stays()
+    ensures { λ _. ⌜ SoundStays ⌝ }
 {}

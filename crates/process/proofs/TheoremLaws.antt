@@ -1,0 +1,398 @@
+-- The theorems of this crate, from the laws of what is seen and of what is sound. Assumes nothing.
+use mathlib.Core.Path.{_≡_, refl, sym, ap, _∙_}
+use mathlib.Core.Bool.{Bool, true, false, not, cond, _&&_, true≢false}
+use mathlib.Core.List.{List, [], _∷_, map}
+use mathlib.Core.Logic.{_⊎_, inl, inr, ⊎-elim}
+use Prim.Native.Nat.{ℕ, zero, suc, _+_, _-_, _≤_, _<_, _%_}
+use native.Mathlib.Nat.{not-suc-le-zero}
+use native.Mathlib.Omega.{arith}
+use borrow.Author.Tests.{ltb-true, ltb-false, eqb-true, eqb-false}
+use lib.ListN.{length, take, drop, getD, set, getD-replicate}
+use lib.Seq.{paste, set-comm, set-set, getD-set-same, getD-set-other}
+use lib.Dec.{ltb, eqb}
+use Rattle.lists.proofs.Buffer.{part-paste, getD-paste-before, getD-paste-behind}
+use Rattle.process.specs.declared.record.Breakpoint.{Breakpoint}
+use Rattle.process.specs.declared.record.Process.{Process}
+use Rattle.process.specs.declared.record.Run.{Run}
+use Rattle.process.specs.declared.record.Run.the-variants.{Running, Stepping, Stopped, AtBreak, Ended}
+use Rattle.process.specs.declared.find.Want.the-variants.{Free, Lifted, At}
+use Rattle.process.specs.Record.{free, noBreaks, withCount, entry, fresh, withHost, withRun, withVector, withBreaks, withEntry}
+use Rattle.process.specs.Find.{find}
+use Rattle.process.specs.Sound.{Sound, moving}
+use Rattle.process.specs.Seen.{putWord, isPlanted, restored, seen, savedFrom, sheltered}
+use Rattle.process.specs.Local.{Local, local, Tested, Proper}
+use Rattle.process.specs.Planting.{plantedIn, liftedIn, removedFrom, replanted, liftedAt}
+use Rattle.process.specs.Request.{pc, onRecord, halted, atBreak, hasBreak, hasRoom, released, endDebugged, halt, stepped, proceeded, examined, toBeSeen, deposited, breakSet, breakRemoved, created, cleared}
+use Rattle.process.specs.Report.{accepts, stepping, isTtrap, recorded, passes, passed, runAfter, reported}
+use Rattle.process.specs.Theorems.{seenOf, DepositIsSeen, SeenStays, EndDebugRestores, StoreIsUnseen, SoundStays}
+use Rattle.process.proofs.FindLaws.{matches-at, find-matches, find-before, at-matches}
+use Rattle.process.proofs.SeenLaws.{length-seen, restored-planted, restored-not}
+use Rattle.process.proofs.DepositLaws.{sheltered-seen, map-alike}
+use Rattle.process.proofs.SoundLaws.{sound-vector, sound-run, sound-host, sound-free, sound-alike}
+use Rattle.process.proofs.PlantingLaws.{length-entry}
+use Rattle.process.proofs.SoundTestLaws.{sound-passes}
+use Rattle.process.proofs.TestedLaws.{tested-sound, tested-spaced}
+use Rattle.process.proofs.ReportLaws.{passes-found}
+use Rattle.process.proofs.SeenKept.{seen-liftedIn, seen-liftedAt, seen-replanted, seen-removed, seen-new, seen-count}
+use Rattle.process.proofs.SoundKept.{NoneLifted, still-none, sound-removed, sound-planted, sound-lifted, sound-count, sound-liftedAt, sound-replanted, none-replanted, proper-replanted}
+
+sound-of : (l : Local) → Proper l → Sound (l .process)
+sound-of l g = tested-sound (l .process) (l .bytes) (g .tested)
+
+-- ---- what is deposited is seen
+
+whole : (at : ℕ) (string : List ℕ) (l : Local) → Proper l → seenOf (deposited at string l) ≡ paste (seenOf l) at string (length string)
+unfolding deposited
+whole at string l g =
+    sheltered-seen (l .process .breaks) (l .bytes) (toBeSeen at string l) (tested-spaced (l .process) (l .bytes) (g .tested) (g .eight))
+
+room : (at : ℕ) (string : List ℕ) (l : Local) → Proper l → at + length string ≤ 4096 → at + length string ≤ length (seenOf l)
+room at string l g h = omega (arith, length-seen (l .process .breaks) (l .bytes), g .tested .size)
+
+read-back : (at : ℕ) (string : List ℕ) (l : Local) → Proper l → at + length string ≤ 4096 → examined at (length string) (deposited at string l) ≡ string
+unfolding examined
+read-back at string l g h =
+    ap (λ (m : List ℕ). take (length string) (drop at m)) (whole at string l g) ∙ part-paste at string (seenOf l) (room at string l g h)
+
+elsewhere : (at : ℕ) (string : List ℕ) (l : Local) (i : ℕ) → Proper l → at + length string ≤ 4096 → (i < at) ⊎ (at + length string ≤ i)
+    → getD (seenOf (deposited at string l)) i 0 ≡ getD (seenOf l) i 0
+elsewhere at string l i g h o =
+    ap (λ (m : List ℕ). getD m i 0) (whole at string l g)
+    ∙ ⊎-elim (getD-paste-before at string (seenOf l) (room at string l g h) i) (getD-paste-behind at string (seenOf l) (room at string l g h) i) o
+
+pub deposit-is-seen : DepositIsSeen
+deposit-is-seen = record { whole = whole; read-back = read-back; elsewhere = elsewhere }
+
+-- ---- nothing else changes what is seen
+
+break-seen : (a n : ℕ) (l : Local) → Proper l → a % 2 ≡ 0 → (hasBreak a (l .process) ≡ false → hasRoom (l .process) ≡ true) → seenOf (breakSet a n l) ≡ seenOf l
+unfolding breakSet
+break-seen a n l g even room = go (hasBreak a (l .process)) refl
+  where
+    go : (t : Bool) → hasBreak a (l .process) ≡ t
+        → seenOf (cond t (onRecord (withEntry (find (At a) (l .process)) (withCount n (entry (l .process) (find (At a) (l .process))))) l) (plantedIn (find Free (l .process)) a n l)) ≡ seenOf l
+    go true e = seen-count l g (find (At a) (l .process)) n
+    go false e = seen-new l g a n even e (room e)
+
+unbreak-seen : (a : ℕ) (l : Local) → Proper l → hasBreak a (l .process) ≡ true → seenOf (breakRemoved a l) ≡ seenOf l
+unfolding breakRemoved
+unbreak-seen a l g e = seen-removed l g a e
+
+stop-seen : (l : Local) → Proper l → seenOf (halt l) ≡ seenOf l
+unfolding halt
+stop-seen l g = go (moving (l .process .run))
+  where
+    go : (t : Bool) → seenOf (cond t (onRecord (withRun Stopped) (replanted l)) l) ≡ seenOf l
+    go true = seen-replanted l g
+    go false = refl
+
+step-seen : (l : Local) → Proper l → seenOf (stepped l) ≡ seenOf l
+unfolding stepped
+step-seen l g = go (atBreak (l .process .run))
+  where
+    go : (t : Bool) → seenOf (onRecord (withRun Stepping) (cond t (liftedAt (pc (l .process)) l) l)) ≡ seenOf l
+    go true = seen-liftedAt l g (pc (l .process))
+    go false = refl
+
+proceed-seen : (l : Local) → Proper l → seenOf (proceeded l) ≡ seenOf l
+unfolding proceeded
+proceed-seen l g = seen-liftedAt l g (pc (l .process))
+
+-- a process after its vector is stored and a lifted breakpoint planted again
+vector-proper : (words : List ℕ) (l : Local) → Proper l → Proper (recorded words l)
+unfolding recorded
+vector-proper words l g =
+    proper-replanted (onRecord (withVector words) l) (sound-vector words (l .process) (sound-of l g)) (g .eight) (g .tested .size)
+
+-- a process whose parts are as they should be
+proper : (p : Process) (m : List ℕ) → Sound p → length (p .breaks) ≡ 8 → length m ≡ 4096 → Proper (local p m)
+proper p m s eight size = record { tested = record { sound = sound-passes p eight s; size = size }; eight = eight }
+
+recorded-seen : (words : List ℕ) (l : Local) → Proper l → seenOf (recorded words l) ≡ seenOf l
+unfolding recorded
+recorded-seen words l g =
+    seen-replanted (onRecord (withVector words) l)
+    (proper (withVector words (l .process)) (l .bytes) (sound-vector words (l .process) (sound-of l g)) (g .eight) (g .tested .size))
+
+-- a process with another count in an entry
+counted-proper : (k n : ℕ) (l : Local) → k < 8 → Proper l → Proper (onRecord (withEntry k (withCount n (entry (l .process) k))) l)
+counted-proper k n l h g =
+    proper (withEntry k (withCount n (entry (l .process) k)) (l .process)) (l .bytes)
+    (sound-count (l .process) (sound-of l g) (g .eight) k n h)
+    (length-entry k (withCount n (entry (l .process) k)) (l .process) ∙ g .eight)
+    (g .tested .size)
+
+passed-seen : (k : ℕ) (l : Local) → k < 8 → Proper l → seenOf (passed k l) ≡ seenOf l
+unfolding passed
+passed-seen k l h g =
+    seen-liftedIn (onRecord (withEntry k (withCount (entry (l .process) k .count - 1) (entry (l .process) k))) l) (counted-proper k _ l h g) k h
+    ∙ seen-count l g k (entry (l .process) k .count - 1)
+
+report-seen : (kind : ℕ) (words : List ℕ) (l : Local) → Proper l → seenOf (reported kind words l) ≡ seenOf l
+unfolding reported
+report-seen kind words l g = go (passes kind (recorded words l .process)) refl ∙ recorded-seen words l g
+  where
+    go : (t : Bool) → passes kind (recorded words l .process) ≡ t
+        → seenOf (cond t (passed (find (At (pc (recorded words l .process))) (recorded words l .process)) (recorded words l)) (onRecord (withRun (runAfter kind)) (recorded words l)))
+        ≡ seenOf (recorded words l)
+    go true e =
+        passed-seen (find (At (pc (recorded words l .process))) (recorded words l .process)) (recorded words l)
+        (passes-found kind (recorded words l .process) e) (vector-proper words l g)
+    go false e = refl
+
+pub seen-stays : SeenStays
+seen-stays = record { break = break-seen; unbreak = unbreak-seen; stop = stop-seen; step = step-seen; proceed = proceed-seen; report = report-seen }
+
+-- ---- END DEBUG
+
+pub end-debug-restores : EndDebugRestores
+unfolding endDebugged
+end-debug-restores = record {
+  memory = λ l. refl;
+  none-left = λ l k h. ap (λ (b : Breakpoint). b .used) (getD-replicate 8 k free free h);
+}
+
+-- ---- a store under a planted breakpoint
+
+-- the byte is one of the two of a word
+abbrev Covers : ℕ → ℕ → Type 0
+Covers i a = (i ≡ a) ⊎ (i ≡ a + 1)
+
+-- a word that is put hides what was stored under it
+hidden : (a x y i v : ℕ) (m : List ℕ) → Covers i a → putWord a x y (set m i v) ≡ putWord a x y m
+hidden a x y i v m (inl e) = ap (λ (l : List ℕ). set l (a + 1) y) (ap (λ (k : ℕ). set (set m k v) a x) e ∙ set-set m a v x)
+hidden a x y i v m (inr e) =
+    let n : a + 1 ≡ a → ⊥ = λ z. absurd (omega arith) in
+    ap (λ (l : List ℕ). set l (a + 1) y) (ap (λ (k : ℕ). set (set m k v) a x) e ∙ set-comm m (a + 1) a v x n)
+    ∙ set-set (set m a x) (a + 1) v y
+
+-- and leaves what was stored elsewhere
+beside : (a x y i v : ℕ) (m : List ℕ) → (i ≡ a → ⊥) → (i ≡ a + 1 → ⊥) → putWord a x y (set m i v) ≡ set (putWord a x y m) i v
+beside a x y i v m n0 n1 = ap (λ (l : List ℕ). set l (a + 1) y) (set-comm m i a v x n0) ∙ set-comm (set m a x) i (a + 1) v y n1
+
+-- a store and one breakpoint: hidden, or still there
+one : (b : Breakpoint) (m : List ℕ) (i v : ℕ) → (restored b (set m i v) ≡ restored b m) ⊎ (restored b (set m i v) ≡ set (restored b m) i v)
+unfolding restored
+one b m i v = go (isPlanted b) (eqb i (b .address)) refl (eqb i (b .address + 1)) refl
+  where
+    a : ℕ
+    a = b .address
+
+    with-word : Bool → List ℕ → List ℕ
+    with-word t x = cond t (putWord (b .address) (b .low) (b .high) x) x
+
+    go : (t s : Bool) → eqb i (b .address) ≡ s → (u : Bool) → eqb i (b .address + 1) ≡ u
+        → (with-word t (set m i v) ≡ with-word t m) ⊎ (with-word t (set m i v) ≡ set (with-word t m) i v)
+    go false s p u q = inr refl
+    go true true p u q = inl (hidden (b .address) (b .low) (b .high) i v m (inl (eqb-true _ _ p)))
+    go true false p true q = inl (hidden (b .address) (b .low) (b .high) i v m (inr (eqb-true _ _ q)))
+    go true false p false q = inr (beside (b .address) (b .low) (b .high) i v m (eqb-false _ _ p) (eqb-false _ _ q))
+
+under : (bs : List Breakpoint) (m : List ℕ) (k i v : ℕ) → k < length bs → isPlanted (getD bs k free) ≡ true → Covers i (getD bs k free .address)
+    → seen bs (set m i v) ≡ seen bs m
+unfolding seen
+under [] m k i v h p c = absurd (not-suc-le-zero h)
+under (b ∷ bs) m zero i v h p c =
+    ap (seen bs) (restored-planted b (set m i v) p ∙ hidden (b .address) (b .low) (b .high) i v m c ∙ sym (restored-planted b m p))
+under (b ∷ bs) m (suc k) i v h p c =
+    ⊎-elim (λ e. ap (seen bs) e) (λ e. ap (seen bs) e ∙ under bs (restored b m) k i v (omega arith) p c) (one b m i v)
+
+pub store-is-unseen : StoreIsUnseen
+unfolding StoreIsUnseen
+store-is-unseen l k i v h p c = under (l .process .breaks) (l .bytes) k i v h p c
+
+-- ---- a sound record stays sound
+
+halted-still : (r : Run) → halted r ≡ true → moving r ≡ false
+halted-still Running e = sym e
+halted-still Stepping e = sym e
+halted-still Stopped e = refl
+halted-still AtBreak e = refl
+halted-still Ended e = refl
+
+atBreak-halted : (r : Run) → atBreak r ≡ true → halted r ≡ true
+atBreak-halted Running e = e
+atBreak-halted Stepping e = e
+atBreak-halted Stopped e = refl
+atBreak-halted AtBreak e = refl
+atBreak-halted Ended e = e
+
+stepping-moves : (r : Run) → stepping r ≡ true → moving r ≡ true
+stepping-moves Running e = refl
+stepping-moves Stepping e = refl
+stepping-moves Stopped e = e
+stepping-moves AtBreak e = e
+stepping-moves Ended e = e
+
+accepts-moves : (kind : ℕ) (r : Run) → accepts kind r ≡ true → moving r ≡ true
+unfolding accepts
+accepts-moves kind r e = go (isTtrap kind) e
+  where
+    go : (t : Bool) → cond t (stepping r) (moving r) ≡ true → moving r ≡ true
+    go true e = stepping-moves r e
+    go false e = e
+
+end-debug-sound : (l : Local) → Proper l → Sound (endDebugged l .process)
+unfolding endDebugged
+end-debug-sound l g =
+    sound-free (withRun (released (l .process .run)) (withHost 0 (withBreaks noBreaks (l .process)))) refl (λ t. refl)
+
+stop-sound : (l : Local) → Proper l → Sound (halt l .process)
+unfolding halt
+stop-sound l g = go (moving (l .process .run))
+  where
+    go : (t : Bool) → Sound (cond t (onRecord (withRun Stopped) (replanted l)) l .process)
+    go true =
+        sound-run Stopped (replanted l .process)
+        (λ k h u x. absurd (none-replanted (l .process) (sound-of l g) (g .eight) (l .bytes) k h u x))
+        (sound-replanted (l .process) (sound-of l g) (g .eight) (l .bytes))
+    go false = sound-of l g
+
+-- a breakpoint that is lifted as a process that had none lifted starts to move
+lifted-moves : (r : Run) (pc : ℕ) (l : Local) → Proper l → moving r ≡ true → NoneLifted (l .process) → Sound (withRun r (liftedAt pc l .process))
+unfolding liftedAt liftedIn
+lifted-moves r pc l g m none = go (ltb (find (At pc) (l .process)) 8) refl
+  where
+    moved : Sound (withRun r (l .process))
+    moved = sound-run r (l .process) (λ k h u x. m) (sound-of l g)
+
+    go : (t : Bool) → ltb (find (At pc) (l .process)) 8 ≡ t → Sound (withRun r (cond t (liftedIn (find (At pc) (l .process)) l) l .process))
+    go true e =
+        let h : find (At pc) (l .process) < 8 = ltb-true _ _ e in
+        let u = matches-at pc (entry (l .process) (find (At pc) (l .process))) (find-matches (At pc) (l .process) (g .eight) h) .0 in
+        sound-lifted (withRun r (l .process)) moved (g .eight) (find (At pc) (l .process)) h u m none
+    go false e = moved
+
+step-sound : (l : Local) → Proper l → halted (l .process .run) ≡ true → Sound (stepped l .process)
+unfolding stepped
+step-sound l g e = go (atBreak (l .process .run))
+  where
+    none : NoneLifted (l .process)
+    none = still-none (l .process) (sound-of l g) (g .eight) (halted-still (l .process .run) e)
+
+    go : (t : Bool) → Sound (onRecord (withRun Stepping) (cond t (liftedAt (pc (l .process)) l) l) .process)
+    go true = lifted-moves Stepping (pc (l .process)) l g refl none
+    go false = sound-run Stepping (l .process) (λ k h u x. refl) (sound-of l g)
+
+proceed-sound : (l : Local) → Proper l → atBreak (l .process .run) ≡ true → Sound (proceeded l .process)
+unfolding proceeded
+proceed-sound l g e =
+    lifted-moves Running (pc (l .process)) l g refl
+    (still-none (l .process) (sound-of l g) (g .eight) (halted-still (l .process .run) (atBreak-halted (l .process .run) e)))
+
+deposit-sound : (at : ℕ) (string : List ℕ) (l : Local) → Proper l → Sound (deposited at string l .process)
+unfolding deposited
+deposit-sound at string l g =
+    let e = g .eight in
+    sound-alike (map (savedFrom (toBeSeen at string l)) (l .process .breaks)) (l .process)
+    (λ k h. map-alike (toBeSeen at string l) (l .process .breaks) k (omega arith)) (sound-of l g)
+
+break-sound : (a n : ℕ) (l : Local) → Proper l → (l .process .host ≡ 0 → ⊥) → a % 2 ≡ 0 → a ≤ 4094
+    → (hasBreak a (l .process) ≡ false → hasRoom (l .process) ≡ true) → Sound (breakSet a n l .process)
+unfolding breakSet plantedIn hasBreak hasRoom
+break-sound a n l g host even within room = go (ltb (find (At a) (l .process)) 8) refl
+  where
+    p : Process
+    p = l .process
+
+    go : (t : Bool) → ltb (find (At a) (l .process)) 8 ≡ t
+        → Sound (cond t (onRecord (withEntry (find (At a) (l .process)) (withCount n (entry (l .process) (find (At a) (l .process))))) l) (plantedIn (find Free (l .process)) a n l) .process)
+    go true e = sound-count (l .process) (sound-of l g) (g .eight) (find (At a) (l .process)) n (ltb-true _ _ e)
+    go false e =
+        let past = ltb-false (find (At a) (l .process)) 8 e in
+        sound-planted (l .process) (sound-of l g) (g .eight) (find Free (l .process)) a n _ _ (ltb-true _ _ (room e)) host even within
+        (λ j h m u q. find-before (At a) (l .process) j (omega (arith, past)) (at-matches a (entry (l .process) j) u q))
+
+unbreak-sound : (a : ℕ) (l : Local) → Proper l → hasBreak a (l .process) ≡ true → Sound (breakRemoved a l .process)
+unfolding breakRemoved removedFrom hasBreak
+unbreak-sound a l g e = sound-removed (l .process) (sound-of l g) (g .eight) (find (At a) (l .process)) (ltb-true _ _ e)
+
+create-sound : (host : ℕ) → Sound (created host .process)
+unfolding created fresh
+create-sound host = sound-free (fresh true host Stopped) refl (λ t. absurd (true≢false t))
+
+destroy-sound : Sound cleared
+unfolding cleared fresh
+destroy-sound = sound-free (fresh false 0 Running) refl (λ t. refl)
+
+-- ---- a report
+
+run-replanted : (l : Local) → replanted l .process .run ≡ l .process .run
+unfolding replanted plantedIn
+run-replanted l = go (ltb (find Lifted (l .process)) 8)
+  where
+    go : (t : Bool) → cond t (plantedIn (find Lifted (l .process)) (entry (l .process) (find Lifted (l .process)) .address) (entry (l .process) (find Lifted (l .process)) .count) l) l .process .run ≡ l .process .run
+    go true = refl
+    go false = refl
+
+none-recorded : (words : List ℕ) (l : Local) → Proper l → NoneLifted (recorded words l .process)
+unfolding recorded
+none-recorded words l g = none-replanted (withVector words (l .process)) (sound-vector words (l .process) (sound-of l g)) (g .eight) (l .bytes)
+
+moves-recorded : (words : List ℕ) (l : Local) → moving (l .process .run) ≡ true → moving (recorded words l .process .run) ≡ true
+unfolding recorded
+moves-recorded words l m = rw (run-replanted (onRecord (withVector words) l)) m
+
+-- an entry keeps its mark when its count changes
+entry-counted : (k n : ℕ) (p : Process) → k < length (p .breaks) → entry (withEntry k (withCount n (entry p k)) p) k ≡ withCount n (entry p k)
+entry-counted k n p h = getD-set-same (p .breaks) k (withCount n (entry p k)) free h
+
+none-counted : (k n : ℕ) (p : Process) → k < length (p .breaks) → NoneLifted p → NoneLifted (withEntry k (withCount n (entry p k)) p)
+none-counted k n p h none j i = go (eqb j k) refl
+  where
+    c : Process
+    c = withEntry k (withCount n (entry p k)) p
+
+    go : (t : Bool) → eqb j k ≡ t → entry (withEntry k (withCount n (entry p k)) p) j .used ≡ true → entry (withEntry k (withCount n (entry p k)) p) j .lifted ≡ true → ⊥
+    go true e =
+        let q : j ≡ k = eqb-true j k e in
+        let here : entry (withEntry k (withCount n (entry p k)) p) j ≡ withCount n (entry p k) = rw q (entry-counted k n p h) in
+        rw here (rw q at (none j i))
+    go false e = rw (getD-set-other (p .breaks) k j (withCount n (entry p k)) free (eqb-false j k e)) (none j i)
+
+passed-sound : (k : ℕ) (l : Local) → k < 8 → Proper l → entry (l .process) k .used ≡ true → moving (l .process .run) ≡ true → NoneLifted (l .process) → Sound (passed k l .process)
+unfolding passed liftedIn
+passed-sound k l h g u m none =
+    let n = entry (l .process) k .count - 1 in
+    let c = counted-proper k n l h g in
+    let e = g .eight in
+    let long : k < length (l .process .breaks) = omega arith in
+    let here = entry-counted k n (l .process) long in
+    sound-lifted (withEntry k (withCount n (entry (l .process) k)) (l .process)) (sound-of _ c) (c .eight) k h (rw here u) m (none-counted k n (l .process) long none)
+
+report-sound : (kind : ℕ) (words : List ℕ) (l : Local) → Proper l → accepts kind (l .process .run) ≡ true → Sound (reported kind words l .process)
+unfolding reported
+report-sound kind words l g a = go (passes kind (recorded words l .process)) refl
+  where
+    r : Local
+    r = recorded words l
+
+    go : (t : Bool) → passes kind (recorded words l .process) ≡ t
+        → Sound (cond t (passed (find (At (pc (recorded words l .process))) (recorded words l .process)) (recorded words l)) (onRecord (withRun (runAfter kind)) (recorded words l)) .process)
+    go true e =
+        let q = recorded words l .process in
+        let h = passes-found kind (recorded words l .process) e in
+        let g′ = vector-proper words l g in
+        let u = matches-at (pc q) (entry q (find (At (pc q)) q)) (find-matches (At (pc q)) q (g′ .eight) h) .0 in
+        passed-sound (find (At (pc q)) q) (recorded words l) h g′ u
+        (moves-recorded words l (accepts-moves kind (l .process .run) a)) (none-recorded words l g)
+    go false e =
+        sound-run (runAfter kind) (recorded words l .process)
+        (λ k h u x. absurd (none-recorded words l g k h u x)) (sound-of (recorded words l) (vector-proper words l g))
+
+pub sound-stays : SoundStays
+sound-stays = record {
+  debug = λ host p s t n. sound-host host p t n s;
+  end-debug = end-debug-sound;
+  stop = stop-sound;
+  resume = λ p s. sound-run Running p (λ k h u x. refl) s;
+  step = step-sound;
+  proceed = proceed-sound;
+  deposit = deposit-sound;
+  deposit-vector = sound-vector;
+  break = break-sound;
+  unbreak = unbreak-sound;
+  create = create-sound;
+  destroy = destroy-sound;
+  report = report-sound;
+}
