@@ -5,4 +5,5 @@ pub mod Elements
 pub mod Every
 pub mod First
 pub mod MapStep
+pub mod Part
 pub mod Word

@@ -1,37 +1,27 @@
-use Rattle.process.specs.Seen.{laidWord}
+-- `process::record::Breakpoint::lay` meets its contract, by whether the breakpoint is planted. Assumes nothing.
 use borrow.Author.Needs.{needs}
+use Rattle.process.specs.Seen.{laidWord}
 use Rattle.process.proofs.record.Breakpoint.lay.Statement.{statement}
 use Rattle.process.proofs.record.Breakpoint.lay.Tie as tie
-use Rattle.process.proofs.record.Breakpoint.lay.Reads as reads
-use Rattle.process.proofs.record.Breakpoint.lay.Lts as lts
-use Rattle.process.proofs.memory.lay_byte.Reads as lay-byte-reads
-use Rattle.process.proofs.record.Breakpoint.is_planted.Reads as is-planted-reads
 
--- src/memory.rt:72:12
 is-planted-requires : tie.Need-is-planted-requires
 is-planted-requires c κs = search needs
 
--- src/memory.rt:73:21
 cast-a : tie.Need-cast-a
 cast-a c = search needs
 
--- src/memory.rt:74:13
 lay-byte-requires : tie.Need-lay-byte-requires
 lay-byte-requires c κs = search needs
 
--- src/memory.rt:75:31
 add-lay-byte : tie.Need-add-lay-byte
 add-lay-byte c = search needs
 
--- src/memory.rt:75:13
 lay-byte-requires-2 : tie.Need-lay-byte-requires-2
 lay-byte-requires-2 c κs = search needs
 
--- src/memory.rt:69:5
 same-length : tie.Need-same-length
 same-length c = search needs
 
--- src/memory.rt:69:5
 returns : tie.Need-returns
 unfolding laidWord
 returns c =
@@ -40,7 +30,6 @@ returns c =
     let i = f .before .before .before in
     rw (← i .before .is-planted .ensures, i .if1 .taken, ← f .lay-byte .ensures) (l .lay-byte2 .ensures)
 
--- src/memory.rt:69:5
 returns-2 : tie.Need-returns-2
 unfolding laidWord
 returns-2 c = rw (← c .before .is-planted .ensures, c .if1 .left)

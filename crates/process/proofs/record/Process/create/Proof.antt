@@ -1,32 +1,24 @@
-use Rattle.lists.proofs.Buffer.{copy-whole}
-use lib.ListN.{replicate}
-use mathlib.Core.Path.{_≡_, refl, sym, ap, _∙_}
-use Rattle.process.specs.Request.{created}
+-- `process::record::Process::create` meets its contract: the zeros cover all of the process's bytes. Assumes nothing.
+use mathlib.Core.Path.{_∙_}
 use borrow.Author.Needs.{needs}
+use lib.ListN.{replicate}
+use Rattle.process.specs.Request.{created}
+use Rattle.lists.proofs.Buffer.{copy-whole}
 use Rattle.process.proofs.record.Process.create.Statement.{statement}
 use Rattle.process.proofs.record.Process.create.Tie as tie
-use Rattle.process.proofs.record.Process.create.Reads as reads
-use Rattle.process.proofs.record.Process.create.Lts as lts
-use Rattle.bytes.proofs.copy.Reads as copy-reads
-use Rattle.process.proofs.record.Process.fresh.Reads as fresh-reads
 
--- src/deposit.rt:83:21
 slice-aggregate-copy : tie.Need-slice-aggregate-copy
 slice-aggregate-copy c = search needs
 
--- src/deposit.rt:83:9
 copy-requires : tie.Need-copy-requires
 copy-requires c κs = search needs
 
--- src/deposit.rt:84:9
 fresh-requires : tie.Need-fresh-requires
 fresh-requires c κs = search needs
 
--- src/deposit.rt:77:5
 same-length : tie.Need-same-length
 same-length c = search needs
 
--- src/deposit.rt:77:5
 returns : tie.Need-returns
 unfolding created
 returns c =

@@ -1,49 +1,37 @@
+-- `process::record::Process::deposit` meets its contract: memory holds what is seen between the two exchanges, and the second one gives every breakpoint the word that is then to be seen. Assumes nothing.
+use mathlib.Core.Path.{_∙_}
+use Prim.Native.Nat.{_+_, _≤_}
+use native.Mathlib.Omega.{arith}
+use borrow.Author.Needs.{needs}
+use lib.Seq.{paste, length-paste}
+use lib.ListN.{length, length-map}
+use Rattle.process.specs.Seen.{seen, sheltered}
+use Rattle.process.specs.Request.{deposited}
 use Rattle.process.proofs.TestedLaws.{tested-exchanged}
 use Rattle.process.proofs.DepositLaws.{map-again}
 use Rattle.process.proofs.SeenLaws.{length-seen}
 use Rattle.lists.proofs.Buffer.{paste-within}
-use Rattle.process.specs.Record.{withBreaks}
-use Rattle.process.specs.Seen.{seen, savedFrom, sheltered}
-use lib.Seq.{paste, length-paste}
-use lib.ListN.{length, length-map}
-use native.Mathlib.Omega.{arith}
-use Prim.Native.Nat.{ℕ, _+_, _≤_}
-use mathlib.Core.List.{List, map}
-use mathlib.Core.Path.{_≡_, refl, sym, ap, _∙_}
-use Rattle.process.specs.Request.{deposited}
-use borrow.Author.Needs.{needs}
 use Rattle.process.proofs.record.Process.deposit.Statement.{statement}
 use Rattle.process.proofs.record.Process.deposit.Tie as tie
-use Rattle.process.proofs.record.Process.deposit.Reads as reads
-use Rattle.process.proofs.record.Process.deposit.Lts as lts
-use Rattle.bytes.proofs.copy.Reads as copy-reads
-use Rattle.process.proofs.record.Process.exchange.Reads as exchange-reads
 
--- src/deposit.rt:33:13
 exchange-requires : tie.Need-exchange-requires
 exchange-requires c κs = search needs
 
--- src/deposit.rt:34:19
 add-end : tie.Need-add-end
 add-end c = search needs
 
--- src/deposit.rt:35:29
 sub-copy : tie.Need-sub-copy
 sub-copy c = search needs
 
--- src/deposit.rt:35:29
 part-copy-start : tie.Need-part-copy-start
 part-copy-start c = search needs
 
--- src/deposit.rt:35:29
 part-copy-end : tie.Need-part-copy-end
 part-copy-end c = search needs
 
--- src/deposit.rt:35:9
 copy-requires : tie.Need-copy-requires
 copy-requires c κs = search needs
 
--- src/deposit.rt:36:9
 exchange-requires-2 : tie.Need-exchange-requires-2
 exchange-requires-2 c κs =
     let k = c .before .before .before in
@@ -59,11 +47,9 @@ exchange-requires-2 c κs =
     rw (e .exchange .ensures .0, k .copy .ensures .1, paste-within (s .args .at) string (e .exchange .last .1 .0), e .exchange .ensures .1)
     (tested-exchanged p m (paste (seen (p .breaks) m) (s .args .at) string (length string)) (s .pre .0) eight size)
 
--- src/deposit.rt:27:5
 same-length : tie.Need-same-length
 same-length c = search needs
 
--- src/deposit.rt:27:5
 returns : tie.Need-returns
 unfolding deposited sheltered
 returns c =

@@ -1,41 +1,28 @@
-use mathlib.Core.Path.{refl, ap}
-use Rattle.process.specs.Request.{endDebugged}
+-- `process::record::Process::end_debug` meets its contract: the exchange leaves what is seen in memory, and the entries go. Assumes nothing.
+use mathlib.Core.Path.{refl}
 use borrow.Author.Needs.{needs}
+use Rattle.process.specs.Request.{endDebugged}
 use Rattle.process.proofs.record.Process.end_debug.Statement.{statement}
 use Rattle.process.proofs.record.Process.end_debug.Tie as tie
-use Rattle.process.proofs.record.Process.end_debug.Reads as reads
-use Rattle.process.proofs.record.Process.end_debug.Lts as lts
-use Rattle.process.proofs.record.Process.exchange.Reads as exchange-reads
-use Rattle.process.proofs.record.Process.with_host.Reads as with-host-reads
-use Rattle.process.proofs.record.Process.with_run.Reads as with-run-reads
-use Rattle.process.proofs.record.Process.without_breaks.Reads as without-breaks-reads
-use Rattle.process.proofs.record.Run.released.Reads as released-reads
 
--- src/request.rt:88:13
 released-requires : tie.Need-released-requires
 released-requires c κs = search needs
 
--- src/request.rt:89:13
 exchange-requires : tie.Need-exchange-requires
 exchange-requires c κs = search needs
 
--- src/request.rt:90:9
 without-breaks-requires : tie.Need-without-breaks-requires
 without-breaks-requires c κs = search needs
 
--- src/request.rt:90:9
 with-host-requires : tie.Need-with-host-requires
 with-host-requires c κs = search needs
 
--- src/request.rt:90:9
 with-run-requires : tie.Need-with-run-requires
 with-run-requires c κs = search needs
 
--- src/request.rt:82:5
 same-length : tie.Need-same-length
 same-length c = search needs
 
--- src/request.rt:82:5
 returns : tie.Need-returns
 unfolding endDebugged
 returns c =

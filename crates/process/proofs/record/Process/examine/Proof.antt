@@ -1,50 +1,38 @@
-use Rattle.process.proofs.ExamineLaws.{part-words}
-use Rattle.lists.proofs.Buffer.{copy-whole}
-use Rattle.process.specs.Seen.{laidWords}
-use lib.Seq.{length-take-le}
-use lib.ListN.{length, take, drop, length-drop}
-use mathlib.Core.List.{List}
+-- `process::record::Process::examine` meets its contract: the saved words laid over a part of memory give that part of the seen memory. Assumes nothing.
+use mathlib.Core.Path.{_≡_, sym, ap, _∙_}
 use Prim.Native.Nat.{ℕ, _+_, _-_, _≤_}
 use native.Mathlib.Omega.{arith}
-use mathlib.Core.Path.{_≡_, refl, sym, ap, _∙_}
-use Rattle.process.specs.Request.{examined}
 use borrow.Author.Needs.{needs}
+use lib.Seq.{length-take-le}
+use lib.ListN.{length, take, drop, length-drop}
+use Rattle.process.specs.Seen.{laidWords}
+use Rattle.process.specs.Request.{examined}
+use Rattle.process.proofs.ExamineLaws.{part-words}
+use Rattle.lists.proofs.Buffer.{copy-whole}
 use Rattle.process.proofs.record.Process.examine.Statement.{statement}
 use Rattle.process.proofs.record.Process.examine.Tie as tie
-use Rattle.process.proofs.record.Process.examine.Reads as reads
-use Rattle.process.proofs.record.Process.examine.Lts as lts
-use Rattle.bytes.proofs.copy.Reads as copy-reads
-use Rattle.process.proofs.record.Process.lay.Reads as lay-reads
 
--- src/deposit.rt:21:19
 add-end : tie.Need-add-end
 add-end c = search needs
 
--- src/deposit.rt:22:21
 sub-copy : tie.Need-sub-copy
 sub-copy c = search needs
 
--- src/deposit.rt:22:21
 part-copy-start : tie.Need-part-copy-start
 part-copy-start c = search needs
 
--- src/deposit.rt:22:21
 part-copy-end : tie.Need-part-copy-end
 part-copy-end c = search needs
 
--- src/deposit.rt:22:9
 copy-requires : tie.Need-copy-requires
 copy-requires c κs = search needs
 
--- src/deposit.rt:23:9
 lay-requires : tie.Need-lay-requires
 lay-requires c κs = search needs
 
--- src/deposit.rt:17:5
 same-length : tie.Need-same-length
 same-length c = search needs
 
--- src/deposit.rt:17:5
 returns : tie.Need-returns
 unfolding examined
 returns c =

@@ -1,22 +1,20 @@
+-- `process::record::Process::exchange` meets its contract. The loop's invariant: the breakpoints passed are put back in memory, and each has the word that was there. That word is still the one of the memory before, since no two breakpoints of a sound record meet. Assumes nothing.
+use mathlib.Core.List.{List, _++_, map}
+use mathlib.Core.Path.{_≡_, refl, sym, ap, _∙_}
+use Prim.Native.Nat.{ℕ, _≤_, _<_, _-_, _+_}
+use native.Mathlib.Omega.{arith}
+use borrow.Author.Needs.{needs}
 use lib.Seq.{take-length}
+use lib.ListN.{length, take, drop, getD, length-map}
+use Rattle.process.specs.Seen.{seen, savedFrom, restored}
+use Rattle.process.specs.Record.{free, withBreaks}
+use Rattle.process.specs.declared.record.Breakpoint.{Breakpoint}
 use Rattle.process.proofs.DepositLaws.{savedFrom-passed}
 use Rattle.process.proofs.TestedLaws.{tested-inside, tested-spaced}
 use Rattle.process.proofs.SeenLaws.{length-seen, seen-step}
 use Rattle.lists.proofs.MapStep.{map-step, map-whole}
-use Rattle.process.specs.Seen.{seen, savedFrom, restored}
-use Rattle.process.specs.Record.{free, withBreaks}
-use Rattle.process.specs.declared.record.Breakpoint.{Breakpoint}
-use lib.ListN.{length, take, drop, getD, length-map, length-append, length-drop}
-use Prim.Native.Nat.{ℕ, _≤_, _<_, _-_, _+_}
-use mathlib.Core.List.{List, _++_, map}
-use mathlib.Core.Path.{_≡_, refl, sym, ap, _∙_}
-use native.Mathlib.Omega.{arith}
-use borrow.Author.Needs.{needs}
 use Rattle.process.proofs.record.Process.exchange.Statement.{statement}
 use Rattle.process.proofs.record.Process.exchange.Tie as tie
-use Rattle.process.proofs.record.Process.exchange.Reads as reads
-use Rattle.process.proofs.record.Process.exchange.Lts as lts
-use Rattle.process.proofs.record.Breakpoint.exchange.Reads as exchange-reads
 
 abbrev Inv-loop : tie.InvT-loop
 Inv-loop self bytes₀ old new₀ k₀ bytes new k =
@@ -25,20 +23,16 @@ Inv-loop self bytes₀ old new₀ k₀ bytes new k =
 abbrev μ-loop : tie.MeasureT-loop
 μ-loop self bytes₀ old new₀ k₀ bytes new k = 8 - k
 
--- src/memory.rt:105:9
 loop-holds : tie.Need-loop-holds Inv-loop μ-loop
 unfolding seen
 loop-holds c = (omega arith, simp length-map at (c .before .before .good .0 .1 .1 .1 .1 .1 .1 .0 .1 .0 .1), refl, refl)
 
--- src/memory.rt:106:21
 mul-b : tie.Need-mul-b Inv-loop μ-loop
 mul-b c = search needs
 
--- src/memory.rt:106:21
 array-copy-out-b : tie.Need-array-copy-out-b Inv-loop μ-loop
 array-copy-out-b c = search needs
 
--- src/memory.rt:107:22
 exchange-requires : tie.Need-exchange-requires Inv-loop μ-loop
 exchange-requires c κs =
     let l = c .before .before .before in
@@ -47,23 +41,18 @@ exchange-requires c κs =
     let same = ap length (l .loop .inv .2) ∙ length-seen (take (l .loop .k) bs) (s .args .bytes .now) in
     λ u. omega (arith, tested-inside (s .args .self) (s .args .bytes .now) (s .pre) (l .loop .k) (c .before .before .loop-test .taken) u, same)
 
--- src/memory.rt:107:13
 mul-new : tie.Need-mul-new Inv-loop μ-loop
 mul-new c = search needs
 
--- src/memory.rt:107:13
 array-set-from-new : tie.Need-array-set-from-new Inv-loop μ-loop
 array-set-from-new c = omega arith
 
--- src/memory.rt:108:13
 add-k : tie.Need-add-k Inv-loop μ-loop
 add-k c = omega arith
 
--- src/memory.rt:105:9
 loop-less : tie.Need-loop-less Inv-loop μ-loop
 loop-less c = omega arith
 
--- src/memory.rt:105:9
 loop-again : tie.Need-loop-again Inv-loop μ-loop
 loop-again c =
     let e = c .before .before in
@@ -80,17 +69,15 @@ loop-again c =
       omega arith,
       eight,
       e .exchange .ensures .1 ∙ ap (restored b) (l .loop .inv .2) ∙ sym (seen-step bs m k below),
-      rw (saved, l .loop .inv .3) (map-step (savedFrom m) free bs k below),
+      rw (saved, l .loop .inv .3) (map-step (savedFrom m) free bs bs k below below),
     )
 
--- src/memory.rt:97:5
 same-length : tie.Need-same-length Inv-loop μ-loop
 same-length c =
     let l = c .before in
     let s = l .before .before .before in
     ap length (l .loop .inv .2) ∙ length-seen (take (l .loop .k) (s .args .self .breaks)) (s .args .bytes .now)
 
--- src/memory.rt:97:5
 returns : tie.Need-returns Inv-loop μ-loop
 returns c =
     let l = c .before in
@@ -100,7 +87,7 @@ returns c =
     let end : l .loop .k ≡ 8 = omega arith in
     let all : length bs ≡ l .loop .k = omega arith in
     let whole : take (l .loop .k) bs ≡ bs = rw (← all) (take-length bs) in (
-      ap (λ (x : List Breakpoint). withBreaks x (s .args .self)) (l .loop .inv .3 ∙ map-whole (savedFrom m) free bs (l .loop .k) all),
+      ap (λ (x : List Breakpoint). withBreaks x (s .args .self)) (l .loop .inv .3 ∙ map-whole (savedFrom m) free bs bs (l .loop .k) (omega arith) (omega arith)),
       l .loop .inv .2 ∙ ap (λ (x : List Breakpoint). seen x m) whole,
     )
 

@@ -1,16 +1,12 @@
-use Rattle.process.specs.Request.{hasBreak}
+-- `process::record::Process::has_break` meets its contract: that of the search. Assumes nothing.
 use borrow.Author.Needs.{needs}
+use Rattle.process.specs.Request.{hasBreak}
 use Rattle.process.proofs.record.Process.has_break.Statement.{statement}
 use Rattle.process.proofs.record.Process.has_break.Tie as tie
-use Rattle.process.proofs.record.Process.has_break.Reads as reads
-use Rattle.process.proofs.record.Process.has_break.Lts as lts
-use Rattle.process.proofs.record.Process.find.Reads as find-reads
 
--- src/request.rt:59:9
 find-requires : tie.Need-find-requires
 find-requires c κs = search needs
 
--- src/request.rt:56:5
 returns : tie.Need-returns
 unfolding hasBreak
 returns c = rw (c .find .ensures)

@@ -1,18 +1,16 @@
-use Rattle.process.proofs.SeenLaws.{laidWords-step, length-laidWord}
+-- `process::record::Process::lay` meets its contract. The loop's invariant: what is left to lay gives what laying all gives. Assumes nothing.
+use mathlib.Core.List.{List}
+use mathlib.Core.Path.{_≡_, refl, sym, ap, _∙_}
+use Prim.Native.Nat.{_≤_, _-_, _+_}
+use native.Mathlib.Omega.{arith}
+use borrow.Author.Needs.{needs}
+use lib.ListN.{length, drop, getD, length-map, drop-of-length-le}
 use Rattle.process.specs.declared.record.Breakpoint.{Breakpoint}
 use Rattle.process.specs.Record.{free}
 use Rattle.process.specs.Seen.{laidWords}
-use lib.ListN.{length, drop, getD, length-map, drop-of-length-le}
-use mathlib.Core.List.{List}
-use Prim.Native.Nat.{_≤_, _<_, _-_, _+_}
-use mathlib.Core.Path.{_≡_, refl, sym, ap, _∙_}
-use native.Mathlib.Omega.{arith}
-use borrow.Author.Needs.{needs}
+use Rattle.process.proofs.SeenLaws.{laidWords-step, length-laidWord}
 use Rattle.process.proofs.record.Process.lay.Statement.{statement}
 use Rattle.process.proofs.record.Process.lay.Tie as tie
-use Rattle.process.proofs.record.Process.lay.Reads as reads
-use Rattle.process.proofs.record.Process.lay.Lts as lts
-use Rattle.process.proofs.record.Breakpoint.lay.Reads as lay-reads
 
 abbrev Inv-loop : tie.InvT-loop
 Inv-loop at out₀ breaks k₀ out k =
@@ -21,31 +19,24 @@ Inv-loop at out₀ breaks k₀ out k =
 abbrev μ-loop : tie.MeasureT-loop
 μ-loop at out₀ breaks k₀ out k = 8 - k
 
--- src/memory.rt:87:9
 loop-holds : tie.Need-loop-holds Inv-loop μ-loop
 loop-holds c = (omega arith, simp length-map at (c .before .before .good .0 .1 .1 .1 .1 .1 .1 .0 .1 .0 .1), refl, refl)
 
--- src/memory.rt:88:21
 mul-b : tie.Need-mul-b Inv-loop μ-loop
 mul-b c = search needs
 
--- src/memory.rt:88:21
 array-copy-out-b : tie.Need-array-copy-out-b Inv-loop μ-loop
 array-copy-out-b c = search needs
 
--- src/memory.rt:89:13
 lay-requires : tie.Need-lay-requires Inv-loop μ-loop
 lay-requires c κs = search needs
 
--- src/memory.rt:90:13
 add-k : tie.Need-add-k Inv-loop μ-loop
 add-k c = omega arith
 
--- src/memory.rt:87:9
 loop-less : tie.Need-loop-less Inv-loop μ-loop
 loop-less c = omega arith
 
--- src/memory.rt:87:9
 loop-again : tie.Need-loop-again Inv-loop μ-loop
 loop-again c =
     let d = c .before .before in
@@ -59,11 +50,9 @@ loop-again c =
           ∙ ap (laidWords (a .at) (drop (l .loop .k + 1) (a .self .breaks))) (sym (d .lay .ensures)),
     )
 
--- src/memory.rt:82:5
 same-length : tie.Need-same-length Inv-loop μ-loop
 same-length c = omega arith
 
--- src/memory.rt:82:5
 returns : tie.Need-returns Inv-loop μ-loop
 unfolding laidWords
 returns c =

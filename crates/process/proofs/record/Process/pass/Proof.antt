@@ -1,37 +1,26 @@
-use lib.ListN.{length-map}
-use Rattle.process.proofs.PlantingLaws.{inside-entry}
-use mathlib.Core.Path.{_≡_, refl, sym, ap, _∙_}
-use Rattle.process.specs.Report.{passed}
+-- `process::record::Process::pass` meets its contract: that of lifting, with the count fallen. Assumes nothing.
 use borrow.Author.Needs.{needs}
+use lib.ListN.{length-map}
+use Rattle.process.specs.Report.{passed}
+use Rattle.process.proofs.PlantingLaws.{inside-entry}
 use Rattle.process.proofs.record.Process.pass.Statement.{statement}
 use Rattle.process.proofs.record.Process.pass.Tie as tie
-use Rattle.process.proofs.record.Process.pass.Reads as reads
-use Rattle.process.proofs.record.Process.pass.Lts as lts
-use Rattle.process.proofs.record.Breakpoint.with_count.Reads as with-count-reads
-use Rattle.process.proofs.record.Process.lift_in.Reads as lift-in-reads
-use Rattle.process.proofs.record.Process.with_entry.Reads as with-entry-reads
 
--- src/report.rt:74:17
 mul-b : tie.Need-mul-b
 mul-b c = search needs
 
--- src/report.rt:74:17
 element-copy-out-b : tie.Need-element-copy-out-b
 element-copy-out-b c = search needs
 
--- src/report.rt:75:49
 sub-with-count : tie.Need-sub-with-count
 sub-with-count c = search needs
 
--- src/report.rt:75:36
 with-count-requires : tie.Need-with-count-requires
 with-count-requires c κs = search needs
 
--- src/report.rt:75:13
 with-entry-requires : tie.Need-with-entry-requires
 with-entry-requires c κs = search needs
 
--- src/report.rt:76:9
 lift-in-requires : tie.Need-lift-in-requires
 lift-in-requires c κs =
     let e = c .before in
@@ -41,11 +30,9 @@ lift-in-requires c κs =
     let k = s .args .k in
     (s .pre .0, rw (e .with-entry .ensures, w .with-count .ensures) (inside-entry (s .args .t1) (s .args .bytes .now) k _ eight (s .pre .0) (s .pre .1) (s .pre .1 k (s .pre .0))))
 
--- src/report.rt:69:5
 same-length : tie.Need-same-length
 same-length c = search needs
 
--- src/report.rt:69:5
 returns : tie.Need-returns
 unfolding passed
 returns c =

@@ -1,36 +1,27 @@
+-- `process::record::Process::passes` meets its contract: at each `return` the tests that led there say its value. Assumes nothing.
 use borrow.Author.Tests.{eq-eqb, ne-eqb, lt-ltb, le-ltb}
+use borrow.Author.Needs.{needs}
 use Rattle.process.specs.Request.{hasBreak}
 use Rattle.process.specs.Report.{passes}
-use borrow.Author.Needs.{needs}
 use Rattle.process.proofs.record.Process.passes.Statement.{statement}
 use Rattle.process.proofs.record.Process.passes.Tie as tie
-use Rattle.process.proofs.record.Process.passes.Reads as reads
-use Rattle.process.proofs.record.Process.passes.Lts as lts
-use Rattle.process.proofs.record.Process.find.Reads as find-reads
-use Rattle.process.proofs.record.Process.pc.Reads as pc-reads
 
--- src/report.rt:58:13
 returns : tie.Need-returns
 unfolding passes
 returns c = rw (ne-eqb _ _ (c .if1 .taken))
 
--- src/report.rt:60:36
 pc-requires : tie.Need-pc-requires
 pc-requires c κs = search needs
 
--- src/report.rt:60:13
 find-requires : tie.Need-find-requires
 find-requires c κs = search needs
 
--- src/report.rt:62:21
 mul-b : tie.Need-mul-b
 mul-b c = search needs
 
--- src/report.rt:62:21
 element-copy-out-b : tie.Need-element-copy-out-b
 element-copy-out-b c = search needs
 
--- src/report.rt:63:13
 returns-2 : tie.Need-returns-2
 unfolding passes hasBreak
 returns-2 c =
@@ -39,7 +30,6 @@ returns-2 c =
     let p = f .before in
     rw (eq-eqb _ _ (p .before .if1 .left), ← p .pc .ensures, ← f .find .ensures, lt-ltb _ _ (i .if2 .taken))
 
--- src/report.rt:54:5
 returns-3 : tie.Need-returns-3
 unfolding passes hasBreak
 returns-3 c =

@@ -1,32 +1,23 @@
-use Rattle.process.proofs.TestedLaws.{tested-inside}
-use mathlib.Core.Path.{refl, ap}
-use Rattle.process.specs.Request.{proceeded}
+-- `process::record::Process::proceed` meets its contract: that of lifting at PC. Assumes nothing.
+use mathlib.Core.Path.{refl}
 use borrow.Author.Needs.{needs}
+use Rattle.process.specs.Request.{proceeded}
+use Rattle.process.proofs.TestedLaws.{tested-inside}
 use Rattle.process.proofs.record.Process.proceed.Statement.{statement}
 use Rattle.process.proofs.record.Process.proceed.Tie as tie
-use Rattle.process.proofs.record.Process.proceed.Reads as reads
-use Rattle.process.proofs.record.Process.proceed.Lts as lts
-use Rattle.process.proofs.record.Process.lift_at.Reads as lift-at-reads
-use Rattle.process.proofs.record.Process.pc.Reads as pc-reads
-use Rattle.process.proofs.record.Process.with_run.Reads as with-run-reads
 
--- src/request.rt:130:30
 pc-requires : tie.Need-pc-requires
 pc-requires c κs = search needs
 
--- src/request.rt:130:13
 lift-at-requires : tie.Need-lift-at-requires
 lift-at-requires c κs = let s = c .before .before .before in tested-inside (s .args .self) (s .args .bytes .now) (s .pre)
 
--- src/request.rt:131:9
 with-run-requires : tie.Need-with-run-requires
 with-run-requires c κs = search needs
 
--- src/request.rt:125:5
 same-length : tie.Need-same-length
 same-length c = search needs
 
--- src/request.rt:125:5
 returns : tie.Need-returns
 unfolding proceeded
 returns c =

@@ -1,30 +1,23 @@
+-- `process::record::Process::replant` meets its contract, by whether there is a lifted breakpoint; its word is within the bytes, since it is in use. Assumes nothing.
 use mathlib.Core.Path.{refl}
-use lib.ListN.{length-map}
-use Rattle.process.proofs.FindLaws.{find-matches, matches-lifted}
-use Rattle.process.specs.declared.find.Want.the-variants.{Lifted}
 use borrow.Author.Tests.{lt-ltb, le-ltb}
-use Rattle.process.specs.Planting.{replanted}
 use borrow.Author.Needs.{needs}
+use lib.ListN.{length-map}
+use Rattle.process.specs.declared.find.Want.the-variants.{Lifted}
+use Rattle.process.specs.Planting.{replanted}
+use Rattle.process.proofs.FindLaws.{find-matches, matches-lifted}
 use Rattle.process.proofs.record.Process.replant.Statement.{statement}
 use Rattle.process.proofs.record.Process.replant.Tie as tie
-use Rattle.process.proofs.record.Process.replant.Reads as reads
-use Rattle.process.proofs.record.Process.replant.Lts as lts
-use Rattle.process.proofs.record.Process.find.Reads as find-reads
-use Rattle.process.proofs.record.Process.plant_in.Reads as plant-in-reads
 
--- src/planting.rt:56:13
 find-requires : tie.Need-find-requires
 find-requires c κs = search needs
 
--- src/planting.rt:58:21
 mul-b : tie.Need-mul-b
 mul-b c = search needs
 
--- src/planting.rt:58:21
 element-copy-out-b : tie.Need-element-copy-out-b
 element-copy-out-b c = search needs
 
--- src/planting.rt:59:13
 plant-in-requires : tie.Need-plant-in-requires
 plant-in-requires c κs =
     let i = c .before .before in
@@ -36,11 +29,9 @@ plant-in-requires c κs =
     let u = rw (← f .find .ensures) at (matches-lifted _ (find-matches Lifted (s .args .t1) eight (rw (f .find .ensures) at low)) .0) in
     (low, s .pre k low u)
 
--- src/planting.rt:59:13
 same-length : tie.Need-same-length
 same-length c = search needs
 
--- src/planting.rt:59:13
 returns : tie.Need-returns
 unfolding replanted
 returns c =
@@ -48,7 +39,6 @@ returns c =
     let i = w .before .before .before in
     rw (← i .before .find .ensures, lt-ltb _ _ (i .if1 .taken)) (w .plant-in .ensures)
 
--- src/planting.rt:51:5
 returns-2 : tie.Need-returns-2
 unfolding replanted
 returns-2 c = rw (← c .before .find .ensures, le-ltb _ _ (c .if1 .left)) (refl, refl)

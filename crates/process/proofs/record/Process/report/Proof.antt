@@ -1,41 +1,28 @@
+-- `process::record::Process::report` meets its contract, by whether the report is passed silently. Assumes nothing.
+use mathlib.Core.Path.{_≡_, refl, sym, _∙_}
+use borrow.Author.Needs.{needs}
+use lib.ListN.{length-map}
+use Rattle.process.specs.Local.{local}
+use Rattle.process.specs.Record.{withVector}
+use Rattle.process.specs.Report.{recorded, passes, reported}
 use Rattle.process.proofs.ReportLaws.{passes-found, passes-count}
 use Rattle.process.proofs.PlantingLaws.{inside-replanted}
 use Rattle.process.proofs.TestedLaws.{tested-inside}
-use Rattle.process.specs.Local.{Local, local}
-use Rattle.process.specs.Record.{withVector}
-use lib.ListN.{length-map}
-use mathlib.Core.Path.{_≡_, refl, sym, ap, _∙_}
-use Rattle.process.specs.Report.{recorded, passes, reported}
-use borrow.Author.Needs.{needs}
 use Rattle.process.proofs.record.Process.report.Statement.{statement}
 use Rattle.process.proofs.record.Process.report.Tie as tie
-use Rattle.process.proofs.record.Process.report.Reads as reads
-use Rattle.process.proofs.record.Process.report.Lts as lts
-use Rattle.process.proofs.record.Process.find.Reads as find-reads
-use Rattle.process.proofs.record.Process.pass.Reads as pass-reads
-use Rattle.process.proofs.record.Process.passes.Reads as passes-reads
-use Rattle.process.proofs.record.Process.pc.Reads as pc-reads
-use Rattle.process.proofs.record.Process.settle.Reads as settle-reads
-use Rattle.process.proofs.record.Process.with_run.Reads as with-run-reads
-use Rattle.process.proofs.record.Run.after.Reads as after-reads
 
--- src/report.rt:96:13
 settle-requires : tie.Need-settle-requires
 settle-requires c κs = let s = c .before .before in tested-inside (s .args .self) (s .args .bytes .now) (s .pre)
 
--- src/report.rt:97:12
 passes-requires : tie.Need-passes-requires
 passes-requires c κs = search needs
 
--- src/report.rt:98:44
 pc-requires : tie.Need-pc-requires
 pc-requires c κs = search needs
 
--- src/report.rt:98:28
 find-requires : tie.Need-find-requires
 find-requires c κs = search needs
 
--- src/report.rt:98:17
 pass-requires : tie.Need-pass-requires
 unfolding recorded
 pass-requires c κs =
@@ -55,11 +42,9 @@ pass-requires c κs =
       passes-count (a .kind) (r .settle .result) yes,
     )
 
--- src/report.rt:99:13
 same-length : tie.Need-same-length
 same-length c = search needs
 
--- src/report.rt:99:13
 returns : tie.Need-returns
 unfolding reported
 returns c =
@@ -76,19 +61,15 @@ returns c =
     rw (whole, ← p .pc .ensures, ← f .find .ensures, ← q .passes .ensures, i .if1 .taken)
     (w .pass .ensures .0, (refl, w .pass .ensures .1))
 
--- src/report.rt:104:28
 after-requires : tie.Need-after-requires
 after-requires c κs = search needs
 
--- src/report.rt:104:13
 with-run-requires : tie.Need-with-run-requires
 with-run-requires c κs = search needs
 
--- src/report.rt:90:5
 same-length-2 : tie.Need-same-length-2
 same-length-2 c = search needs
 
--- src/report.rt:90:5
 returns-2 : tie.Need-returns-2
 unfolding reported
 returns-2 c =

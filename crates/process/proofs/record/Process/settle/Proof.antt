@@ -1,25 +1,18 @@
-use Rattle.process.specs.Report.{recorded}
+-- `process::record::Process::settle` meets its contract: that of planting again, with the vector stored. Assumes nothing.
 use borrow.Author.Needs.{needs}
+use Rattle.process.specs.Report.{recorded}
 use Rattle.process.proofs.record.Process.settle.Statement.{statement}
 use Rattle.process.proofs.record.Process.settle.Tie as tie
-use Rattle.process.proofs.record.Process.settle.Reads as reads
-use Rattle.process.proofs.record.Process.settle.Lts as lts
-use Rattle.process.proofs.record.Process.replant.Reads as replant-reads
-use Rattle.process.proofs.record.Process.with_vector.Reads as with-vector-reads
 
--- src/report.rt:85:13
 with-vector-requires : tie.Need-with-vector-requires
 with-vector-requires c κs = search needs
 
--- src/report.rt:86:9
 replant-requires : tie.Need-replant-requires
 replant-requires c κs = rw (c .before .with-vector .ensures) (c .before .before .before .pre)
 
--- src/report.rt:80:5
 same-length : tie.Need-same-length
 same-length c = search needs
 
--- src/report.rt:80:5
 returns : tie.Need-returns
 unfolding recorded
 returns c =

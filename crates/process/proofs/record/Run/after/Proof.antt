@@ -1,21 +1,17 @@
+-- `process::record::Run::after` meets its contract, by the kinds. Assumes nothing.
 use borrow.Author.Tests.{eq-eqb, ne-eqb}
 use Rattle.process.specs.Report.{runAfter}
 use Rattle.process.proofs.record.Run.after.Statement.{statement}
 use Rattle.process.proofs.record.Run.after.Tie as tie
-use Rattle.process.proofs.record.Run.after.Reads as reads
-use Rattle.process.proofs.record.Run.after.Lts as lts
 
--- src/report.rt:43:13
 returns : tie.Need-returns
 unfolding runAfter
 returns c = rw (eq-eqb _ _ (c .if1 .taken))
 
--- src/report.rt:46:13
 returns-2 : tie.Need-returns-2
 unfolding runAfter
 returns-2 c = rw (ne-eqb _ _ (c .before .if1 .left), eq-eqb _ _ (c .if2 .taken))
 
--- src/report.rt:39:5
 returns-3 : tie.Need-returns-3
 unfolding runAfter
 returns-3 c = rw (ne-eqb _ _ (c .before .if1 .left), ne-eqb _ _ (c .if2 .left))

@@ -1,0 +1,36 @@
+-- The gateway's state: 'processes 0 to 7, each there or not'.
+use mathlib.Core.Bool.{Bool, true, false}
+use mathlib.Core.List.{List, [], map}
+use Prim.Native.Nat.{ℕ, _<_}
+use lib.ListN.{getD, set}
+use Rattle.lists.specs.Every.{below}
+use Rattle.process.specs.declared.record.Process.{Process}
+use Rattle.process.specs.declared.record.Run.the-variants.{Running}
+use Rattle.process.specs.Record.{fresh}
+use Rattle.process.specs.Sound.{Sound}
+use Rattle.process.specs.Sound.{soundTest as soundProcess}
+use Rattle.state.specs.declared.gateway.Gateway.{Gateway}
+
+-- what is read past the eight records; nothing reads there
+abbrev pub nobody : Process
+nobody = record { there = false; host = 0; run = Running; vector = []; breaks = [] }
+
+-- the record of process p
+abbrev pub processAt : Gateway → ℕ → Process
+processAt g p = getD (g .processes) p nobody
+
+-- the state with another record of process p
+abbrev pub withProcess : ℕ → Process → Gateway → Gateway
+withProcess p q g = record { processes = set (g .processes) p q }
+
+-- 'A state is sound when': each process's record is
+abbrev pub SoundState : Gateway → Type 0
+SoundState g = (p : ℕ) → p < 8 → Sound (processAt g p)
+
+-- the test of soundness
+unfoldable pub soundTest : Gateway → Bool
+soundTest g = below (λ (p : ℕ). soundProcess (processAt g p)) 8
+
+-- 'At a fresh start a given set of processes is there, running, with no host and zero vectors; every other record is cleared'
+unfoldable pub freshStart : List Bool → Gateway
+freshStart there = record { processes = map (λ (t : Bool). fresh t 0 Running) there }

@@ -1,0 +1,20 @@
+-- The bytes of each process in the lent memory.
+use mathlib.Core.List.{List, [], _∷_, _++_}
+use Prim.Native.Nat.{ℕ}
+use lib.ListN.{take, drop, getD}
+
+-- '4,096 bytes each, lent as one buffer of 32,768 bytes, process p from byte 4,096 × p'
+abbrev pub starts : List ℕ
+starts = 0 ∷ 4096 ∷ 8192 ∷ 12288 ∷ 16384 ∷ 20480 ∷ 24576 ∷ 28672 ∷ []
+
+-- the index of the first byte of process p
+unfoldable pub startOf : ℕ → ℕ
+startOf p = getD starts p 0
+
+-- the bytes of process p
+unfoldable pub slot : ℕ → List ℕ → List ℕ
+slot p memory = take 4096 (drop (startOf p) memory)
+
+-- the memory with other bytes of process p
+unfoldable pub withSlot : ℕ → List ℕ → List ℕ → List ℕ
+withSlot p bytes memory = take (startOf p) memory ++ (bytes ++ drop 4096 (drop (startOf p) memory))
