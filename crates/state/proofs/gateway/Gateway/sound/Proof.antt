@@ -6,6 +6,7 @@ use native.Mathlib.Omega.{arith}
 use borrow.Author.Tests.{not-true, not-false}
 use borrow.Author.Needs.{needs}
 use lib.ListN.{getD}
+use Rattle.process.specs.Sound.{soundTest as soundProcess}
 use Rattle.state.specs.Gateway.{nobody, soundTest}
 use Rattle.lists.specs.Every.{below}
 use Rattle.lists.proofs.Every.{below-more, below-fails}
