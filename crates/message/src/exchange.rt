@@ -26,7 +26,7 @@ fn write_number(found: Found, h: Header, carried: usize, buffer: &[u8]) -> u8
 }
 
 // The header of a message whose string, of this length, stands behind the tenth byte already.
-pub fn write_head(found: Found, h: Header, carried: usize, buffer: &mut [u8]) -> Outcome
+pub(crate) fn write_head(found: Found, h: Header, carried: usize, buffer: &mut [u8]) -> Outcome
     ensures { λ r. ⌜ r ≡ headAs found h carried (now (buffer .entry)) .outcome ⌝ }
     ensures { λ _. ⌜ now (buffer .exit) ≡ headAs found h carried (now (buffer .entry)) .buffer ⌝ }
 {
@@ -39,7 +39,7 @@ pub fn write_head(found: Found, h: Header, carried: usize, buffer: &mut [u8]) ->
 }
 
 // A message: its header, and its string behind it.
-pub fn write(found: Found, h: Header, string: &[u8], buffer: &mut [u8]) -> Outcome
+pub(crate) fn write(found: Found, h: Header, string: &[u8], buffer: &mut [u8]) -> Outcome
     ensures { λ r. ⌜ r ≡ writeAs found h (now (string .entry)) (now (buffer .entry)) .outcome ⌝ }
     ensures { λ _. ⌜ now (buffer .exit) ≡ writeAs found h (now (string .entry)) (now (buffer .entry)) .buffer ⌝ }
 {
@@ -53,7 +53,7 @@ pub fn write(found: Found, h: Header, string: &[u8], buffer: &mut [u8]) -> Outco
 }
 
 // The fields of a message of ten bytes or more, or the number of the first test that fails.
-pub fn read(found: Found, h: Header, message: &[u8]) -> Reading
+pub(crate) fn read(found: Found, h: Header, message: &[u8]) -> Reading
     requires { ⌜ 10 ≤ length (now message) ⌝ }
     requires { ⌜ h ≡ headerOf (now message) ⌝ }
     ensures { λ r. ⌜ r ≡ readAs found (now (message .entry)) ⌝ }

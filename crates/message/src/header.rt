@@ -20,7 +20,7 @@ pub struct Header {
 
 impl Header {
     // The ten bytes go to the start of a buffer.
-    pub fn put(self, buffer: &mut [u8])
+    pub(crate) fn put(self, buffer: &mut [u8])
         requires { ⌜ 10 ≤ length (now buffer) ⌝ }
         ensures { λ _. ⌜ now (buffer .exit) ≡ overlay (header self) (now (buffer .entry)) ⌝ }
     {
@@ -37,7 +37,7 @@ impl Header {
     }
 
     // The fields in a message's first ten bytes.
-    pub fn of(message: &[u8]) -> Header
+    pub(crate) fn of(message: &[u8]) -> Header
         requires { ⌜ 10 ≤ length (now message) ⌝ }
         ensures { λ r. ⌜ r ≡ headerOf (now (message .entry)) ⌝ }
     {
@@ -52,7 +52,7 @@ impl Header {
 }
 
 // A string goes behind the tenth byte of a buffer.
-pub fn put_string(string: &[u8], buffer: &mut [u8])
+pub(crate) fn put_string(string: &[u8], buffer: &mut [u8])
     requires { ⌜ 10 + length (now string) ≤ length (now buffer) ⌝ }
     ensures { λ _. ⌜ now (buffer .exit) ≡ paste (now (buffer .entry)) 10 (now (string .entry)) (length (now (string .entry))) ⌝ }
 {
@@ -60,7 +60,7 @@ pub fn put_string(string: &[u8], buffer: &mut [u8])
 }
 
 // TYPE, LINK and STYPE are right.
-pub fn fixed_right(message: &[u8]) -> bool
+pub(crate) fn fixed_right(message: &[u8]) -> bool
     requires { ⌜ 10 ≤ length (now message) ⌝ }
     ensures { λ r. ⌜ r ≡ fixedRight (now (message .entry)) ⌝ }
 {

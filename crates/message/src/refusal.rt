@@ -70,7 +70,7 @@ fn misfits(f: Form, h: Header, length: usize) -> bool
 }
 
 // The number of the first test that fails, or 0.
-pub fn refusal(fixed: bool, found: Found, h: Header, length: usize) -> u8
+pub(crate) fn refusal(fixed: bool, found: Found, h: Header, length: usize) -> u8
     ensures { λ r. ⌜ r ≡ firstFailing (layoutTests fixed found h length) ⌝ }
 {
     if wrong_length(length) {

@@ -12,7 +12,7 @@ pub enum Want {
 }
 
 impl Breakpoint {
-    pub fn is(self, want: Want) -> bool
+    pub(crate) fn is(self, want: Want) -> bool
         ensures { λ r. ⌜ r ≡ matches want self ⌝ }
     {
         match want {
@@ -25,7 +25,7 @@ impl Breakpoint {
 
 impl Process {
     // The first entry that is wanted, or 8.
-    pub fn find(self, want: Want) -> usize
+    pub(crate) fn find(self, want: Want) -> usize
         ensures { λ r. ⌜ r ≡ find want self ⌝ }
     {
         let breaks = self.breaks;

@@ -14,7 +14,7 @@ ghost use Rattle.process.specs.Record.{withBreaks};
 ghost use Rattle.process.specs.Seen.{putWord, isPlanted, restored, seen, savedFrom, laidByte, laidWord, laidWords};
 
 // The bytes low and high at address a.
-pub fn put_word(bytes: &mut [u8], a: usize, low: u8, high: u8)
+pub(crate) fn put_word(bytes: &mut [u8], a: usize, low: u8, high: u8)
     requires { ⌜ a + 1 < length (now bytes) ⌝ }
     ensures { λ _. ⌜ now (bytes .exit) ≡ putWord a low high (now (bytes .entry)) ⌝ }
 {
@@ -35,14 +35,14 @@ fn lay_byte(out: &mut [u8], at: usize, i: usize, v: u8)
 }
 
 impl Breakpoint {
-    pub fn is_planted(self) -> bool
+    pub(crate) fn is_planted(self) -> bool
         ensures { λ r. ⌜ r ≡ isPlanted self ⌝ }
     {
         if self.used { !self.lifted } else { false }
     }
 
     // The saved word is put back, if the breakpoint is planted.
-    pub fn restore(self, bytes: &mut [u8])
+    pub(crate) fn restore(self, bytes: &mut [u8])
         requires { ⌜ (self .used ≡ true → self .address + 1 < length (now bytes)) ⌝ }
         ensures { λ _. ⌜ now (bytes .exit) ≡ restored self (now (bytes .entry)) ⌝ }
     {

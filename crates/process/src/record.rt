@@ -34,7 +34,7 @@ pub struct Process {
 
 impl Breakpoint {
     // An entry that is not in use.
-    pub fn free() -> Self
+    pub(crate) fn free() -> Self
         ensures { λ r. ⌜ r ≡ free ⌝ }
     {
         Breakpoint {
@@ -48,7 +48,7 @@ impl Breakpoint {
     }
 
     // A planted breakpoint with this saved word.
-    pub fn planted(address: u16, count: u16, low: u8, high: u8) -> Self
+    pub(crate) fn planted(address: u16, count: u16, low: u8, high: u8) -> Self
         ensures { λ r. ⌜ r ≡ planted address count low high ⌝ }
     {
         Breakpoint {
@@ -61,14 +61,14 @@ impl Breakpoint {
         }
     }
 
-    pub fn with_count(mut self, count: u16) -> Self
+    pub(crate) fn with_count(mut self, count: u16) -> Self
         ensures { λ r. ⌜ r ≡ withCount count self ⌝ }
     {
         self.count = count;
         self
     }
 
-    pub fn with_saved(mut self, low: u8, high: u8) -> Self
+    pub(crate) fn with_saved(mut self, low: u8, high: u8) -> Self
         ensures { λ r. ⌜ r ≡ withSaved low high self ⌝ }
     {
         self.low = low;
@@ -76,7 +76,7 @@ impl Breakpoint {
         self
     }
 
-    pub fn with_lifted(mut self) -> Self
+    pub(crate) fn with_lifted(mut self) -> Self
         ensures { λ r. ⌜ r ≡ withLifted self ⌝ }
     {
         self.lifted = true;
@@ -101,14 +101,14 @@ impl Process {
         }
     }
 
-    pub fn with_host(mut self, host: u8) -> Self
+    pub(crate) fn with_host(mut self, host: u8) -> Self
         ensures { λ r. ⌜ r ≡ withHost host self ⌝ }
     {
         self.host = host;
         self
     }
 
-    pub fn with_run(self, run: Run) -> Self
+    pub(crate) fn with_run(self, run: Run) -> Self
         ensures { λ r. ⌜ r ≡ withRun run self ⌝ }
     {
         let vector = self.vector;
@@ -122,7 +122,7 @@ impl Process {
         }
     }
 
-    pub fn with_vector(mut self, vector: [u16; 9]) -> Self
+    pub(crate) fn with_vector(mut self, vector: [u16; 9]) -> Self
         ensures { λ r. ⌜ r ≡ withVector vector self ⌝ }
     {
         self.vector = vector;
@@ -130,7 +130,7 @@ impl Process {
     }
 
     // With another breakpoint in entry k.
-    pub fn with_entry(mut self, k: usize, b: Breakpoint) -> Self
+    pub(crate) fn with_entry(mut self, k: usize, b: Breakpoint) -> Self
         requires { ⌜ k < 8 ⌝ }
         ensures { λ r. ⌜ r ≡ withEntry k b self ⌝ }
     {
@@ -138,7 +138,7 @@ impl Process {
         self
     }
 
-    pub fn without_breaks(mut self) -> Self
+    pub(crate) fn without_breaks(mut self) -> Self
         ensures { λ r. ⌜ r ≡ withBreaks noBreaks self ⌝ }
     {
         let none = Breakpoint::free();

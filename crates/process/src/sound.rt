@@ -24,7 +24,7 @@ impl Run {
 
 impl Breakpoint {
     // At an even address, at most 4,094.
-    pub fn placed(self) -> bool
+    fn placed(self) -> bool
         ensures { λ r. ⌜ r ≡ placed (self .address) ⌝ }
     {
         let a = self.address;
