@@ -62,11 +62,11 @@ known-form cmd e = go (ltb cmd (length ops)) refl e
     go true p q = ltb-true cmd (length ops) p
     go false p q = absurd (false≢true (sym q))
 
-requestForm-known : (cmd : ℕ) → cmd < length ops → requestForm cmd ≡ Known (asks (op cmd))
+pub requestForm-known : (cmd : ℕ) → cmd < length ops → requestForm cmd ≡ Known (asks (op cmd))
 unfolding requestForm rowOf
 requestForm-known cmd h = rw (lt-ltb cmd (length ops) h)
 
-asked-passed : (fixed : Bool) (h : Header) (n : ℕ) → Passed fixed (requestForm (h .cmd)) h n → Asked h
+pub asked-passed : (fixed : Bool) (h : Header) (n : ℕ) → Passed fixed (requestForm (h .cmd)) h n → Asked h
 unfolding wrongHeader misfits
 asked-passed fixed h n p =
     let known = known-form (h .cmd) (p .known) in

@@ -1,0 +1,157 @@
+-- 'What an outsider's answers may rest on', and 'The lists of demand 3'.
+use mathlib.Core.Path.{_≡_}
+use mathlib.Core.Bool.{Bool, true, false, not, cond, _&&_, _||_}
+use mathlib.Core.List.{List, [], _∷_, _++_}
+use Prim.Native.Nat.{ℕ, _<_}
+use lib.ListN.{length, take, getD}
+use lib.Dec.{leb, ltb, eqb}
+use Rattle.message.specs.declared.outcome.Outcome.{Outcome}
+use Rattle.message.specs.declared.outcome.Outcome.the-variants.{Granted, Refused}
+use Rattle.message.specs.Layout.{headerOf}
+use Rattle.state.specs.Slot.{slot}
+use Rattle.rules.specs.Rule.{Public, public, names, creates}
+use Rattle.rules.specs.Tests.{State, recordOf}
+use Rattle.rules.specs.Step.{Answer, Call, request, report, store, step}
+use Rattle.rules.specs.Ready.{Ready}
+use Rattle.rules.specs.Run.{Entry, run, final, leave}
+
+-- a set of hosts, and a set of processes
+abbrev pub Hosts : Type 0
+Hosts = ℕ → Bool
+
+abbrev pub Processes : Type 0
+Processes = ℕ → Bool
+
+-- ---- messages
+
+-- 'its second byte, HOST'
+abbrev pub hostOf : List ℕ → ℕ
+hostOf m = headerOf m .host
+
+abbrev pub cmdOf : List ℕ → ℕ
+cmdOf m = headerOf m .cmd
+
+abbrev pub pidOf : List ℕ → ℕ
+pidOf m = headerOf m .pid
+
+-- 'It names P if it has ten bytes or more, its CMD uses PID, and PID is P.'
+unfoldable pub namesOne : Processes → List ℕ → Bool
+namesOne P m = leb 10 (length m) && (names (cmdOf m) && P (pidOf m))
+
+-- 'DEPOSIT and DEPOSIT STATE VECTOR'
+abbrev pub deposits : ℕ → Bool
+deposits cmd = eqb cmd 4 || eqb cmd 7
+
+-- ---- who debugs, as the calls and their answers tell it
+
+unfoldable pub isGranted : Outcome → Bool
+isGranted (Granted n) = true
+isGranted (Refused n) = false
+
+-- 'from a granted DEBUG .. the asker; from a granted END DEBUG or DESTROY nobody'
+unfoldable pub publicThen : ℕ → ℕ → Public → Public
+publicThen cmd asker u =
+    cond (eqb cmd 1) (record { there = u .there; host = asker })
+    (cond (eqb cmd 2) (record { there = u .there; host = 0 }) (cond (eqb cmd 13) (record { there = false; host = 0 }) u))
+
+-- 'from a granted .. CREATE the asker', of the process whose number the reply carries; 'Nothing else changes it.'
+unfoldable pub toldOf : (ℕ → Public) → Call → Answer → ℕ → Public
+toldOf d (request m buffer) a p =
+    cond (isGranted (a .outcome))
+    (cond (names (cmdOf m) && eqb p (pidOf m)) (publicThen (cmdOf m) (hostOf m) (d p))
+    (cond (creates (cmdOf m) && eqb p (getD (a .buffer) 5 0)) (record { there = true; host = hostOf m }) (d p)))
+    (d p)
+toldOf d (report q kind reason words buffer) a p = d p
+toldOf d (store q x v) a p = d p
+
+-- the public part of a process in a state
+abbrev pub publicOf : State → ℕ → Public
+publicOf s p = public (recordOf s p)
+
+-- who is there and who debugs it is what the calls and their answers tell
+unfoldable pub Debuggers : Type 0
+Debuggers = (s : State) → Ready s → (c : Call) (p : ℕ) → p < 8 → publicOf (step s c .after) p ≡ toldOf (publicOf s) c (step s c .answer) p
+
+-- ---- what goes to the hosts
+
+-- a notice went out, and its HOST byte is one of theirs
+unfoldable pub noticed : Hosts → Outcome → List ℕ → Bool
+noticed H (Granted n) buffer = ltb 0 n && H (getD buffer 1 0)
+noticed H (Refused n) buffer = false
+
+-- 'To him go the answers to his requests and to the reports that send him something.'
+unfoldable pub toThem : Hosts → Call → Answer → Bool
+toThem H (request m buffer) a = H (hostOf m)
+toThem H (report p kind reason words buffer) a = noticed H (a .outcome) (a .buffer)
+toThem H (store p x v) a = false
+
+unfoldable pub part : Hosts → Entry → List Answer
+part H e = cond (toThem H (e .call) (e .answer)) (e .answer ∷ []) []
+
+-- the answers to them, in their order
+unfoldable pub heard : Hosts → List Entry → List Answer
+heard H [] = []
+heard H (e ∷ es) = part H e ++ heard H es
+
+-- ---- lists that are alike
+
+-- 'reports about P and stores into P, however many, are struck'
+unfoldable pub struck : Processes → Call → Bool
+struck P (request m buffer) = false
+struck P (report p kind reason words buffer) = P p
+struck P (store p x v) = P p
+
+-- 'the strings in other hosts' DEPOSIT and DEPOSIT STATE VECTOR requests to P, of any length, are passed over'
+unfoldable pub blank : Hosts → Processes → Call → Call
+blank H P (request m buffer) = request (cond (not (H (hostOf m)) && (deposits (cmdOf m) && namesOne P m)) (take 10 m) m) buffer
+blank H P (report p kind reason words buffer) = report p kind reason words buffer
+blank H P (store p x v) = store p x v
+
+unfoldable pub strike : Hosts → Processes → List Call → List Call
+strike H P [] = []
+strike H P (c ∷ cs) = cond (struck P c) (strike H P cs) (blank H P c ∷ strike H P cs)
+
+-- 'Two lists are alike when they become the same, buffers included'
+abbrev pub Alike : Hosts → Processes → List Call → List Call → Type 0
+Alike H P l₁ l₂ = strike H P l₁ ≡ strike H P l₂
+
+-- ---- states that differ in these processes alone
+
+-- 'The start states differ only in P's memory and P's record, and agree on whether P is there, on its host'
+pub record Apart (P : Processes) (s₁ s₂ : State) : Type 0 where
+  pub shown : (p : ℕ) → p < 8 → publicOf s₁ p ≡ publicOf s₂ p
+  pub whole : (p : ℕ) → p < 8 → P p ≡ false → recordOf s₁ p ≡ recordOf s₂ p
+  pub bytes : (p : ℕ) → p < 8 → P p ≡ false → slot p (s₁ .memory) ≡ slot p (s₂ .memory)
+
+-- none of these hosts debugs one of these processes
+abbrev pub Free : Hosts → Processes → State → Type 0
+Free H P s = (p : ℕ) → p < 8 → P p ≡ true → H (publicOf s p .host) ≡ false
+
+-- neither at the start nor after any call
+unfoldable pub Away : Hosts → Processes → State → List Call → Type 0
+Away H P s [] = Free H P s
+Away H P s (c ∷ cs) = Free H P s × Away H P (step s c .after) cs
+
+-- their requests that name one of these processes
+unfoldable pub theirs : Hosts → Processes → Call → Bool
+theirs H P (request m buffer) = H (hostOf m) && namesOne P m
+theirs H P (report p kind reason words buffer) = false
+theirs H P (store p x v) = false
+
+-- ---- the claim, for a set of hosts and a set of processes
+
+pub record Claim (H : Hosts) (P : Processes) : Type 0 where
+  -- part one: what they are answered is the same in both gateways; it is enough that they stay away in one of the two
+  pub same-heard : (s₁ s₂ : State) → Ready s₁ → Ready s₂ → Apart P s₁ s₂ → (l₁ l₂ : List Call) → Alike H P l₁ l₂ → Away H P s₁ l₁
+      → heard H (run s₁ l₁) ≡ heard H (run s₂ l₂)
+  -- part two: some or all of their requests that name one of the processes are left out, and every other call has the same answer and
+  -- the same state after it
+  pub left-out : (s : State) → Ready s → (l : List Call) → Away H P s l → (marks : List Bool)
+      → run s (leave (theirs H P) marks l) ≡ leave (λ (e : Entry). theirs H P (e .call)) marks (run s l)
+  -- and at the end
+  pub same-end : (s : State) → Ready s → (l : List Call) → Away H P s l → (marks : List Bool)
+      → final s (leave (theirs H P) marks l) ≡ final s l
+
+pub record Isolation : Type 0 where
+  pub debuggers : Debuggers
+  pub claim : (H : Hosts) (P : Processes) → Claim H P

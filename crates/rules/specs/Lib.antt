@@ -1,0 +1,7 @@
+-- The rules of the gateway. Words in quotation marks are document 01's.
+pub mod Rule
+pub mod Tests
+pub mod Step
+pub mod Ready
+pub mod Run
+pub mod Isolation

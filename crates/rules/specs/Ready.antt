@@ -1,0 +1,14 @@
+-- The states that the theorems speak of.
+use mathlib.Core.Path.{_≡_}
+use mathlib.Core.Bool.{true}
+use lib.ListN.{length}
+use Rattle.state.specs.Gateway.{soundTest}
+use Rattle.state.specs.Theorems.{EightEntries}
+use Rattle.rules.specs.Tests.{State}
+
+-- a sound state; the sizes are those that document 01 lists, which every state of the code has
+pub record Ready (s : State) : Type 0 where
+  pub memory : length (s .memory) ≡ 32768
+  pub processes : length (s .gateway .processes) ≡ 8
+  pub entries : EightEntries (s .gateway)
+  pub sound : soundTest (s .gateway) ≡ true

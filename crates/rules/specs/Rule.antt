@@ -1,0 +1,167 @@
+-- What the rules say of each op code that names a process: who may ask it, when, and what it does. One row for each op code.
+use mathlib.Core.Bool.{Bool, true, _&&_, _||_}
+use mathlib.Core.List.{List, [], _∷_}
+use Prim.Native.Nat.{ℕ, _+_}
+use lib.ListN.{getD}
+use lib.Dec.{eqb, leb}
+use Rattle.message.specs.declared.header.Header.{Header}
+use Rattle.message.specs.Table.{op, asks}
+use Rattle.process.specs.declared.record.Run.{Run}
+use Rattle.process.specs.declared.record.Process.{Process}
+use Rattle.process.specs.Sound.{placed}
+use Rattle.process.specs.Local.{Local}
+use Rattle.process.specs.Request.{halted, atBreak, hasBreak, hasRoom, debugged, endDebugged, halt, resumed, stepped, proceeded, examined, deposited, vectorDeposited, breakSet, breakRemoved, destroyed}
+
+-- all that anyone may know of a process: 'which processes are there, who debugs each'
+pub record Public : Type 0 where
+  pub there : Bool
+  pub host : ℕ
+
+unfoldable pub public : Process → Public
+public p = record { there = p .there; host = p .host }
+
+-- each field but the last two is true where a test passes
+pub record Rule : Type 0 where
+  -- test 8, by the public part and the asker
+  pub right : Public → ℕ → Bool
+  -- test 9
+  pub runs : Run → Bool
+  -- test 10
+  pub range : Header → Bool
+  -- test 11, at the address ARG1
+  pub room : ℕ → Process → Bool
+  -- test 12, at the address ARG1
+  pub found : ℕ → Process → Bool
+  -- what it does to the process, with the string of the request
+  pub effect : Header → List ℕ → Local → Local
+  -- the string of the reply
+  pub shown : Header → Local → List ℕ
+
+-- 'asker is not debugging it'
+abbrev pub holds : Public → ℕ → Bool
+holds u asker = eqb (u .host) asker
+
+-- 'for DEBUG, another host is'
+abbrev pub noOther : Public → ℕ → Bool
+noOther u asker = eqb (u .host) 0 || eqb (u .host) asker
+
+-- 'outside memory or vector': this many bytes from ARG1 on reach no further than the end
+abbrev pub upTo : ℕ → Header → Bool
+upTo end h = leb (h .arg1 + h .arg2) end
+
+-- a rule that asks only the right
+abbrev pub plain : (Header → List ℕ → Local → Local) → Rule
+plain effect = record {
+  right = holds;
+  runs = λ r. true;
+  range = λ h. true;
+  room = λ a p. true;
+  found = λ a p. true;
+  effect = effect;
+  shown = λ h l. [];
+}
+
+-- and a run state
+abbrev pub whileRun : (Run → Bool) → (Header → List ℕ → Local → Local) → Rule
+whileRun runs effect = record {
+  right = holds;
+  runs = runs;
+  range = λ h. true;
+  room = λ a p. true;
+  found = λ a p. true;
+  effect = effect;
+  shown = λ h l. [];
+}
+
+-- and a range
+abbrev pub within : (Header → Bool) → (Header → List ℕ → Local → Local) → Rule
+within range effect = record {
+  right = holds;
+  runs = λ r. true;
+  range = range;
+  room = λ a p. true;
+  found = λ a p. true;
+  effect = effect;
+  shown = λ h l. [];
+}
+
+abbrev pub debugRule : Rule
+debugRule = record {
+  right = noOther;
+  runs = λ r. true;
+  range = λ h. true;
+  room = λ a p. true;
+  found = λ a p. true;
+  effect = λ h s. debugged (h .host);
+  shown = λ h l. [];
+}
+
+-- 'EXAMINE over 256'
+abbrev pub examineRule : Rule
+examineRule = record {
+  right = holds;
+  runs = λ r. true;
+  range = λ h. upTo 4096 h && leb (h .arg2) 256;
+  room = λ a p. true;
+  found = λ a p. true;
+  effect = λ h s l. l;
+  shown = λ h. examined (h .arg1) (h .arg2);
+}
+
+-- 'BREAK address odd or over 4,094'; 'eight breakpoints and a ninth asked'
+abbrev pub breakRule : Rule
+breakRule = record {
+  right = holds;
+  runs = λ r. true;
+  range = λ h. placed (h .arg1);
+  room = λ a p. hasBreak a p || hasRoom p;
+  found = λ a p. true;
+  effect = λ h s. breakSet (h .arg1) (h .arg2);
+  shown = λ h l. [];
+}
+
+-- 'no breakpoint at that address'
+abbrev pub unbreakRule : Rule
+unbreakRule = record {
+  right = holds;
+  runs = λ r. true;
+  range = λ h. true;
+  room = λ a p. true;
+  found = hasBreak;
+  effect = λ h s. breakRemoved (h .arg1);
+  shown = λ h l. [];
+}
+
+-- NOP and CREATE name no process, and their rows are not read
+abbrev pub noRule : Rule
+noRule = plain (λ h s l. l)
+
+abbrev pub rules : List Rule
+rules =
+    noRule  -- 0 NOP
+    ∷ debugRule  -- 1 DEBUG
+    ∷ plain (λ h s. endDebugged)  -- 2 END DEBUG
+    ∷ plain (λ h s. halt)  -- 3 STOP
+    ∷ within (upTo 4096) (λ h s. deposited (h .arg1) s)  -- 4 DEPOSIT
+    ∷ whileRun halted (λ h s. resumed)  -- 5 RESUME
+    ∷ examineRule  -- 6 EXAMINE
+    ∷ within (upTo 18) (λ h s. vectorDeposited (h .arg1) s)  -- 7 DEPOSIT STATE VECTOR
+    ∷ breakRule  -- 8 BREAK
+    ∷ unbreakRule  -- 9 UNBREAK
+    ∷ whileRun halted (λ h s. stepped)  -- 10 SINGLE STEP
+    ∷ whileRun atBreak (λ h s. proceeded)  -- 11 PROCEED BPT
+    ∷ noRule  -- 12 CREATE PROCESS
+    ∷ plain (λ h s. destroyed)  -- 13 DESTROY PROCESS
+    ∷ []
+
+-- the rule of an op code
+unfoldable pub ruleOf : ℕ → Rule
+ruleOf cmd = getD rules cmd noRule
+
+-- 'only those name a process'
+unfoldable pub names : ℕ → Bool
+names cmd = asks (op cmd) .pid
+
+-- CREATE PROCESS
+abbrev pub creates : ℕ → Bool
+creates cmd = eqb cmd 12

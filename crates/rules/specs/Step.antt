@@ -1,0 +1,104 @@
+-- One call: what is answered, and state, memory and output buffer after it.
+use mathlib.Core.Bool.{Bool, true, false, not, cond, _&&_, _||_}
+use mathlib.Core.List.{List, []}
+use Prim.Native.Nat.{ℕ, _+_}
+use lib.ListN.{length, set}
+use lib.Dec.{eqb, ltb}
+use Rattle.lists.specs.Buffer.{overlay}
+use Rattle.lists.specs.Word.{lowFirst}
+use Rattle.message.specs.declared.header.Header.{Header}
+use Rattle.message.specs.declared.outcome.Outcome.{Outcome}
+use Rattle.message.specs.declared.outcome.Outcome.the-variants.{Granted, Refused}
+use Rattle.message.specs.Layout.{written, headerOf, stringOf}
+use Rattle.message.specs.Answer.{cantOf, createdOf, noticeOf}
+use Rattle.process.specs.Local.{Local, local}
+use Rattle.process.specs.Request.{created}
+use Rattle.process.specs.Report.{recorded, passes, reported}
+use Rattle.state.specs.Gateway.{processAt, withProcess}
+use Rattle.state.specs.Slot.{slot, withSlot}
+use Rattle.rules.specs.Rule.{Rule, ruleOf, names, creates}
+use Rattle.rules.specs.Tests.{State, recordOf, lowestAbsent, requestNumber, reportNumber}
+
+-- 'An answer is all that a call returns but the state, and every byte of its output buffers after it.'
+pub record Answer : Type 0 where
+  pub outcome : Outcome
+  pub buffer : List ℕ
+
+pub record Stepped : Type 0 where
+  pub answer : Answer
+  pub after : State
+
+abbrev pub answers : Outcome → List ℕ → State → Stepped
+answers o buffer s = record { answer = record { outcome = o; buffer = buffer }; after = s }
+
+-- a process with its bytes
+abbrev pub localOf : State → ℕ → Local
+localOf s p = local (recordOf s p) (slot p (s .memory))
+
+-- the state with another process p
+unfoldable pub put : ℕ → Local → State → State
+put p l s = record { gateway = withProcess p (l .process) (s .gateway); memory = withSlot p (l .bytes) (s .memory) }
+
+-- a reply is laid over the start of the reply buffer
+abbrev pub replied : Header → List ℕ → List ℕ → State → Stepped
+replied h string buffer s = answers (Granted (10 + length string)) (overlay (written h string) buffer) s
+
+-- a request that names a process, granted
+unfoldable pub grantedNamed : Header → List ℕ → List ℕ → State → Stepped
+grantedNamed h string buffer s =
+    replied h (ruleOf (h .cmd) .shown h (localOf s (h .pid))) buffer
+    (put (h .pid) (ruleOf (h .cmd) .effect h string (localOf s (h .pid))) s)
+
+-- CREATE: 'the lowest absent number'
+unfoldable pub grantedCreate : Header → List ℕ → State → Stepped
+grantedCreate h buffer s =
+    replied (createdOf h (lowestAbsent s)) [] buffer (put (lowestAbsent s) (created (h .host)) s)
+
+-- a request whose tests all pass; NOP changes nothing
+unfoldable pub granted : Header → List ℕ → List ℕ → State → Stepped
+granted h string buffer s =
+    cond (names (h .cmd)) (grantedNamed h string buffer s) (cond (creates (h .cmd)) (grantedCreate h buffer s) (replied h [] buffer s))
+
+-- a refused request: 'State and memory are unchanged by a refusal'; from test 7 on a CAN'T is written, and before it nothing
+unfoldable pub refused : ℕ → Header → List ℕ → State → Stepped
+refused number h buffer s =
+    answers (Refused number) (cond (ltb number 7) buffer (overlay (written (cantOf h) []) buffer)) s
+
+-- a request: any message, with its reply buffer
+unfoldable pub requested : List ℕ → List ℕ → State → Stepped
+requested m buffer s =
+    cond (eqb (requestNumber s m buffer) 0) (granted (headerOf m) (stringOf m) buffer s)
+    (refused (requestNumber s m buffer) (headerOf m) buffer s)
+
+-- a notice 'goes to the host debugging it, if any', unless the breakpoint is passed silently
+unfoldable pub told : ℕ → List ℕ → Local → Bool
+told kind words l = not (eqb (l .process .host) 0) && not (passes kind (recorded words l .process))
+
+-- the notice of an accepted report, or nothing
+unfoldable pub notified : ℕ → ℕ → ℕ → List ℕ → List ℕ → Local → State → Stepped
+notified p kind reason words buffer l s =
+    cond (told kind words l) (replied (noticeOf (l .process .host) kind p reason) (lowFirst words) buffer s)
+    (answers (Granted 0) buffer s)
+
+-- a machine report, with its notice buffer; 'a refused one writes nothing at all'
+unfoldable pub noted : ℕ → ℕ → ℕ → List ℕ → List ℕ → State → Stepped
+noted p kind reason words buffer s =
+    cond (eqb (reportNumber s p kind reason buffer) 0)
+    (notified p kind reason words buffer (localOf s p) (put p (reported kind words (localOf s p)) s))
+    (answers (Refused (reportNumber s p kind reason buffer)) buffer s)
+
+-- a store by the machine: 'one byte into a process's memory'
+unfoldable pub stored : ℕ → ℕ → ℕ → State → State
+stored p a v s = cond (ltb p 8) (put p (local (recordOf s p) (set (slot p (s .memory)) a v)) s) s
+
+-- what stands in a list
+pub data Call : Type 0 where
+  request : (message buffer : List ℕ) → Call
+  report : (process kind reason : ℕ) (words buffer : List ℕ) → Call
+  store : (process address value : ℕ) → Call
+
+-- one step; a store answers nobody
+unfoldable pub step : State → Call → Stepped
+step s (request m buffer) = requested m buffer s
+step s (report p kind reason words buffer) = noted p kind reason words buffer s
+step s (store p a v) = answers (Granted 0) [] (stored p a v s)

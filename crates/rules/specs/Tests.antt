@@ -1,0 +1,87 @@
+-- 'Numbers returned, and the order of tests'.
+use mathlib.Core.Bool.{Bool, true, false, not, cond, _&&_, _||_}
+use mathlib.Core.List.{List, [], _∷_, _++_}
+use Prim.Native.Nat.{ℕ, _+_}
+use lib.ListN.{length}
+use lib.Dec.{eqb, ltb}
+use Rattle.lists.specs.First.{first}
+use Rattle.message.specs.declared.header.Header.{Header}
+use Rattle.message.specs.Outcome.{Test, test, firstFailing}
+use Rattle.message.specs.Table.{requestForm}
+use Rattle.message.specs.Layout.{headerOf, fixedRight}
+use Rattle.message.specs.Refusal.{layoutTests}
+use Rattle.process.specs.declared.record.Process.{Process}
+use Rattle.process.specs.Report.{accepts}
+use Rattle.state.specs.declared.gateway.Gateway.{Gateway}
+use Rattle.state.specs.Gateway.{processAt, soundTest}
+use Rattle.rules.specs.Rule.{Rule, Public, public, ruleOf, names, creates}
+
+-- the gateway's eight records and the lent memory
+pub record State : Type 0 where
+  pub gateway : Gateway
+  pub memory : List ℕ
+
+-- 1: 'memory not 32,768 bytes, or reply or notice buffer under 266'
+abbrev pub noRoom : State → List ℕ → Bool
+noRoom s buffer = not (eqb (length (s .memory)) 32768) || ltb (length buffer) 266
+
+-- 2: 'state not sound'
+abbrev pub unsound : State → Bool
+unsound s = not (soundTest (s .gateway))
+
+-- the record of a process
+abbrev pub recordOf : State → ℕ → Process
+recordOf s p = processAt (s .gateway) p
+
+-- 7: 'named process absent, or number over 7'
+abbrev pub absent : State → ℕ → Bool
+absent s p = not (ltb p 8 && recordOf s p .there)
+
+-- the lowest number of a process that is not there, or 8
+unfoldable pub lowestAbsent : State → ℕ
+lowestAbsent s = first (λ (p : Process). not (p .there)) (s .gateway .processes)
+
+-- the tests of a process by the rule of the op code, 8 to 12
+abbrev pub ruleTests : Rule → Header → Process → List Test
+ruleTests r h p =
+    test 8 (not (r .right (public p) (h .host)))
+    ∷ test 9 (not (r .runs (p .run)))
+    ∷ test 10 (not (r .range h))
+    ∷ test 11 (not (r .room (h .arg1) p))
+    ∷ test 12 (not (r .found (h .arg1) p))
+    ∷ []
+
+-- the tests 7 to 12 of a request that names a process, and 13 of CREATE: 'all eight processes are there'
+unfoldable pub askedTests : Header → State → List Test
+askedTests h s =
+    cond (names (h .cmd)) (test 7 (absent s (h .pid)) ∷ ruleTests (ruleOf (h .cmd)) h (recordOf s (h .pid)))
+    (cond (creates (h .cmd)) (test 13 (not (ltb (lowestAbsent s) 8)) ∷ []) [])
+
+-- the tests of a request, in document 01's order
+abbrev pub requestTests : State → List ℕ → List ℕ → List Test
+requestTests s m buffer =
+    test 1 (noRoom s buffer)
+    ∷ test 2 (unsound s)
+    ∷ layoutTests (fixedRight m) (requestForm (headerOf m .cmd)) (headerOf m) (length m)
+    ++ askedTests (headerOf m) s
+
+-- 'The lowest-numbered test that fails gives the answer'
+unfoldable pub requestNumber : State → List ℕ → List ℕ → ℕ
+requestNumber s m buffer = firstFailing (requestTests s m buffer)
+
+-- 14: 'report of kind over 3, or a reason not 0 with a kind that isn't TRAP'
+abbrev pub badReport : ℕ → ℕ → Bool
+badReport kind reason = ltb 3 kind || (not (eqb reason 0) && not (eqb kind 0))
+
+-- 'A report is tested by 1, 2, 14, 7, 9 in that order'
+abbrev pub reportTests : State → ℕ → ℕ → ℕ → List ℕ → List Test
+reportTests s p kind reason buffer =
+    test 1 (noRoom s buffer)
+    ∷ test 2 (unsound s)
+    ∷ test 14 (badReport kind reason)
+    ∷ test 7 (absent s p)
+    ∷ test 9 (not (accepts kind (recordOf s p .run)))
+    ∷ []
+
+unfoldable pub reportNumber : State → ℕ → ℕ → ℕ → List ℕ → ℕ
+reportNumber s p kind reason buffer = firstFailing (reportTests s p kind reason buffer)
