@@ -51,3 +51,12 @@ module _ {A : Type 0} (p : A → Bool) where
   first-is [] d k h e b = absurd (not-suc-le-zero h)
   first-is (x ∷ xs) d zero h e b = rw e
   first-is (x ∷ xs) d (suc k) h e b = rw (b 0 (omega arith)) (ap suc (first-is xs d k (le-of-suc-le-suc h) e (λ j l. b (suc j) (omega arith))))
+
+-- two lists whose elements pass alike have the same first
+pub first-alike : {A : Type 0} (p : A → Bool) (xs ys : List A) (d : A) → length xs ≡ length ys
+    → ((i : ℕ) → i < length xs → p (getD xs i d) ≡ p (getD ys i d)) → first p xs ≡ first p ys
+first-alike p [] [] d e h = refl
+first-alike p [] (y ∷ ys) d e h = absurd (omega arith)
+first-alike p (x ∷ xs) [] d e h = absurd (omega arith)
+first-alike p (x ∷ xs) (y ∷ ys) d e h =
+    rw (h 0 (omega arith), first-alike p xs ys d (omega arith) (λ i j. h (suc i) (omega arith)))

@@ -4,3 +4,8 @@ pub mod RuleLaws
 pub mod StateLaws
 pub mod NumberLaws
 pub mod StepLaws
+pub mod NamedLaws
+pub mod ShapeLaws
+pub mod TwoLaws
+pub mod HiddenLaws
+pub mod ListLaws

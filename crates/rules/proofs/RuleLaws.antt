@@ -1,5 +1,5 @@
 -- What holds of every row of the rules: one law for each row, and every other proof goes by these. Assumes nothing.
-use mathlib.Core.Path.{_≡_, refl, sym, ap, _∙_}
+use mathlib.Core.Path.{_≡_, refl, sym, _∙_, subst}
 use mathlib.Core.Bool.{Bool, true, false, not, cond, _&&_, _||_, true≢false}
 use mathlib.Core.List.{List, [], _∷_}
 use mathlib.Core.Logic.{_⊎_, inl, inr, ⊎-elim}
@@ -18,9 +18,10 @@ use Rattle.process.specs.Find.{find}
 use Rattle.process.specs.Sound.{moving, placed}
 use Rattle.process.specs.Local.{Local, local, Proper}
 use Rattle.process.specs.Planting.{plantedIn, liftedIn, removedFrom, replanted, liftedAt}
-use Rattle.process.specs.Request.{pc, onRecord, halted, atBreak, hasBreak, hasRoom, endDebugged, halt, resumed, stepped, proceeded, deposited, vectorDeposited, breakSet, breakRemoved, destroyed}
+use Rattle.process.specs.Request.{pc, onRecord, halted, atBreak, hasBreak, hasRoom, endDebugged, halt, resumed, stepped, proceeded, deposited, vectorDeposited, breakSet, breakRemoved, cleared, destroyed}
 use Rattle.process.specs.Report.{recorded, passes, passed, reported}
 use Rattle.rules.specs.Rule.{Public, public, Rule, rules, noRule, debugRule, examineRule, breakRule, unbreakRule, plain, whileRun, within, upTo, ruleOf}
+use Rattle.rules.specs.Isolation.{publicThen}
 use Rattle.rules.proofs.ProperLaws.{end-debug-proper, stop-proper, step-proper, proceed-proper, deposit-proper, break-proper, unbreak-proper, destroy-proper, host-proper, resume-proper, vector-proper}
 
 -- all that the tests 7 to 12, and those of the layout, say of a request that passes them
@@ -43,19 +44,27 @@ pub record Open (r : Rule) : Type 0 where
   pub shown : (h : Header) (l : Local) → r .shown h l ≡ []
 
 -- what is done to a process leaves its public part
-pub Quiet : Rule → Type 0
+abbrev Quiet : Rule → Type 0
 Quiet r = (h : Header) (string : List ℕ) (l : Local) → public (r .effect h string l .process) ≡ public (l .process)
 
-pub record Row (r : Rule) : Type 0 where
+-- an op code that, when granted, changes nothing that is public
+unfoldable pub Kept : ℕ → Type 0
+Kept cmd = (asker : ℕ) (u : Public) → publicThen cmd asker u ≡ u
+
+-- an op code that, when granted, makes the asker debug the process, and asks and shows no more
+pub record Taking (cmd : ℕ) (r : Rule) : Type 0 where
+  pub free : Open r
+  pub takes : (asker : ℕ) (u : Public) → publicThen cmd asker u .host ≡ asker
+
+pub record Row (cmd : ℕ) (r : Rule) : Type 0 where
   -- a sound process stays sound
   pub keeps : (h : Header) (string : List ℕ) (l : Local) → Proper l → Passing r h string (l .process) → Proper (r .effect h string l)
-  -- who may ask debugs the process, or nothing else is asked
-  pub guarded : (u : Public) (asker : ℕ) → r .right u asker ≡ true → (u .host ≡ asker) ⊎ Open r
+  -- who may ask debugs the process, or will, and nothing else is asked
+  pub guarded : (u : Public) (asker : ℕ) → r .right u asker ≡ true → (u .host ≡ asker) ⊎ Taking cmd r
   -- the public part stays, or nothing else is asked
-  pub discreet : Quiet r ⊎ Open r
-  -- the public part after goes by the public part before
-  pub publicly : (h : Header) (string : List ℕ) (l₁ l₂ : Local) → public (l₁ .process) ≡ public (l₂ .process)
-      → public (r .effect h string l₁ .process) ≡ public (r .effect h string l₂ .process)
+  pub discreet : Kept cmd ⊎ Open r
+  -- the public part after it
+  pub publicly : (h : Header) (string : List ℕ) (l : Local) → public (r .effect h string l .process) ≡ publicThen cmd (h .host) (public (l .process))
 
 -- ---- public parts
 
@@ -80,88 +89,87 @@ public-reported kind words l =
 
 -- ---- rows that ask the right, and leave the public part
 
-quiet-publicly : (r : Rule) → Quiet r → (h : Header) (string : List ℕ) (l₁ l₂ : Local) → public (l₁ .process) ≡ public (l₂ .process)
-    → public (r .effect h string l₁ .process) ≡ public (r .effect h string l₂ .process)
-unfolding Quiet
-quiet-publicly r q h string l₁ l₂ e = q h string l₁ ∙ e ∙ sym (q h string l₂)
-
-quiet-row : (r : Rule) → ((u : Public) (asker : ℕ) → r .right u asker ≡ true → u .host ≡ asker) → Quiet r
-    → ((h : Header) (string : List ℕ) (l : Local) → Proper l → Passing r h string (l .process) → Proper (r .effect h string l)) → Row r
-quiet-row r right q keeps = record {
+quiet-row : (cmd : ℕ) (r : Rule) → Kept cmd → ((u : Public) (asker : ℕ) → r .right u asker ≡ true → u .host ≡ asker) → Quiet r
+    → ((h : Header) (string : List ℕ) (l : Local) → Proper l → Passing r h string (l .process) → Proper (r .effect h string l)) → Row cmd r
+unfolding Kept
+quiet-row cmd r kept right q keeps = record {
   keeps = keeps;
   guarded = λ u asker e. inl (right u asker e);
-  discreet = inl q;
-  publicly = quiet-publicly r q;
+  discreet = inl kept;
+  publicly = λ h string l. q h string l ∙ sym (kept (h .host) (public (l .process)));
 }
+
+-- the op codes that leave the public part
+by-others : (cmd : ℕ) → eqb cmd 1 ≡ false → eqb cmd 2 ≡ false → eqb cmd 13 ≡ false → Kept cmd
+unfolding Kept publicThen
+by-others cmd e q k asker u = rw (e, q, k)
 
 held : (u : Public) (asker : ℕ) → eqb (u .host) asker ≡ true → u .host ≡ asker
 held u asker e = eqb-true (u .host) asker e
 
 -- ---- the rows
 
-no-row : Row noRule
-unfolding Quiet
-no-row = quiet-row noRule held (λ h s l. refl) (λ h s l g p. g)
+no-row : (cmd : ℕ) → Kept cmd → Row cmd noRule
+no-row cmd kept = quiet-row cmd noRule kept held (λ h s l. refl) (λ h s l g p. g)
 
 debug-open : Open debugRule
 debug-open = record { runs = λ x. refl; range = λ h. refl; room = λ a p. refl; found = λ a p. refl; shown = λ h l. refl }
 
-debug-row : Row debugRule
-unfolding public
+debug-row : Row 1 debugRule
+unfolding public publicThen
 debug-row = record {
   keeps = λ h s l g p. host-proper (h .host) l g (p .there) (p .asked);
-  guarded = λ u asker e. inr debug-open;
+  guarded = λ u asker e. inr (record { free = debug-open; takes = λ a v. refl });
   discreet = inr debug-open;
-  publicly = λ h s l₁ l₂ e. ap (λ (u : Public). record { there = u .there; host = h .host }) e;
+  publicly = λ h s l. refl;
 }
 
 end-debug-open : Open (plain (λ h s. endDebugged))
 end-debug-open = record { runs = λ x. refl; range = λ h. refl; room = λ a p. refl; found = λ a p. refl; shown = λ h l. refl }
 
-end-debug-row : Row (plain (λ h s. endDebugged))
-unfolding endDebugged public
+end-debug-row : Row 2 (plain (λ h s. endDebugged))
+unfolding endDebugged public publicThen
 end-debug-row = record {
   keeps = λ h s l g p. end-debug-proper l g;
   guarded = λ u asker e. inl (held u asker e);
   discreet = inr end-debug-open;
-  publicly = λ h s l₁ l₂ e. ap (λ (u : Public). record { there = u .there; host = 0 }) e;
+  publicly = λ h s l. refl;
 }
 
-stop-row : Row (plain (λ h s. halt))
-unfolding Quiet halt public
+stop-row : Row 3 (plain (λ h s. halt))
+unfolding halt public
 stop-row =
-    quiet-row (plain (λ h s. halt)) held
+    quiet-row 3 (plain (λ h s. halt)) (by-others 3 refl refl refl) held
     (λ h s l. by-public (moving (l .process .run)) _ l _ (public-replanted l) refl)
     (λ h s l g p. stop-proper l g)
 
-deposit-row : Row (within (upTo 4096) (λ h s. deposited (h .arg1) s))
-unfolding Quiet deposited public
+deposit-row : Row 4 (within (upTo 4096) (λ h s. deposited (h .arg1) s))
+unfolding deposited public
 deposit-row =
-    quiet-row (within (upTo 4096) (λ h s. deposited (h .arg1) s)) held (λ h s l. refl)
+    quiet-row 4 (within (upTo 4096) (λ h s. deposited (h .arg1) s)) (by-others 4 refl refl refl) held (λ h s l. refl)
     (λ h s l g p. deposit-proper l g (h .arg1) s (omega (arith, leb-true (h .arg1 + h .arg2) 4096 (p .range), p .carried)))
 
-resume-row : Row (whileRun halted (λ h s. resumed))
-unfolding Quiet public
-resume-row = quiet-row (whileRun halted (λ h s. resumed)) held (λ h s l. refl) (λ h s l g p. resume-proper l g)
+resume-row : Row 5 (whileRun halted (λ h s. resumed))
+unfolding public
+resume-row = quiet-row 5 (whileRun halted (λ h s. resumed)) (by-others 5 refl refl refl) held (λ h s l. refl) (λ h s l g p. resume-proper l g)
 
-examine-row : Row examineRule
-unfolding Quiet
-examine-row = quiet-row examineRule held (λ h s l. refl) (λ h s l g p. g)
+examine-row : Row 6 examineRule
+examine-row = quiet-row 6 examineRule (by-others 6 refl refl refl) held (λ h s l. refl) (λ h s l g p. g)
 
-vector-row : Row (within (upTo 18) (λ h s. vectorDeposited (h .arg1) s))
-unfolding Quiet public
+vector-row : Row 7 (within (upTo 18) (λ h s. vectorDeposited (h .arg1) s))
+unfolding public
 vector-row =
-    quiet-row (within (upTo 18) (λ h s. vectorDeposited (h .arg1) s)) held (λ h s l. refl) (λ h s l g p. vector-proper _ l g)
+    quiet-row 7 (within (upTo 18) (λ h s. vectorDeposited (h .arg1) s)) (by-others 7 refl refl refl) held (λ h s l. refl) (λ h s l g p. vector-proper _ l g)
 
 -- where there is none at the address there is room
 room-or : (t u : Bool) → t || u ≡ true → t ≡ false → u ≡ true
 room-or true u e q = absurd (true≢false q)
 room-or false u e q = e
 
-break-row : Row breakRule
-unfolding Quiet breakSet plantedIn public placed
+break-row : Row 8 breakRule
+unfolding breakSet plantedIn public placed
 break-row =
-    quiet-row breakRule held
+    quiet-row 8 breakRule (by-others 8 refl refl refl) held
     (λ h s l. by-public (hasBreak (h .arg1) (l .process)) _ _ _ refl refl)
     (λ h s l g p.
     let even = eqb-true _ _ (&&-left (eqb (h .arg1 % 2) 0) _ (p .range)) in
@@ -170,50 +178,55 @@ break-row =
     break-proper l g (h .arg1) (h .arg2) (λ z. p .asked (sym host ∙ z)) even low
     (room-or (hasBreak (h .arg1) (l .process)) (hasRoom (l .process)) (p .room)))
 
-unbreak-row : Row unbreakRule
-unfolding Quiet breakRemoved removedFrom public
-unbreak-row = quiet-row unbreakRule held (λ h s l. refl) (λ h s l g p. unbreak-proper l g (h .arg1) (p .found))
+unbreak-row : Row 9 unbreakRule
+unfolding breakRemoved removedFrom public
+unbreak-row = quiet-row 9 unbreakRule (by-others 9 refl refl refl) held (λ h s l. refl) (λ h s l g p. unbreak-proper l g (h .arg1) (p .found))
 
-step-row : Row (whileRun halted (λ h s. stepped))
-unfolding Quiet stepped public
+step-row : Row 10 (whileRun halted (λ h s. stepped))
+unfolding stepped public
 step-row =
-    quiet-row (whileRun halted (λ h s. stepped)) held
+    quiet-row 10 (whileRun halted (λ h s. stepped)) (by-others 10 refl refl refl) held
     (λ h s l. by-public (atBreak (l .process .run)) _ l _ (public-liftedAt (pc (l .process)) l) refl)
     (λ h s l g p. step-proper l g (p .runs))
 
-proceed-row : Row (whileRun atBreak (λ h s. proceeded))
-unfolding Quiet proceeded public
+proceed-row : Row 11 (whileRun atBreak (λ h s. proceeded))
+unfolding proceeded public
 proceed-row =
-    quiet-row (whileRun atBreak (λ h s. proceeded)) held
+    quiet-row 11 (whileRun atBreak (λ h s. proceeded)) (by-others 11 refl refl refl) held
     (λ h s l. public-liftedAt (pc (l .process)) l)
     (λ h s l g p. proceed-proper l g (p .runs))
 
 destroy-open : Open (plain (λ h s. destroyed))
 destroy-open = record { runs = λ x. refl; range = λ h. refl; room = λ a p. refl; found = λ a p. refl; shown = λ h l. refl }
 
-destroy-row : Row (plain (λ h s. destroyed))
+destroy-row : Row 13 (plain (λ h s. destroyed))
+unfolding publicThen public cleared fresh
 destroy-row = record {
   keeps = λ h s l g p. destroy-proper l g;
   guarded = λ u asker e. inl (held u asker e);
   discreet = inr destroy-open;
-  publicly = λ h s l₁ l₂ e. refl;
+  publicly = λ h s l. refl;
 }
 
 -- ---- all of them
 
-abbrev Each : List Rule → Type 0
-Each [] = Unit {0}
-Each (r ∷ rs) = Row r × Each rs
+abbrev Each : ℕ → List Rule → Type 0
+Each cmd [] = Unit {0}
+Each cmd (r ∷ rs) = Row cmd r × Each (suc cmd) rs
 
-each-getD : (rs : List Rule) → Each rs → (k : ℕ) → Row (getD rs k noRule)
-each-getD [] e k = no-row
-each-getD (r ∷ rs) e zero = e .0
-each-getD (r ∷ rs) e (suc k) = each-getD rs (e .1) k
+each-getD : (from : ℕ) (rs : List Rule) → Each from rs → (k : ℕ) → k < length rs → Row (k + from) (getD rs k noRule)
+each-getD from [] e k h = absurd (omega arith)
+each-getD from (r ∷ rs) e zero h = let same : 0 + from ≡ from = omega arith in rw same (e .0)
+each-getD from (r ∷ rs) e (suc k) h =
+    let same : k + suc from ≡ suc k + from = omega arith in
+    rw (← same) (each-getD (suc from) rs (e .1) k (omega arith))
 
--- the rule of any op code
-pub rule-row : (cmd : ℕ) → Row (ruleOf cmd)
+-- the rule of any op code of the table
+pub rule-row : (cmd : ℕ) → cmd < 14 → Row cmd (ruleOf cmd)
 unfolding ruleOf
-rule-row cmd =
-    each-getD rules
-    (no-row, (debug-row, (end-debug-row, (stop-row, (deposit-row, (resume-row, (examine-row, (vector-row, (break-row, (unbreak-row, (step-row, (proceed-row, (no-row, (destroy-row, tt))))))))))))))
-    cmd
+rule-row cmd h =
+    let same : cmd + 0 ≡ cmd = omega arith in
+    subst (λ (n : ℕ). Row n (getD rules cmd noRule)) same
+    (each-getD 0 rules
+      (no-row 0 (by-others 0 refl refl refl), (debug-row, (end-debug-row, (stop-row, (deposit-row, (resume-row, (examine-row, (vector-row, (break-row, (unbreak-row, (step-row, (proceed-row, (no-row 12 (by-others 12 refl refl refl), (destroy-row, tt))))))))))))))
+      cmd h)

@@ -96,7 +96,7 @@ pub effect-proper : (s : State) → Ready s → (m : List ℕ) → Accepted s m 
 effect-proper s r m a n =
     let h = headerOf m in
     let b = named-zero s h n (a .asked) in
-    rule-row (h .cmd) .keeps h (stringOf m) (localOf s (h .pid)) (local-proper s r (h .pid) (b .low))
+    rule-row (h .cmd) (a .sent .asked .known) .keeps h (stringOf m) (localOf s (h .pid)) (local-proper s r (h .pid) (b .low))
     (rule-zero (ruleOf (h .cmd)) h (stringOf m) (recordOf s (h .pid)) (b .there) (a .sent .asked .hosted) (a .sent .carried) (b .rule))
 
 -- ---- requests
