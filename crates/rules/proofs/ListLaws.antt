@@ -18,7 +18,7 @@ use Rattle.rules.specs.Run.{Entry, entry, run, final, leave}
 use Rattle.rules.specs.Isolation.{Hosts, Processes, hostOf, cmdOf, pidOf, namesOne, deposits, publicOf, noticed, toThem, part, heard, struck, blank, strike, Alike, Apart, Free, Away, theirs, Claim}
 use Rattle.rules.proofs.StepLaws.{by-test, step-ready}
 use Rattle.rules.proofs.TwoLaws.{Both, both-requested, both-noted, both-stored}
-use Rattle.rules.proofs.HiddenLaws.{hidden-none, hidden-apart, hidden-report, hidden-store, hidden-deposit, report-quiet, idle}
+use Rattle.rules.proofs.HiddenLaws.{Hidden, hidden-none, hidden-apart, hidden-report, hidden-store, hidden-deposit, report-quiet, idle}
 
 -- ---- states
 
@@ -80,8 +80,8 @@ module _ (H : Hosts) (P : Processes) (s₁ s₂ : State) (r₁ : Ready s₁) (r�
       let short = hidden-deposit s₂ r₂ (take 10 m) buffer (ap (λ (h : Header). deposits (h .cmd)) same ∙ d) in
       record {
         apart = hidden-apart P (pidOf m) i (hidden-deposit s₁ r₁ m buffer d)
-            (subst (λ (h : Header). Rattle.rules.proofs.HiddenLaws.Hidden (h .pid) s₂ (requested (take 10 m) buffer s₂ .after)) same short) a;
-        parts = λ f. rw (same, e);
+            (subst (λ (h : Header). Hidden (h .pid) s₂ (requested (take 10 m) buffer s₂ .after)) same short) a;
+        parts = λ f. rw (e, ap (λ (h : Header). H (h .host)) same ∙ e);
       }
 
   stays : (c : Call) → struck P c ≡ false → Stays c (blank H P c)
@@ -125,7 +125,7 @@ module _ (H : Hosts) (P : Processes) where
 
   away-back : (l : List Call) (s₁ s₂ : State) → Ready s₁ → Ready s₂ → Apart P s₁ s₂ → Away H P s₂ (strike H P l) → Away H P s₁ l
   unfolding strike Away
-  away-back [] s₁ s₂ r₁ r₂ a w = free-apart H P (apart-back P s₁ s₂ a) w
+  away-back [] s₁ s₂ r₁ r₂ a = λ w. free-apart H P (apart-back P s₁ s₂ a) w
   away-back (c ∷ l) s₁ s₂ r₁ r₂ a =
       by-test (λ (x : List Call). Away H P s₂ x → Free H P s₁ × Away H P (step s₁ c .after) l) (struck P c)
       (λ e w. (free-apart H P (apart-back P s₁ s₂ a) (away-head H P s₂ (strike H P l) w),
@@ -162,37 +162,31 @@ module _ (H : Hosts) (P : Processes) where
   unfolding run leave Away
   left-out s r l w [] = refl
   left-out s r [] w (m ∷ ms) = refl
-  left-out s r (c ∷ l) w (m ∷ ms) = go (m && theirs H P c) refl
+  left-out s r (c ∷ l) w (m ∷ ms) = go (left-out (step s c .after) (step-ready s r c) l (w .1) ms) (m && theirs H P c) refl
     where
       after : State
       after = step s c .after
 
-      rest : run after (leave (theirs H P) ms l) ≡ leave theirEntry ms (run after l)
-      rest = left-out after (step-ready s r c) l (w .1) ms
-
-      go : (t : Bool) → m && theirs H P c ≡ t → run s (cond t (leave (theirs H P) ms l) (c ∷ leave (theirs H P) ms l)) ≡ cond t (leave theirEntry ms (run after l)) (entry s c ∷ leave theirEntry ms (run after l))
-      go true e =
+      go : run after (leave (theirs H P) ms l) ≡ leave theirEntry ms (run after l) → (t : Bool) → m && theirs H P c ≡ t → run s (cond t (leave (theirs H P) ms l) (c ∷ leave (theirs H P) ms l)) ≡ cond t (leave theirEntry ms (run after l)) (entry s c ∷ leave theirEntry ms (run after l))
+      go rest true e =
           let same = theirs-idle s r c (&&-right m (theirs H P c) e) (w .0) (away-head H P after l (w .1)) in
           subst (λ (z : State). run z (leave (theirs H P) ms l) ≡ leave theirEntry ms (run after l)) same rest
-      go false e = ap (λ (x : List Entry). entry s c ∷ x) rest
+      go rest false e = ap (λ (x : List Entry). entry s c ∷ x) rest
 
   same-end : (s : State) → Ready s → (l : List Call) → Away H P s l → (marks : List Bool) → final s (leave (theirs H P) marks l) ≡ final s l
   unfolding final leave Away
   same-end s r l w [] = refl
   same-end s r [] w (m ∷ ms) = refl
-  same-end s r (c ∷ l) w (m ∷ ms) = go (m && theirs H P c) refl
+  same-end s r (c ∷ l) w (m ∷ ms) = go (same-end (step s c .after) (step-ready s r c) l (w .1) ms) (m && theirs H P c) refl
     where
       after : State
       after = step s c .after
 
-      rest : final after (leave (theirs H P) ms l) ≡ final after l
-      rest = same-end after (step-ready s r c) l (w .1) ms
-
-      go : (t : Bool) → m && theirs H P c ≡ t → final s (cond t (leave (theirs H P) ms l) (c ∷ leave (theirs H P) ms l)) ≡ final after l
-      go true e =
+      go : final after (leave (theirs H P) ms l) ≡ final after l → (t : Bool) → m && theirs H P c ≡ t → final s (cond t (leave (theirs H P) ms l) (c ∷ leave (theirs H P) ms l)) ≡ final after l
+      go rest true e =
           let same = theirs-idle s r c (&&-right m (theirs H P c) e) (w .0) (away-head H P after l (w .1)) in
           subst (λ (z : State). final z (leave (theirs H P) ms l) ≡ final after l) same rest
-      go false e = rest
+      go rest false e = rest
 
   pub claim : Claim H P
   claim = record { same-heard = same-heard; left-out = left-out; same-end = same-end }
