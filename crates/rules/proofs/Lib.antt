@@ -9,3 +9,6 @@ pub mod ShapeLaws
 pub mod TwoLaws
 pub mod HiddenLaws
 pub mod ListLaws
+pub mod DebuggerLaws
+pub mod OutsiderLaws
+pub mod TotalLaws

@@ -189,4 +189,4 @@ module _ (H : Hosts) (P : Processes) where
       go rest false e = rest
 
   pub claim : Claim H P
-  claim = record { same-heard = same-heard; left-out = left-out; same-end = same-end }
+  claim = record { same-heard = same-heard; both-away = both-away; left-out = left-out; same-end = same-end }

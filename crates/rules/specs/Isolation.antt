@@ -70,7 +70,7 @@ publicOf s p = public (recordOf s p)
 
 -- who is there and who debugs it is what the calls and their answers tell
 unfoldable pub Debuggers : Type 0
-Debuggers = (s : State) → Ready s → (c : Call) (p : ℕ) → p < 8 → publicOf (step s c .after) p ≡ toldOf (publicOf s) c (step s c .answer) p
+Debuggers = (s : State) → Ready s → (c : Call) (p : ℕ) → publicOf (step s c .after) p ≡ toldOf (publicOf s) c (step s c .answer) p
 
 -- ---- what goes to the hosts
 
@@ -144,6 +144,8 @@ pub record Claim (H : Hosts) (P : Processes) : Type 0 where
   -- part one: what they are answered is the same in both gateways; it is enough that they stay away in one of the two
   pub same-heard : (s₁ s₂ : State) → Ready s₁ → Ready s₂ → Apart P s₁ s₂ → (l₁ l₂ : List Call) → Alike H P l₁ l₂ → Away H P s₁ l₁
       → heard H (run s₁ l₁) ≡ heard H (run s₂ l₂)
+  pub both-away : (s₁ s₂ : State) → Ready s₁ → Ready s₂ → Apart P s₁ s₂ → (l₁ l₂ : List Call) → Alike H P l₁ l₂ → Away H P s₁ l₁
+    → Away H P s₂ l₂
   -- part two: some or all of their requests that name one of the processes are left out, and every other call has the same answer and
   -- the same state after it
   pub left-out : (s : State) → Ready s → (l : List Call) → Away H P s l → (marks : List Bool)

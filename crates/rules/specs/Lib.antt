@@ -5,3 +5,5 @@ pub mod Step
 pub mod Ready
 pub mod Run
 pub mod Isolation
+pub mod Outsider
+pub mod Total
