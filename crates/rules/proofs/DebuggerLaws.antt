@@ -26,7 +26,7 @@ use Rattle.rules.proofs.NamedLaws.{said, left, named-answer, named-chan
 use Rattle.rules.proofs.ShapeLaws.{request-refused, request-away, request-creates, request-idle}
 use Rattle.rules.proofs.HiddenLaws.{Hidden, hidden-report, hidden-store}
 
-hidden-public : (s t : State) (q : ℕ) → Hidden q s t → (p : ℕ) → publicOf t p ≡ publicOf s p
+pub hidden-public : (s t : State) (q : ℕ) → Hidden q s t → (p : ℕ) → publicOf t p ≡ publicOf s p
 hidden-public s t q h p = go (eqb p q) refl
   where
     go : (x : Bool) → eqb p q ≡ x → publicOf t p ≡ publicOf s p
@@ -78,8 +78,8 @@ module _ (s : State) (r : Ready s) (m buffer : List ℕ) (p : ℕ) where
   told-created n c =
       by-test Told (ltb (lowestAbsent s) 8)
       (λ e.
-        let changed = put-changed s r (lowestAbsent s) (ltb-true _ 8 e) (created (headerOf m .host)) (create-proper (headerOf m .host)) in
-        go changed (eqb p (lowestAbsent s)) refl)
+      let changed = put-changed s r (lowestAbsent s) (ltb-true _ 8 e) (created (headerOf m .host)) (create-proper (headerOf m .host)) in
+      go changed (eqb p (lowestAbsent s)) refl)
       (λ e. told-refused 13)
     where
       go : Changed s (put (lowestAbsent s) (created (headerOf m .host)) s) (lowestAbsent s) (created (headerOf m .host))

@@ -148,7 +148,7 @@ module _ (H : Hosts) (P : Processes) (s : State) (r : Ready s) (m buffer : List 
           let still = stranger H (headerOf m .host) (publicOf (requested m buffer s .after) p) h (after p low i) in
           refused-same s r m buffer sent n low
           (stranger-refused (headerOf m .cmd) (ruleOf (headerOf m .cmd)) (rule-row (headerOf m .cmd) (envelope-sent m buffer sent .asked .known))
-            (headerOf m) (stringOf m) (localOf s p) out (λ j. still (ap (λ (q : Process). public q .host) here ∙ j)))
+          (headerOf m) (stringOf m) (localOf s p) out (λ j. still (ap (λ (q : Process). public q .host) here ∙ j)))
       near sent false e = rw (request-away s r m buffer sent n e)
 
       passing : (t : Bool) → eqb (envelope m buffer) 0 ≡ t → requested m buffer s .after ≡ s

@@ -12,3 +12,4 @@ pub mod ListLaws
 pub mod DebuggerLaws
 pub mod OutsiderLaws
 pub mod TotalLaws
+pub mod RightsLaws

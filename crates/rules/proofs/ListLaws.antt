@@ -55,8 +55,15 @@ struck-part H P s r f (store p x v) e = refl
 header-take : (m : List ℕ) → headerOf (take 10 m) ≡ headerOf m
 unfolding headerOf
 header-take m =
-    rw (getD-take 10 m 1 0 (lit< tt), getD-take 10 m 4 0 (lit< tt), getD-take 10 m 5 0 (lit< tt), getD-take 10 m 6 0 (lit< tt),
-    getD-take 10 m 7 0 (lit< tt), getD-take 10 m 8 0 (lit< tt), getD-take 10 m 9 0 (lit< tt))
+    rw (
+      getD-take 10 m 1 0 (lit< tt),
+      getD-take 10 m 4 0 (lit< tt),
+      getD-take 10 m 5 0 (lit< tt),
+      getD-take 10 m 6 0 (lit< tt),
+      getD-take 10 m 7 0 (lit< tt),
+      getD-take 10 m 8 0 (lit< tt),
+      getD-take 10 m 9 0 (lit< tt),
+    )
 
 module _ (H : Hosts) (P : Processes) (s₁ s₂ : State) (r₁ : Ready s₁) (r₂ : Ready s₂) (a : Apart P s₁ s₂) where
   record Stays (c d : Call) : Type 0 where
@@ -89,11 +96,11 @@ module _ (H : Hosts) (P : Processes) (s₁ s₂ : State) (r₁ : Ready s₁) (r�
   stays (request m buffer) e =
       by-test (λ (n : List ℕ). Stays (request m buffer) (request n buffer)) (not (H (hostOf m)) && (deposits (cmdOf m) && namesOne P m))
       (λ t.
-        let two = &&-right (not (H (hostOf m))) (deposits (cmdOf m) && namesOne P m) t in
-        let three = &&-right (deposits (cmdOf m)) (namesOne P m) two in
-        let four = &&-right (leb 10 (length m)) (names (cmdOf m) && P (pidOf m)) three in
-        stays-deposit m buffer (not-true (H (hostOf m)) (&&-left (not (H (hostOf m))) (deposits (cmdOf m) && namesOne P m) t))
-        (&&-left (deposits (cmdOf m)) (namesOne P m) two) (&&-right (names (cmdOf m)) (P (pidOf m)) four))
+      let two = &&-right (not (H (hostOf m))) (deposits (cmdOf m) && namesOne P m) t in
+      let three = &&-right (deposits (cmdOf m)) (namesOne P m) two in
+      let four = &&-right (leb 10 (length m)) (names (cmdOf m) && P (pidOf m)) three in
+      stays-deposit m buffer (not-true (H (hostOf m)) (&&-left (not (H (hostOf m))) (deposits (cmdOf m) && namesOne P m) t))
+      (&&-left (deposits (cmdOf m)) (namesOne P m) two) (&&-right (names (cmdOf m)) (P (pidOf m)) four))
       (λ t. stays-request m buffer)
   stays (report p kind reason words buffer) e =
       let b = both-noted H P s₁ s₂ r₁ r₂ a p kind reason words buffer e in
@@ -110,8 +117,8 @@ module _ (H : Hosts) (P : Processes) where
       by-test (λ (x : List Call). part H (entry s₁ c) ++ heard H (run (step s₁ c .after) l) ≡ heard H (run s₂ x)) (struck P c)
       (λ e. rw (struck-part H P s₁ r₁ (w .0) c e) (normal l (step s₁ c .after) s₂ (step-ready s₁ r₁ c) r₂ (struck-apart P s₁ s₂ r₁ a c e) (w .1)))
       (λ e.
-        ap₂ (λ (x y : List Answer). x ++ y) (stays H P s₁ s₂ r₁ r₂ a c e .parts (w .0))
-        (normal l (step s₁ c .after) (step s₂ (blank H P c) .after) (step-ready s₁ r₁ c) (step-ready s₂ r₂ (blank H P c)) (stays H P s₁ s₂ r₁ r₂ a c e .apart) (w .1)))
+      ap₂ (λ (x y : List Answer). x ++ y) (stays H P s₁ s₂ r₁ r₂ a c e .parts (w .0))
+      (normal l (step s₁ c .after) (step s₂ (blank H P c) .after) (step-ready s₁ r₁ c) (step-ready s₂ r₂ (blank H P c)) (stays H P s₁ s₂ r₁ r₂ a c e .apart) (w .1)))
 
   -- they stay away in one where they do in the other
   away-on : (l : List Call) (s₁ s₂ : State) → Ready s₁ → Ready s₂ → Apart P s₁ s₂ → Away H P s₁ l → Away H P s₂ (strike H P l)
@@ -120,18 +127,24 @@ module _ (H : Hosts) (P : Processes) where
   away-on (c ∷ l) s₁ s₂ r₁ r₂ a w =
       by-test (Away H P s₂) (struck P c)
       (λ e. away-on l (step s₁ c .after) s₂ (step-ready s₁ r₁ c) r₂ (struck-apart P s₁ s₂ r₁ a c e) (w .1))
-      (λ e. (free-apart H P a (w .0),
-        away-on l (step s₁ c .after) (step s₂ (blank H P c) .after) (step-ready s₁ r₁ c) (step-ready s₂ r₂ (blank H P c)) (stays H P s₁ s₂ r₁ r₂ a c e .apart) (w .1)))
+      (λ e. (
+        free-apart H P a (w .0),
+        away-on l (step s₁ c .after) (step s₂ (blank H P c) .after) (step-ready s₁ r₁ c) (step-ready s₂ r₂ (blank H P c)) (stays H P s₁ s₂ r₁ r₂ a c e .apart) (w .1),
+      ))
 
   away-back : (l : List Call) (s₁ s₂ : State) → Ready s₁ → Ready s₂ → Apart P s₁ s₂ → Away H P s₂ (strike H P l) → Away H P s₁ l
   unfolding strike Away
   away-back [] s₁ s₂ r₁ r₂ a = λ w. free-apart H P (apart-back P s₁ s₂ a) w
   away-back (c ∷ l) s₁ s₂ r₁ r₂ a =
       by-test (λ (x : List Call). Away H P s₂ x → Free H P s₁ × Away H P (step s₁ c .after) l) (struck P c)
-      (λ e w. (free-apart H P (apart-back P s₁ s₂ a) (away-head H P s₂ (strike H P l) w),
-        away-back l (step s₁ c .after) s₂ (step-ready s₁ r₁ c) r₂ (struck-apart P s₁ s₂ r₁ a c e) w))
-      (λ e w. (free-apart H P (apart-back P s₁ s₂ a) (w .0),
-        away-back l (step s₁ c .after) (step s₂ (blank H P c) .after) (step-ready s₁ r₁ c) (step-ready s₂ r₂ (blank H P c)) (stays H P s₁ s₂ r₁ r₂ a c e .apart) (w .1)))
+      (λ e w. (
+        free-apart H P (apart-back P s₁ s₂ a) (away-head H P s₂ (strike H P l) w),
+        away-back l (step s₁ c .after) s₂ (step-ready s₁ r₁ c) r₂ (struck-apart P s₁ s₂ r₁ a c e) w,
+      ))
+      (λ e w. (
+        free-apart H P (apart-back P s₁ s₂ a) (w .0),
+        away-back l (step s₁ c .after) (step s₂ (blank H P c) .after) (step-ready s₁ r₁ c) (step-ready s₂ r₂ (blank H P c)) (stays H P s₁ s₂ r₁ r₂ a c e .apart) (w .1),
+      ))
 
   both-away : (s₁ s₂ : State) → Ready s₁ → Ready s₂ → Apart P s₁ s₂ → (l₁ l₂ : List Call) → Alike H P l₁ l₂ → Away H P s₁ l₁ → Away H P s₂ l₂
   both-away s₁ s₂ r₁ r₂ a l₁ l₂ e w =

@@ -125,6 +125,10 @@ said-stranger cmd r row h buffer l stranger = go (r .right (public (l .process))
         rw (barred-tested r h (l .process) e)
         (barred-said (testedBy r h u) (r .shown h l) h buffer (barred-zero (u .there) (r .right u (h .host)) e))
 
+-- what passes every test passes test 8
+pub tested-right : (r : Rule) (h : Header) (p : Process) → eqb (tested r h p) 0 ≡ true → r .right (public p) (h .host) ≡ true
+tested-right r h p e = not-false _ (first-passes 7 _ _ (rest-passes 6 _ _ (eqb-true (tested r h p) 0 e)))
+
 -- nothing is granted to him, unless he debugs it then
 pub stranger-refused : (cmd : ℕ) (r : Rule) → Row cmd r → (h : Header) (string : List ℕ) (l : Local) → (public (l .process) .host ≡ h .host → ⊥)
     → (public (left r h string l .process) .host ≡ h .host → ⊥) → eqb (tested r h (l .process)) 0 ≡ false
@@ -138,10 +142,7 @@ stranger-refused cmd r row h string l before = go (eqb (tested r h (l .process))
     go : (t : Bool) → eqb (tested r h (l .process)) 0 ≡ t
         → (public (cond (eqb (tested r h (l .process)) 0) (r .effect h string l) l .process) .host ≡ h .host → ⊥) → eqb (tested r h (l .process)) 0 ≡ false
     go false e after = e
-    go true e after =
-        let z = rest-passes 6 _ _ (eqb-true (tested r h (l .process)) 0 e) in
-        let right = not-false _ (first-passes 7 _ _ z) in
-        absurd (after (rw e (taken (row .guarded (public (l .process)) (h .host) right))))
+    go true e after = absurd (after (rw e (taken (row .guarded (public (l .process)) (h .host) (tested-right r h (l .process) e)))))
 
 -- ---- the public part after it
 

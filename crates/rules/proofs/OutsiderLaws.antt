@@ -51,18 +51,20 @@ module _ (host p : ℕ) where
   out-away : (l : List Call) (s : State) → Ready s → Outside host p s l → Away (only host) (only p) s l
   unfolding Never Away run
   out-away [] s r w = out-free s w
-  out-away (c ∷ l) s r w =
-      (out-free s (w .0),
-      out-away l (step s c .after) (step-ready s r c)
-        (subst (λ (who : ℕ → Public). Never host p who (run (step s c .after) l)) (told-after s r c) (w .1)))
+  out-away (c ∷ l) s r w = (
+    out-free s (w .0),
+    out-away l (step s c .after) (step-ready s r c)
+        (subst (λ (who : ℕ → Public). Never host p who (run (step s c .after) l)) (told-after s r c) (w .1)),
+  )
 
   away-out : p < 8 → (l : List Call) (s : State) → Ready s → Away (only host) (only p) s l → Outside host p s l
   unfolding Never Away run
   away-out low [] s r w = free-out low s w
-  away-out low (c ∷ l) s r w =
-      (free-out low s (w .0),
-      subst (λ (who : ℕ → Public). Never host p who (run (step s c .after) l)) (sym (told-after s r c))
-        (away-out low l (step s c .after) (step-ready s r c) (w .1)))
+  away-out low (c ∷ l) s r w = (
+    free-out low s (w .0),
+    subst (λ (who : ℕ → Public). Never host p who (run (step s c .after) l)) (sym (told-after s r c))
+        (away-out low l (step s c .after) (step-ready s r c) (w .1)),
+  )
 
   pub outsider : p < 8 → Outsider host p
   outsider low = record {

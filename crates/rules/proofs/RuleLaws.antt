@@ -55,6 +55,8 @@ Kept cmd = (asker : ℕ) (u : Public) → publicThen cmd asker u ≡ u
 pub record Taking (cmd : ℕ) (r : Rule) : Type 0 where
   pub free : Open r
   pub takes : (asker : ℕ) (u : Public) → publicThen cmd asker u .host ≡ asker
+  pub alone : (u : Public) (asker : ℕ) → r .right u asker ≡ true → (u .host ≡ 0) ⊎ (u .host ≡ asker)
+  pub op : cmd ≡ 1
 
 pub record Row (cmd : ℕ) (r : Rule) : Type 0 where
   -- a sound process stays sound
@@ -115,11 +117,18 @@ no-row cmd kept = quiet-row cmd noRule kept held (λ h s l. refl) (λ h s l g p.
 debug-open : Open debugRule
 debug-open = record { runs = λ x. refl; range = λ h. refl; room = λ a p. refl; found = λ a p. refl; shown = λ h l. refl }
 
+alone : (u : Public) (asker : ℕ) → eqb (u .host) 0 || eqb (u .host) asker ≡ true → (u .host ≡ 0) ⊎ (u .host ≡ asker)
+alone u asker = go (eqb (u .host) 0) refl
+  where
+    go : (t : Bool) → eqb (u .host) 0 ≡ t → t || eqb (u .host) asker ≡ true → (u .host ≡ 0) ⊎ (u .host ≡ asker)
+    go true e i = inl (eqb-true (u .host) 0 e)
+    go false e i = inr (eqb-true (u .host) asker i)
+
 debug-row : Row 1 debugRule
 unfolding public publicThen
 debug-row = record {
   keeps = λ h s l g p. host-proper (h .host) l g (p .there) (p .asked);
-  guarded = λ u asker e. inr (record { free = debug-open; takes = λ a v. refl });
+  guarded = λ u asker e. inr (record { free = debug-open; takes = λ a v. refl; alone = alone; op = refl });
   discreet = inr debug-open;
   publicly = λ h s l. refl;
 }
@@ -228,5 +237,5 @@ rule-row cmd h =
     let same : cmd + 0 ≡ cmd = omega arith in
     subst (λ (n : ℕ). Row n (getD rules cmd noRule)) same
     (each-getD 0 rules
-      (no-row 0 (by-others 0 refl refl refl), (debug-row, (end-debug-row, (stop-row, (deposit-row, (resume-row, (examine-row, (vector-row, (break-row, (unbreak-row, (step-row, (proceed-row, (no-row 12 (by-others 12 refl refl refl), (destroy-row, tt))))))))))))))
-      cmd h)
+    (no-row 0 (by-others 0 refl refl refl), (debug-row, (end-debug-row, (stop-row, (deposit-row, (resume-row, (examine-row, (vector-row, (break-row, (unbreak-row, (step-row, (proceed-row, (no-row 12 (by-others 12 refl refl refl), (destroy-row, tt))))))))))))))
+    cmd h)

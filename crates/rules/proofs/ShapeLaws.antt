@@ -82,8 +82,8 @@ unfoldable pub reportSaid : ℕ → ℕ → ℕ → List ℕ → List ℕ → Lo
 reportSaid p kind reason words buffer l =
     cond (eqb (reportTested kind reason buffer (l .process)) 0)
     (cond (told kind words l)
-      (record { outcome = Granted (10 + length (lowFirst words)); buffer = overlay (written (noticeOf (l .process .host) kind p reason) (lowFirst words)) buffer })
-      (record { outcome = Granted 0; buffer = buffer }))
+    (record { outcome = Granted (10 + length (lowFirst words)); buffer = overlay (written (noticeOf (l .process .host) kind p reason) (lowFirst words)) buffer })
+    (record { outcome = Granted 0; buffer = buffer }))
     (record { outcome = Refused (reportTested kind reason buffer (l .process)); buffer = buffer })
 
 -- what is left of the process

@@ -129,8 +129,8 @@ unfolding requested granted grantedNamed grantedCreate refused isGranted
 request-past s m buffer n =
     by-test Past (eqb (requestNumber s m buffer) 0)
     (λ e. by-test Past (names (headerOf m .cmd))
-      (λ i. replied-past (headerOf m) _ buffer s n)
-      (λ i. by-test Past (creates (headerOf m .cmd)) (λ j. replied-past _ [] buffer s n) (λ j. replied-past (headerOf m) [] buffer s n)))
+    (λ i. replied-past (headerOf m) _ buffer s n)
+    (λ i. by-test Past (creates (headerOf m .cmd)) (λ j. replied-past _ [] buffer s n) (λ j. replied-past (headerOf m) [] buffer s n)))
     (λ e i. absurd (true≢false (sym (ap isGranted i))))
   where
     Past : Stepped → Type 0

@@ -101,14 +101,19 @@ module _ (H : Hosts) (P : Processes) (s₁ s₂ : State) (r₁ : Ready s₁) (r�
 
         p : ℕ
         p = headerOf m .pid
+
         string : List ℕ
         string = stringOf m
+
         rule : Rule
         rule = ruleOf (headerOf m .cmd)
+
         row : Row (headerOf m .cmd) rule
         row = rule-row (headerOf m .cmd) (envelope-sent m buffer sent .asked .known)
+
         l₁ : Local
         l₁ = localOf s₁ p
+
         l₂ : Local
         l₂ = localOf s₂ p
 
@@ -126,13 +131,13 @@ module _ (H : Hosts) (P : Processes) (s₁ s₂ : State) (r₁ : Ready s₁) (r�
     both-created =
         rw same-absent
         (by-test₂ Two (ltb (lowestAbsent s₂) 8)
-          (λ e. let low = ltb-true (lowestAbsent s₂) 8 e in record {
-            apart = apart-changed P s₁ _ s₂ _ (lowestAbsent s₂) (created (headerOf m .host)) (created (headerOf m .host))
-                (put-changed s₁ r₁ (lowestAbsent s₂) low _ (create-proper (headerOf m .host)))
-                (put-changed s₂ r₂ (lowestAbsent s₂) low _ (create-proper (headerOf m .host))) a (λ i. refl) (λ n. refl);
-            same = λ i f. refl;
-          })
-          (λ e. both-refused 13))
+        (λ e. let low = ltb-true (lowestAbsent s₂) 8 e in record {
+          apart = apart-changed P s₁ _ s₂ _ (lowestAbsent s₂) (created (headerOf m .host)) (created (headerOf m .host))
+              (put-changed s₁ r₁ (lowestAbsent s₂) low _ (create-proper (headerOf m .host)))
+              (put-changed s₂ r₂ (lowestAbsent s₂) low _ (create-proper (headerOf m .host))) a (λ i. refl) (λ n. refl);
+          same = λ i f. refl;
+        })
+        (λ e. both-refused 13))
 
     pub both-requested : Two (requested m buffer s₁) (requested m buffer s₂)
     both-requested = passing (eqb (envelope m buffer) 0) refl
@@ -164,11 +169,12 @@ module _ (H : Hosts) (P : Processes) (s₁ s₂ : State) (r₁ : Ready s₁) (r�
           × (noted p kind reason words buffer s₁ .answer ≡ noted p kind reason words buffer s₂ .answer)
       go true e =
           let low = ltb-true p 8 e in
-          let same = same-local p low n in
-          (apart-changed P s₁ _ s₂ _ p (afterReport kind reason words buffer (localOf s₁ p)) (afterReport kind reason words buffer (localOf s₂ p))
-            (report-changed s₁ r₁ p kind reason words buffer low) (report-changed s₂ r₂ p kind reason words buffer low) a
-            (λ i. ap (λ (l : Local). public (afterReport kind reason words buffer l .process)) same) (λ i. ap (afterReport kind reason words buffer) same),
-          report-answer s₁ r₁ p kind reason words buffer low ∙ ap (reportSaid p kind reason words buffer) same ∙ sym (report-answer s₂ r₂ p kind reason words buffer low))
+          let same = same-local p low n in (
+            apart-changed P s₁ _ s₂ _ p (afterReport kind reason words buffer (localOf s₁ p)) (afterReport kind reason words buffer (localOf s₂ p))
+                (report-changed s₁ r₁ p kind reason words buffer low) (report-changed s₂ r₂ p kind reason words buffer low) a
+                (λ i. ap (λ (l : Local). public (afterReport kind reason words buffer l .process)) same) (λ i. ap (afterReport kind reason words buffer) same),
+            report-answer s₁ r₁ p kind reason words buffer low ∙ ap (reportSaid p kind reason words buffer) same ∙ sym (report-answer s₂ r₂ p kind reason words buffer low),
+          )
       go false e = rw (report-away s₁ r₁ p kind reason words buffer e, report-away s₂ r₂ p kind reason words buffer e) (a, refl)
 
   pub both-stored : (p x v : ℕ) → P p ≡ false → Apart P (stored p x v s₁) (stored p x v s₂)

@@ -145,7 +145,7 @@ pub record Claim (H : Hosts) (P : Processes) : Type 0 where
   pub same-heard : (s₁ s₂ : State) → Ready s₁ → Ready s₂ → Apart P s₁ s₂ → (l₁ l₂ : List Call) → Alike H P l₁ l₂ → Away H P s₁ l₁
       → heard H (run s₁ l₁) ≡ heard H (run s₂ l₂)
   pub both-away : (s₁ s₂ : State) → Ready s₁ → Ready s₂ → Apart P s₁ s₂ → (l₁ l₂ : List Call) → Alike H P l₁ l₂ → Away H P s₁ l₁
-    → Away H P s₂ l₂
+      → Away H P s₂ l₂
   -- part two: some or all of their requests that name one of the processes are left out, and every other call has the same answer and
   -- the same state after it
   pub left-out : (s : State) → Ready s → (l : List Call) → Away H P s l → (marks : List Bool)

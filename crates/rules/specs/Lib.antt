@@ -7,3 +7,4 @@ pub mod Run
 pub mod Isolation
 pub mod Outsider
 pub mod Total
+pub mod Rights

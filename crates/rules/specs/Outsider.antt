@@ -29,17 +29,21 @@ Never host p who (e ∷ es) = (who p .host ≡ host → ⊥) × Never host p (to
 abbrev pub Outside : ℕ → ℕ → State → List Call → Type 0
 Outside host p s l = Never host p (publicOf s) (run s l)
 
--- for every host and every process, so for hosts 1 to 255 and processes 0 to 7
+-- one host and one process
 pub record Outsider (host p : ℕ) : Type 0 where
   -- 'It is enough that the host does not debug P in one of the two gateways.'
   pub either : (s₁ s₂ : State) → Ready s₁ → Ready s₂ → Differ p s₁ s₂ → (l₁ l₂ : List Call) → Alike (only host) (only p) l₁ l₂
-    → Outside host p s₁ l₁ → Outside host p s₂ l₂
+      → Outside host p s₁ l₁ → Outside host p s₂ l₂
   -- part one: the sequence of answers to him is the same in both
   pub same-answers : (s₁ s₂ : State) → Ready s₁ → Ready s₂ → Differ p s₁ s₂ → (l₁ l₂ : List Call) → Alike (only host) (only p) l₁ l₂
-    → Outside host p s₁ l₁ → heard (only host) (run s₁ l₁) ≡ heard (only host) (run s₂ l₂)
+      → Outside host p s₁ l₁ → heard (only host) (run s₁ l₁) ≡ heard (only host) (run s₂ l₂)
   -- part two: without some or all of his requests that name P, every other call has the same answer and the same state after it
   pub unnoticed : (s : State) → Ready s → (l : List Call) → Outside host p s l → (marks : List Bool)
-    → run s (leave (theirs (only host) (only p)) marks l) ≡ leave (λ (e : Entry). theirs (only host) (only p) (e .call)) marks (run s l)
+      → run s (leave (theirs (only host) (only p)) marks l) ≡ leave (λ (e : Entry). theirs (only host) (only p) (e .call)) marks (run s l)
   -- and at the end
   pub same-end : (s : State) → Ready s → (l : List Call) → Outside host p s l → (marks : List Bool)
-    → final s (leave (theirs (only host) (only p)) marks l) ≡ final s l
+      → final s (leave (theirs (only host) (only p)) marks l) ≡ final s l
+
+-- for every host, so for 1 to 255, and for the processes 0 to 7
+unfoldable pub Outsiders : Type 0
+Outsiders = (host p : ℕ) → p < 8 → Outsider host p

@@ -34,25 +34,25 @@ pub record Total : Type 0 where
   -- 'The lowest-numbered test that fails gives the answer; none is given otherwise.'
   pub request-number : (s : State) (m buffer : List ℕ) → First (requestTests s m buffer) (numberOf (requested m buffer s .answer .outcome))
   pub report-number : (s : State) (p kind reason : ℕ) (words buffer : List ℕ)
-    → First (reportTests s p kind reason buffer) (numberOf (noted p kind reason words buffer s .answer .outcome))
+      → First (reportTests s p kind reason buffer) (numberOf (noted p kind reason words buffer s .answer .outcome))
   -- 'Bad input is refused by a number from a fixed list'
   pub request-listed : (s : State) (m buffer : List ℕ) → numberOf (requested m buffer s .answer .outcome) ≤ 13
   pub report-listed : (s : State) (p kind reason : ℕ) (words buffer : List ℕ) → reportNumbers (numberOf (noted p kind reason words buffer s .answer .outcome)) ≡ true
   -- 'State and memory are unchanged by a refusal'
   pub request-refused : (s : State) (m buffer : List ℕ) → (numberOf (requested m buffer s .answer .outcome) ≡ 0 → ⊥) → requested m buffer s .after ≡ s
   pub report-refused : (s : State) (p kind reason : ℕ) (words buffer : List ℕ)
-    → (numberOf (noted p kind reason words buffer s .answer .outcome) ≡ 0 → ⊥) → noted p kind reason words buffer s .after ≡ s
+      → (numberOf (noted p kind reason words buffer s .answer .outcome) ≡ 0 → ⊥) → noted p kind reason words buffer s .after ≡ s
   -- the column 'Written': nothing under 7, and the ten bytes of the CAN'T from 7 on
   pub request-silent : (s : State) (m buffer : List ℕ) (n : ℕ) → requested m buffer s .answer .outcome ≡ Refused n
-    → requested m buffer s .answer .buffer ≡ cond (ltb n 7) buffer (cantOver m buffer)
+      → requested m buffer s .answer .buffer ≡ cond (ltb n 7) buffer (cantOver m buffer)
   pub cant-ten : (m : List ℕ) → length (written (cantOf (headerOf m)) []) ≡ 10
   -- 'a refused one writes nothing at all'
   pub report-silent : (s : State) (p kind reason : ℕ) (words buffer : List ℕ) (n : ℕ) → noted p kind reason words buffer s .answer .outcome ≡ Refused n
-    → noted p kind reason words buffer s .answer .buffer ≡ buffer
+      → noted p kind reason words buffer s .answer .buffer ≡ buffer
   -- 'buffer bytes past those written are never touched'
   pub request-past : (s : State) (m buffer : List ℕ) (n : ℕ) → requested m buffer s .answer .outcome ≡ Granted n
-    → drop n (requested m buffer s .answer .buffer) ≡ drop n buffer
+      → drop n (requested m buffer s .answer .buffer) ≡ drop n buffer
   pub report-past : (s : State) (p kind reason : ℕ) (words buffer : List ℕ) (n : ℕ) → noted p kind reason words buffer s .answer .outcome ≡ Granted n
-    → drop n (noted p kind reason words buffer s .answer .buffer) ≡ drop n buffer
+      → drop n (noted p kind reason words buffer s .answer .buffer) ≡ drop n buffer
   -- a sound state stays sound
   pub sound-stays : (s : State) → Ready s → (c : Call) → Ready (step s c .after)

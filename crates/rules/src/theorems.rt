@@ -1,2 +1,26 @@
 // What is proved of the rules. These functions do nothing: each one's contract is a theorem, so that the check of this crate
 // includes it.
+ghost use Rattle.rules.specs.Total.{Total};
+ghost use Rattle.rules.specs.Rights.{Rights};
+ghost use Rattle.rules.specs.Isolation.{Isolation};
+ghost use Rattle.rules.specs.Outsider.{Outsiders};
+
+// Every call is answered by the number of the first test that fails; a refusal changes nothing; a sound state stays sound.
+pub fn total()
+    ensures { λ _. ⌜ Total ⌝ }
+{}
+
+// A process changes only by the host that debugs it, by a report or by a store; a right begins and ends only by its holder.
+pub fn rights()
+    ensures { λ _. ⌜ Rights ⌝ }
+{}
+
+// Over whole lists of calls, hosts learn nothing of processes that they do not debug, and leave no trace there.
+pub fn isolation()
+    ensures { λ _. ⌜ Isolation ⌝ }
+{}
+
+// The same for one host and one process, in the words of the rules.
+pub fn outsiders()
+    ensures { λ _. ⌜ Outsiders ⌝ }
+{}
