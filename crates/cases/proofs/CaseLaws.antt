@@ -1,0 +1,29 @@
+-- The cases, computed. Assumes nothing.
+use mathlib.Core.Path.{refl}
+use Rattle.lists.specs.Buffer.{overlay}
+use Rattle.lists.specs.Word.{lowFirst}
+use Rattle.message.specs.Answer.{cantOf, createdOf, noticeOf}
+use Rattle.message.specs.Layout.{written, headerOf, stringOf, fixedRight}
+use Rattle.message.specs.Outcome.{numberOf, firstFailing}
+use Rattle.message.specs.Refusal.{unusedZero, carriedLength, wrongLength, wrongHeader, misfits}
+use Rattle.message.specs.Table.{rowOf, requestForm}
+use Rattle.process.specs.Find.{matches, find}
+use Rattle.process.specs.Planting.{plantedIn, liftedIn, removedFrom, replanted, liftedAt}
+use Rattle.process.specs.Record.{fresh}
+use Rattle.process.specs.Report.{accepts, recorded, passes, passed, runAfter, reported}
+use Rattle.process.specs.Request.{hasBreak, hasRoom, examined, deposited, vectorAfter, breakSet, breakRemoved, created, cleared}
+use Rattle.process.specs.Seen.{restored, seen, savedFrom, sheltered, laidByte, laidWord}
+use Rattle.process.specs.Sound.{placed, hosted, liftSound, usedSound, entrySound, soundTest}
+use Rattle.state.specs.Gateway.{freshStart}
+use Rattle.state.specs.Gateway.{soundTest as soundState}
+use Rattle.state.specs.Slot.{startOf, slot, withSlot}
+use Rattle.rules.specs.Rule.{public, ruleOf, names}
+use Rattle.rules.specs.Run.{run}
+use Rattle.rules.specs.Step.{put, grantedNamed, grantedCreate, granted, refused, requested, told, notified, noted, step}
+use Rattle.rules.specs.Tests.{lowestAbsent, askedTests, requestNumber, reportNumber}
+use Rattle.cases.specs.Case.{lengthWritten}
+use Rattle.cases.specs.Cases.{CasesHold}
+
+pub cases-hold : CasesHold
+unfolding CasesHold lengthWritten overlay lowFirst cantOf createdOf noticeOf written headerOf stringOf fixedRight numberOf firstFailing unusedZero carriedLength wrongLength wrongHeader misfits rowOf requestForm matches find plantedIn liftedIn removedFrom replanted liftedAt fresh accepts recorded passes passed runAfter reported hasBreak hasRoom examined deposited vectorAfter breakSet breakRemoved created cleared restored seen savedFrom sheltered laidByte laidWord placed hosted liftSound usedSound entrySound soundTest freshStart soundState startOf slot withSlot public ruleOf names run put grantedNamed grantedCreate granted refused requested told notified noted step lowestAbsent askedTests requestNumber reportNumber
+cases-hold = refl

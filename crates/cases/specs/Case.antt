@@ -1,0 +1,64 @@
+-- A case: a fresh start, calls, and what each call answers and leaves in memory.
+use mathlib.Core.Bool.{Bool, true, false, cond}
+use mathlib.Core.List.{List, [], _∷_, map}
+use Prim.Native.Nat.{ℕ}
+use lib.ListN.{take, getD, replicate}
+use lib.Dec.{ltb}
+use Rattle.message.specs.declared.outcome.Outcome.{Outcome}
+use Rattle.message.specs.declared.outcome.Outcome.the-variants.{Granted, Refused}
+use Rattle.message.specs.Outcome.{numberOf}
+use Rattle.message.specs.Layout.{written}
+use Rattle.state.specs.Gateway.{freshStart}
+use Rattle.rules.specs.Tests.{State}
+use Rattle.rules.specs.Step.{Answer, Call, request, report}
+use Rattle.rules.specs.Run.{Entry, run}
+
+-- what is seen of a call: its number, the bytes that it wrote, and bytes of memory after it
+pub record Seen : Type 0 where
+  pub number : ℕ
+  pub bytes : List ℕ
+  pub memory : List ℕ
+
+pub record Case : Type 0 where
+  -- which processes are there at the start, and the lent memory
+  pub there : List Bool
+  pub lent : List ℕ
+  pub calls : List Call
+  -- the places of the lent memory that are looked at after each call
+  pub places : List ℕ
+  pub seen : List Seen
+
+-- granted: so many bytes; refused: the CAN'T of ten bytes from 7 on
+unfoldable pub lengthWritten : Outcome → ℕ
+lengthWritten (Granted n) = n
+lengthWritten (Refused n) = cond (ltb n 7) 0 10
+
+abbrev pub seenOf : List ℕ → Entry → Seen
+seenOf places e = record {
+    number = numberOf (e .answer .outcome);
+    bytes = take (lengthWritten (e .answer .outcome)) (e .answer .buffer);
+    memory = map (λ (a : ℕ). getD (e .after .memory) a 0) places }
+
+-- what is seen when the calls of a case are run
+abbrev pub outcomes : Case → List Seen
+outcomes c = map (seenOf (c .places)) (run (record { gateway = freshStart (c .there); memory = c .lent }) (c .calls))
+
+-- ---- calls
+
+abbrev pub buffer : List ℕ
+buffer = replicate 266 0
+
+abbrev pub sent : List ℕ → Call
+sent m = request m buffer
+
+-- a request by its fields
+abbrev pub asked : ℕ → ℕ → ℕ → ℕ → ℕ → List ℕ → Call
+asked host cmd pid arg1 arg2 string = sent (written (record { host = host; cmd = cmd; pid = pid; arg1 = arg1; arg2 = arg2 }) string)
+
+-- what is seen of a call where no memory is looked at
+abbrev pub answer : ℕ → List ℕ → Seen
+answer number bytes = record { number = number; bytes = bytes; memory = [] }
+
+-- and where it is
+abbrev pub holds : ℕ → List ℕ → List ℕ → Seen
+holds number bytes memory = record { number = number; bytes = bytes; memory = memory }

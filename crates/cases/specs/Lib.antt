@@ -1,0 +1,3 @@
+-- The cases that document 01 marks with P.
+pub mod Case
+pub mod Cases

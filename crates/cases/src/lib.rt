@@ -1,0 +1,7 @@
+// The cases of the rules that are proved: one table of starts, calls and what is expected, under one claim. The function does nothing;
+// its contract is the claim, so that the check of this crate includes it.
+ghost use Rattle.cases.specs.Cases.{CasesHold};
+
+pub fn cases_hold()
+    ensures { λ _. ⌜ CasesHold ⌝ }
+{}
