@@ -1,2 +1,3 @@
 -- The proof of the cases.
 pub mod CaseLaws
+pub mod PairLaws

@@ -35,9 +35,10 @@ lengthWritten (Refused n) = cond (ltb n 7) 0 10
 
 abbrev pub seenOf : List ℕ → Entry → Seen
 seenOf places e = record {
-    number = numberOf (e .answer .outcome);
-    bytes = take (lengthWritten (e .answer .outcome)) (e .answer .buffer);
-    memory = map (λ (a : ℕ). getD (e .after .memory) a 0) places }
+  number = numberOf (e .answer .outcome);
+  bytes = take (lengthWritten (e .answer .outcome)) (e .answer .buffer);
+  memory = map (λ (a : ℕ). getD (e .after .memory) a 0) places;
+}
 
 -- what is seen when the calls of a case are run
 abbrev pub outcomes : Case → List Seen

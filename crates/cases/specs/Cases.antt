@@ -31,32 +31,41 @@ nopCase = record { there = second; lent = zeros; calls = sent nop ∷ []; places
 -- P2, P3, P4
 abbrev pub debugCase : Case
 debugCase = record {
-    there = second; lent = zeros; places = [];
-    calls = sent debug ∷ sent debugBySix ∷ sent debug ∷ [];
-    seen = answer 0 debug ∷ answer 8 (0 ∷ 6 ∷ 255 ∷ 0 ∷ 129 ∷ 2 ∷ 0 ∷ 0 ∷ 0 ∷ 0 ∷ []) ∷ answer 0 debug ∷ [] }
+  there = second;
+  lent = zeros;
+  places = [];
+  calls = sent debug ∷ sent debugBySix ∷ sent debug ∷ [];
+  seen = answer 0 debug ∷ answer 8 (0 ∷ 6 ∷ 255 ∷ 0 ∷ 129 ∷ 2 ∷ 0 ∷ 0 ∷ 0 ∷ 0 ∷ []) ∷ answer 0 debug ∷ [];
+}
 
 -- P5, P6: EXAMINE at 4,092 count 4, at 4,093 count 4, at 4,096 count 0
 abbrev pub examineCase : Case
 examineCase = record {
-    there = second; lent = zeros; places = [];
-    calls = sent debug ∷ asked 5 6 2 4092 4 [] ∷ asked 5 6 2 4093 4 [] ∷ asked 5 6 2 4096 0 [] ∷ [];
-    seen = answer 0 debug
-        ∷ answer 0 (0 ∷ 5 ∷ 255 ∷ 0 ∷ 6 ∷ 2 ∷ 15 ∷ 252 ∷ 0 ∷ 4 ∷ 0 ∷ 0 ∷ 0 ∷ 0 ∷ [])
-        ∷ answer 10 (0 ∷ 5 ∷ 255 ∷ 0 ∷ 134 ∷ 2 ∷ 15 ∷ 253 ∷ 0 ∷ 4 ∷ [])
-        ∷ answer 0 (0 ∷ 5 ∷ 255 ∷ 0 ∷ 6 ∷ 2 ∷ 16 ∷ 0 ∷ 0 ∷ 0 ∷ [])
-        ∷ [] }
+  there = second;
+  lent = zeros;
+  places = [];
+  calls = sent debug ∷ asked 5 6 2 4092 4 [] ∷ asked 5 6 2 4093 4 [] ∷ asked 5 6 2 4096 0 [] ∷ [];
+  seen = answer 0 debug
+      ∷ answer 0 (0 ∷ 5 ∷ 255 ∷ 0 ∷ 6 ∷ 2 ∷ 15 ∷ 252 ∷ 0 ∷ 4 ∷ 0 ∷ 0 ∷ 0 ∷ 0 ∷ [])
+      ∷ answer 10 (0 ∷ 5 ∷ 255 ∷ 0 ∷ 134 ∷ 2 ∷ 15 ∷ 253 ∷ 0 ∷ 4 ∷ [])
+      ∷ answer 0 (0 ∷ 5 ∷ 255 ∷ 0 ∷ 6 ∷ 2 ∷ 16 ∷ 0 ∷ 0 ∷ 0 ∷ [])
+      ∷ [];
+}
 
 -- P7, P8: the word 18, 52 at 256 of process 2, which is 8,448 of the lent memory; BREAK 256, EXAMINE, DEPOSIT 99 at 257, UNBREAK
 abbrev pub breakCase : Case
 breakCase = record {
-    there = second; lent = set (set zeros 8448 18) 8449 52; places = 8448 ∷ 8449 ∷ [];
-    calls = sent debug ∷ asked 5 8 2 256 0 [] ∷ asked 5 6 2 256 2 [] ∷ asked 5 4 2 257 1 (99 ∷ []) ∷ asked 5 9 2 256 0 [] ∷ [];
-    seen = holds 0 debug (18 ∷ 52 ∷ [])
-        ∷ holds 0 (0 ∷ 5 ∷ 255 ∷ 0 ∷ 8 ∷ 2 ∷ 1 ∷ 0 ∷ 0 ∷ 0 ∷ []) (3 ∷ 0 ∷ [])
-        ∷ holds 0 (0 ∷ 5 ∷ 255 ∷ 0 ∷ 6 ∷ 2 ∷ 1 ∷ 0 ∷ 0 ∷ 2 ∷ 18 ∷ 52 ∷ []) (3 ∷ 0 ∷ [])
-        ∷ holds 0 (0 ∷ 5 ∷ 255 ∷ 0 ∷ 4 ∷ 2 ∷ 1 ∷ 1 ∷ 0 ∷ 1 ∷ []) (3 ∷ 0 ∷ [])
-        ∷ holds 0 (0 ∷ 5 ∷ 255 ∷ 0 ∷ 9 ∷ 2 ∷ 1 ∷ 0 ∷ 0 ∷ 0 ∷ []) (18 ∷ 99 ∷ [])
-        ∷ [] }
+  there = second;
+  lent = set (set zeros 8448 18) 8449 52;
+  places = 8448 ∷ 8449 ∷ [];
+  calls = sent debug ∷ asked 5 8 2 256 0 [] ∷ asked 5 6 2 256 2 [] ∷ asked 5 4 2 257 1 (99 ∷ []) ∷ asked 5 9 2 256 0 [] ∷ [];
+  seen = holds 0 debug (18 ∷ 52 ∷ [])
+      ∷ holds 0 (0 ∷ 5 ∷ 255 ∷ 0 ∷ 8 ∷ 2 ∷ 1 ∷ 0 ∷ 0 ∷ 0 ∷ []) (3 ∷ 0 ∷ [])
+      ∷ holds 0 (0 ∷ 5 ∷ 255 ∷ 0 ∷ 6 ∷ 2 ∷ 1 ∷ 0 ∷ 0 ∷ 2 ∷ 18 ∷ 52 ∷ []) (3 ∷ 0 ∷ [])
+      ∷ holds 0 (0 ∷ 5 ∷ 255 ∷ 0 ∷ 4 ∷ 2 ∷ 1 ∷ 1 ∷ 0 ∷ 1 ∷ []) (3 ∷ 0 ∷ [])
+      ∷ holds 0 (0 ∷ 5 ∷ 255 ∷ 0 ∷ 9 ∷ 2 ∷ 1 ∷ 0 ∷ 0 ∷ 0 ∷ []) (18 ∷ 99 ∷ [])
+      ∷ [];
+}
 
 -- BREAK at this address of process 2, and its reply
 abbrev pub break : ℕ → ℕ → Call
@@ -68,12 +77,15 @@ broken a = answer 0 (0 ∷ 5 ∷ 255 ∷ 0 ∷ 8 ∷ 2 ∷ 0 ∷ a ∷ 0 ∷ 0 �
 -- P9: 'Ninth address is 11; a new count for one of the eight is granted.'
 abbrev pub ninthCase : Case
 ninthCase = record {
-    there = second; lent = zeros; places = [];
-    calls = sent debug ∷ break 0 0 ∷ break 2 0 ∷ break 4 0 ∷ break 6 0 ∷ break 8 0 ∷ break 10 0 ∷ break 12 0 ∷ break 14 0 ∷ break 16 0 ∷ break 6 1 ∷ [];
-    seen = answer 0 debug ∷ broken 0 ∷ broken 2 ∷ broken 4 ∷ broken 6 ∷ broken 8 ∷ broken 10 ∷ broken 12 ∷ broken 14
-        ∷ answer 11 (0 ∷ 5 ∷ 255 ∷ 0 ∷ 136 ∷ 2 ∷ 0 ∷ 16 ∷ 0 ∷ 0 ∷ [])
-        ∷ answer 0 (0 ∷ 5 ∷ 255 ∷ 0 ∷ 8 ∷ 2 ∷ 0 ∷ 6 ∷ 0 ∷ 1 ∷ [])
-        ∷ [] }
+  there = second;
+  lent = zeros;
+  places = [];
+  calls = sent debug ∷ break 0 0 ∷ break 2 0 ∷ break 4 0 ∷ break 6 0 ∷ break 8 0 ∷ break 10 0 ∷ break 12 0 ∷ break 14 0 ∷ break 16 0 ∷ break 6 1 ∷ [];
+  seen = answer 0 debug ∷ broken 0 ∷ broken 2 ∷ broken 4 ∷ broken 6 ∷ broken 8 ∷ broken 10 ∷ broken 12 ∷ broken 14
+      ∷ answer 11 (0 ∷ 5 ∷ 255 ∷ 0 ∷ 136 ∷ 2 ∷ 0 ∷ 16 ∷ 0 ∷ 0 ∷ [])
+      ∷ answer 0 (0 ∷ 5 ∷ 255 ∷ 0 ∷ 8 ∷ 2 ∷ 0 ∷ 6 ∷ 0 ∷ 1 ∷ [])
+      ∷ [];
+}
 
 -- a BPT report of process 2 with PC 256
 abbrev pub reached : Call
@@ -82,11 +94,14 @@ reached = report 2 2 0 (1 ∷ 2 ∷ 3 ∷ 4 ∷ 5 ∷ 6 ∷ 7 ∷ 256 ∷ 513 �
 -- P10: 'Count 2, running: the first two BPT reports there send nothing, the third sends ..'
 abbrev pub countCase : Case
 countCase = record {
-    there = second; lent = zeros; places = [];
-    calls = sent debug ∷ break 256 2 ∷ reached ∷ reached ∷ reached ∷ [];
-    seen = answer 0 debug ∷ answer 0 (0 ∷ 5 ∷ 255 ∷ 0 ∷ 8 ∷ 2 ∷ 1 ∷ 0 ∷ 0 ∷ 2 ∷ []) ∷ answer 0 [] ∷ answer 0 []
-        ∷ answer 0 (0 ∷ 5 ∷ 255 ∷ 0 ∷ 66 ∷ 2 ∷ 0 ∷ 0 ∷ 0 ∷ 0 ∷ 1 ∷ 0 ∷ 2 ∷ 0 ∷ 3 ∷ 0 ∷ 4 ∷ 0 ∷ 5 ∷ 0 ∷ 6 ∷ 0 ∷ 7 ∷ 0 ∷ 0 ∷ 1 ∷ 1 ∷ 2 ∷ [])
-        ∷ [] }
+  there = second;
+  lent = zeros;
+  places = [];
+  calls = sent debug ∷ break 256 2 ∷ reached ∷ reached ∷ reached ∷ [];
+  seen = answer 0 debug ∷ answer 0 (0 ∷ 5 ∷ 255 ∷ 0 ∷ 8 ∷ 2 ∷ 1 ∷ 0 ∷ 0 ∷ 2 ∷ []) ∷ answer 0 [] ∷ answer 0 []
+      ∷ answer 0 (0 ∷ 5 ∷ 255 ∷ 0 ∷ 66 ∷ 2 ∷ 0 ∷ 0 ∷ 0 ∷ 0 ∷ 1 ∷ 0 ∷ 2 ∷ 0 ∷ 3 ∷ 0 ∷ 4 ∷ 0 ∷ 5 ∷ 0 ∷ 6 ∷ 0 ∷ 7 ∷ 0 ∷ 0 ∷ 1 ∷ 1 ∷ 2 ∷ [])
+      ∷ [];
+}
 
 -- CREATE by host 5
 abbrev pub create : Call
@@ -98,21 +113,27 @@ created p = answer 0 (0 ∷ 5 ∷ 255 ∷ 0 ∷ 12 ∷ p ∷ 0 ∷ 0 ∷ 0 ∷ 0
 -- P11: 'Processes 0, 1, 3 there: CREATE gives 2. With all there ..'
 abbrev pub createCase : Case
 createCase = record {
-    there = true ∷ true ∷ false ∷ true ∷ false ∷ false ∷ false ∷ false ∷ []; lent = zeros; places = [];
-    calls = create ∷ create ∷ create ∷ create ∷ create ∷ create ∷ [];
-    seen = created 2 ∷ created 4 ∷ created 5 ∷ created 6 ∷ created 7
-        ∷ answer 13 (0 ∷ 5 ∷ 255 ∷ 0 ∷ 140 ∷ 0 ∷ 0 ∷ 0 ∷ 0 ∷ 0 ∷ [])
-        ∷ [] }
+  there = true ∷ true ∷ false ∷ true ∷ false ∷ false ∷ false ∷ false ∷ [];
+  lent = zeros;
+  places = [];
+  calls = create ∷ create ∷ create ∷ create ∷ create ∷ create ∷ [];
+  seen = created 2 ∷ created 4 ∷ created 5 ∷ created 6 ∷ created 7
+      ∷ answer 13 (0 ∷ 5 ∷ 255 ∷ 0 ∷ 140 ∷ 0 ∷ 0 ∷ 0 ∷ 0 ∷ 0 ∷ [])
+      ∷ [];
+}
 
 -- P12: 'Vector deposit at 16 of 2 bytes granted; at 17, 10.'
 abbrev pub vectorCase : Case
 vectorCase = record {
-    there = second; lent = zeros; places = [];
-    calls = sent debug ∷ asked 5 7 2 16 2 (8 ∷ 9 ∷ []) ∷ asked 5 7 2 17 2 (8 ∷ 9 ∷ []) ∷ [];
-    seen = answer 0 debug
-        ∷ answer 0 (0 ∷ 5 ∷ 255 ∷ 0 ∷ 7 ∷ 2 ∷ 0 ∷ 16 ∷ 0 ∷ 2 ∷ [])
-        ∷ answer 10 (0 ∷ 5 ∷ 255 ∷ 0 ∷ 135 ∷ 2 ∷ 0 ∷ 17 ∷ 0 ∷ 2 ∷ [])
-        ∷ [] }
+  there = second;
+  lent = zeros;
+  places = [];
+  calls = sent debug ∷ asked 5 7 2 16 2 (8 ∷ 9 ∷ []) ∷ asked 5 7 2 17 2 (8 ∷ 9 ∷ []) ∷ [];
+  seen = answer 0 debug
+      ∷ answer 0 (0 ∷ 5 ∷ 255 ∷ 0 ∷ 7 ∷ 2 ∷ 0 ∷ 16 ∷ 0 ∷ 2 ∷ [])
+      ∷ answer 10 (0 ∷ 5 ∷ 255 ∷ 0 ∷ 135 ∷ 2 ∷ 0 ∷ 17 ∷ 0 ∷ 2 ∷ [])
+      ∷ [];
+}
 
 abbrev pub cases : List Case
 cases = nopCase ∷ debugCase ∷ examineCase ∷ breakCase ∷ ninthCase ∷ countCase ∷ createCase ∷ vectorCase ∷ []

@@ -1,0 +1,97 @@
+-- The premises of isolation, met by two gateways. Assumes nothing.
+use mathlib.Core.Path.{_≡_, refl, ap}
+use mathlib.Core.Bool.{Bool, true, false}
+use mathlib.Core.List.{List, [], _∷_}
+use Prim.Native.Nat.{ℕ, zero, suc, _<_}
+use native.Mathlib.Omega.{arith}
+use borrow.Author.Tests.{eqb-true}
+use lib.ListN.{length, getD}
+use lib.Dec.{eqb}
+use Rattle.lists.specs.Every.{below}
+use Rattle.lists.proofs.Every.{below-at}
+use Rattle.state.specs.Gateway.{processAt}
+use Rattle.lists.specs.Buffer.{overlay}
+use Rattle.lists.specs.Word.{lowFirst}
+use Rattle.message.specs.Answer.{cantOf, createdOf, noticeOf}
+use Rattle.message.specs.Layout.{written, headerOf, stringOf, fixedRight}
+use Rattle.message.specs.Outcome.{numberOf, firstFailing}
+use Rattle.message.specs.Refusal.{unusedZero, carriedLength, wrongLength, wrongHeader, misfits}
+use Rattle.message.specs.Table.{rowOf, requestForm}
+use Rattle.process.specs.Find.{matches, find}
+use Rattle.process.specs.Planting.{plantedIn, liftedIn, removedFrom, replanted, liftedAt}
+use Rattle.process.specs.Record.{fresh}
+use Rattle.process.specs.Report.{accepts, recorded, passes, passed, runAfter, reported}
+use Rattle.process.specs.Request.{hasBreak, hasRoom, examined, deposited, vectorAfter, breakSet, breakRemoved, created, cleared}
+use Rattle.process.specs.Seen.{restored, seen, savedFrom, sheltered, laidByte, laidWord}
+use Rattle.process.specs.Sound.{placed, hosted, liftSound, usedSound, entrySound, soundTest}
+use Rattle.state.specs.Gateway.{freshStart}
+use Rattle.state.specs.Gateway.{soundTest as soundState}
+use Rattle.state.specs.Slot.{startOf, slot, withSlot}
+use Rattle.rules.specs.Rule.{public, ruleOf, names}
+use Rattle.rules.specs.Run.{run}
+use Rattle.rules.specs.Step.{put, grantedNamed, grantedCreate, granted, refused, requested, told, notified, noted, step}
+use Rattle.rules.specs.Tests.{lowestAbsent, askedTests, requestNumber, reportNumber}
+use Rattle.rules.specs.Tests.{State}
+use Rattle.rules.specs.Step.{Answer, localOf, stored}
+use Rattle.rules.specs.Ready.{Ready}
+use Rattle.rules.specs.Isolation.{namesOne, isGranted, publicThen, toldOf, noticed, toThem, part, heard, struck, blank, strike, Alike}
+use Rattle.rules.specs.Outsider.{only, Differ, Never, Outside}
+use Rattle.cases.specs.Pair.{one, other, oneCalls, otherCalls, PremisesMet}
+
+abbrev eightTest : State → Bool
+eightTest s = below (λ (p : ℕ). eqb (length (processAt (s .gateway) p .breaks)) 8) 8
+
+eight : (s : State) → eightTest s ≡ true → (p : ℕ) → p < 8 → length (processAt (s .gateway) p .breaks) ≡ 8
+eight s e p h = eqb-true _ 8 (below-at (λ (q : ℕ). eqb (length (processAt (s .gateway) q .breaks)) 8) 8 p h e)
+
+one-ready : Ready one
+unfolding overlay lowFirst cantOf createdOf noticeOf written headerOf stringOf fixedRight numberOf firstFailing unusedZero carriedLength wrongLength wrongHeader misfits rowOf requestForm matches find plantedIn liftedIn removedFrom replanted liftedAt fresh accepts recorded passes passed runAfter reported hasBreak hasRoom examined deposited vectorAfter breakSet breakRemoved created cleared restored seen savedFrom sheltered laidByte laidWord placed hosted liftSound usedSound entrySound soundTest freshStart soundState startOf slot withSlot public ruleOf names run put grantedNamed grantedCreate granted refused requested told notified noted step lowestAbsent askedTests requestNumber reportNumber
+one-ready = record { memory = refl; processes = refl; entries = eight one refl; sound = refl }
+
+other-ready : Ready other
+unfolding overlay lowFirst cantOf createdOf noticeOf written headerOf stringOf fixedRight numberOf firstFailing unusedZero carriedLength wrongLength wrongHeader misfits rowOf requestForm matches find plantedIn liftedIn removedFrom replanted liftedAt fresh accepts recorded passes passed runAfter reported hasBreak hasRoom examined deposited vectorAfter breakSet breakRemoved created cleared restored seen savedFrom sheltered laidByte laidWord placed hosted liftSound usedSound entrySound soundTest freshStart soundState startOf slot withSlot public ruleOf names run put grantedNamed grantedCreate granted refused requested told notified noted step lowestAbsent askedTests requestNumber reportNumber
+other-ready = record { memory = refl; processes = refl; entries = eight other refl; sound = refl }
+
+others : (q : ℕ) → q < 8 → (q ≡ 2 → ⊥) → localOf one q ≡ localOf other q
+unfolding overlay lowFirst cantOf createdOf noticeOf written headerOf stringOf fixedRight numberOf firstFailing unusedZero carriedLength wrongLength wrongHeader misfits rowOf requestForm matches find plantedIn liftedIn removedFrom replanted liftedAt fresh accepts recorded passes passed runAfter reported hasBreak hasRoom examined deposited vectorAfter breakSet breakRemoved created cleared restored seen savedFrom sheltered laidByte laidWord placed hosted liftSound usedSound entrySound soundTest freshStart soundState startOf slot withSlot public ruleOf names run put grantedNamed grantedCreate granted refused requested told notified noted step lowestAbsent askedTests requestNumber reportNumber
+others zero h n = refl
+others (suc zero) h n = refl
+others (suc (suc zero)) h n = absurd (n refl)
+others (suc (suc (suc zero))) h n = refl
+others (suc (suc (suc (suc zero)))) h n = refl
+others (suc (suc (suc (suc (suc zero))))) h n = refl
+others (suc (suc (suc (suc (suc (suc zero)))))) h n = refl
+others (suc (suc (suc (suc (suc (suc (suc zero))))))) h n = refl
+others (suc (suc (suc (suc (suc (suc (suc (suc q)))))))) h n = absurd (omega arith)
+
+alike : Alike (only 5) (only 2) oneCalls otherCalls
+unfolding namesOne struck blank strike overlay lowFirst cantOf createdOf noticeOf written headerOf stringOf fixedRight numberOf firstFailing unusedZero carriedLength wrongLength wrongHeader misfits rowOf requestForm matches find plantedIn liftedIn removedFrom replanted liftedAt fresh accepts recorded passes passed runAfter reported hasBreak hasRoom examined deposited vectorAfter breakSet breakRemoved created cleared restored seen savedFrom sheltered laidByte laidWord placed hosted liftSound usedSound entrySound soundTest freshStart soundState startOf slot withSlot public ruleOf names run put grantedNamed grantedCreate granted refused requested told notified noted step lowestAbsent askedTests requestNumber reportNumber
+alike = refl
+
+not-five : _≡_ {A = ℕ} 6 5 → ⊥
+not-five e = omega arith
+
+outside : Outside 5 2 one oneCalls
+unfolding namesOne isGranted publicThen toldOf Never stored overlay lowFirst cantOf createdOf noticeOf written headerOf stringOf fixedRight numberOf firstFailing unusedZero carriedLength wrongLength wrongHeader misfits rowOf requestForm matches find plantedIn liftedIn removedFrom replanted liftedAt fresh accepts recorded passes passed runAfter reported hasBreak hasRoom examined deposited vectorAfter breakSet breakRemoved created cleared restored seen savedFrom sheltered laidByte laidWord placed hosted liftSound usedSound entrySound soundTest freshStart soundState startOf slot withSlot public ruleOf names run put grantedNamed grantedCreate granted refused requested told notified noted step lowestAbsent askedTests requestNumber reportNumber
+outside =
+    (not-five, (not-five, (not-five, (not-five, (not-five, (not-five, (not-five, (not-five, (not-five, not-five)))))))))
+
+-- the byte that host 6 examined
+abbrev firstByte : List Answer → ℕ
+firstByte [] = 0
+firstByte (a ∷ rest) = getD (a .buffer) 10 0
+
+unlike : heard (only 6) (run one oneCalls) ≡ heard (only 6) (run other otherCalls) → ⊥
+unfolding heard part toThem noticed stored overlay lowFirst cantOf createdOf noticeOf written headerOf stringOf fixedRight numberOf firstFailing unusedZero carriedLength wrongLength wrongHeader misfits rowOf requestForm matches find plantedIn liftedIn removedFrom replanted liftedAt fresh accepts recorded passes passed runAfter reported hasBreak hasRoom examined deposited vectorAfter breakSet breakRemoved created cleared restored seen savedFrom sheltered laidByte laidWord placed hosted liftSound usedSound entrySound soundTest freshStart soundState startOf slot withSlot public ruleOf names run put grantedNamed grantedCreate granted refused requested told notified noted step lowestAbsent askedTests requestNumber reportNumber
+unlike e = let z : _≡_ {A = ℕ} 0 7 = ap firstByte e in omega arith
+
+pub premises-met : PremisesMet
+unfolding overlay lowFirst cantOf createdOf noticeOf written headerOf stringOf fixedRight numberOf firstFailing unusedZero carriedLength wrongLength wrongHeader misfits rowOf requestForm matches find plantedIn liftedIn removedFrom replanted liftedAt fresh accepts recorded passes passed runAfter reported hasBreak hasRoom examined deposited vectorAfter breakSet breakRemoved created cleared restored seen savedFrom sheltered laidByte laidWord placed hosted liftSound usedSound entrySound soundTest freshStart soundState startOf slot withSlot public ruleOf names run put grantedNamed grantedCreate granted refused requested told notified noted step lowestAbsent askedTests requestNumber reportNumber
+premises-met = record {
+  one-ready = one-ready;
+  other-ready = other-ready;
+  differ = record { there = refl; host = refl; others = others };
+  alike = alike;
+  outside = outside;
+  unlike = unlike;
+}
