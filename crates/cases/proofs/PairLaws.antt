@@ -1,6 +1,6 @@
 -- The premises of isolation, met by two gateways. Assumes nothing.
 use mathlib.Core.Path.{_≡_, refl, ap}
-use mathlib.Core.Bool.{Bool, true, false}
+use mathlib.Core.Bool.{Bool, true}
 use mathlib.Core.List.{List, [], _∷_}
 use Prim.Native.Nat.{ℕ, zero, suc, _<_}
 use native.Mathlib.Omega.{arith}
@@ -35,7 +35,7 @@ use Rattle.rules.specs.Tests.{State}
 use Rattle.rules.specs.Step.{Answer, localOf, stored}
 use Rattle.rules.specs.Ready.{Ready}
 use Rattle.rules.specs.Isolation.{namesOne, isGranted, publicThen, toldOf, noticed, toThem, part, heard, struck, blank, strike, Alike}
-use Rattle.rules.specs.Outsider.{only, Differ, Never, Outside}
+use Rattle.rules.specs.Outsider.{only, Never, Outside}
 use Rattle.cases.specs.Pair.{one, other, oneCalls, otherCalls, PremisesMet}
 
 abbrev eightTest : State → Bool

@@ -1,6 +1,6 @@
 -- A case: a fresh start, calls, and what each call answers and leaves in memory.
-use mathlib.Core.Bool.{Bool, true, false, cond}
-use mathlib.Core.List.{List, [], _∷_, map}
+use mathlib.Core.Bool.{Bool, cond}
+use mathlib.Core.List.{List, [], map}
 use Prim.Native.Nat.{ℕ}
 use lib.ListN.{take, getD, replicate}
 use lib.Dec.{ltb}
@@ -9,8 +9,7 @@ use Rattle.message.specs.declared.outcome.Outcome.the-variants.{Granted, Refuse
 use Rattle.message.specs.Outcome.{numberOf}
 use Rattle.message.specs.Layout.{written}
 use Rattle.state.specs.Gateway.{freshStart}
-use Rattle.rules.specs.Tests.{State}
-use Rattle.rules.specs.Step.{Answer, Call, request, report}
+use Rattle.rules.specs.Step.{Call, request}
 use Rattle.rules.specs.Run.{Entry, run}
 
 -- what is seen of a call: its number, the bytes that it wrote, and bytes of memory after it

@@ -1,28 +1,26 @@
 -- Who is there and who debugs it, after any call: by the call and its answer alone. Assumes nothing.
 use mathlib.Core.Path.{_≡_, refl, sym, ap, _∙_}
-use mathlib.Core.Bool.{Bool, true, false, cond, _&&_, true≢false}
+use mathlib.Core.Bool.{Bool, true, false, cond, true≢false}
 use mathlib.Core.List.{List, []}
 use Prim.Native.Nat.{ℕ, _<_}
 use borrow.Author.Tests.{eqb-true, eqb-false, ltb-true}
-use lib.ListN.{getD}
 use lib.Dec.{eqb, ltb}
 use Rattle.lists.specs.Buffer.{overlay}
 use Rattle.message.specs.Layout.{written, headerOf, stringOf}
 use Rattle.message.specs.Answer.{createdOf}
-use Rattle.process.specs.declared.record.Process.{Process}
 use Rattle.process.specs.Record.{fresh}
 use Rattle.process.specs.Request.{created}
-use Rattle.rules.specs.Rule.{Public, public, ruleOf, names, creates}
-use Rattle.rules.specs.Tests.{State, recordOf, lowestAbsent}
+use Rattle.rules.specs.Rule.{public, ruleOf, names, creates}
+use Rattle.rules.specs.Tests.{State, lowestAbsent}
 use Rattle.rules.specs.Step.{Stepped, localOf, put, replied, grantedCreate, refused, requested, Call, request, report, store, step}
 use Rattle.rules.specs.Ready.{Ready}
-use Rattle.rules.specs.Isolation.{isGranted, publicThen, toldOf, publicOf, Debuggers}
+use Rattle.rules.specs.Isolation.{isGranted, toldOf, publicOf, Debuggers}
 use Rattle.rules.proofs.ProperLaws.{create-proper}
-use Rattle.rules.proofs.RuleLaws.{Row, rule-row}
+use Rattle.rules.proofs.RuleLaws.{rule-row}
 use Rattle.rules.proofs.StateLaws.{Changed, put-changed}
 use Rattle.rules.proofs.NumberLaws.{envelope, envelope-sent}
 use Rattle.rules.proofs.StepLaws.{by-test}
-use Rattle.rules.proofs.NamedLaws.{said, left, named-answer, named-changed, left-told}
+use Rattle.rules.proofs.NamedLaws.{left, named-answer, named-changed, left-told}
 use Rattle.rules.proofs.ShapeLaws.{request-refused, request-away, request-creates, request-idle}
 use Rattle.rules.proofs.HiddenLaws.{Hidden, hidden-report, hidden-store}
 

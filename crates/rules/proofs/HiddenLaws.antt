@@ -1,11 +1,11 @@
 -- One call that hosts who debug none of some processes do not notice: a report about one of these, a store into it, another host's
 -- deposit into it, and their own request that names it. Assumes nothing.
 use mathlib.Core.Path.{_≡_, refl, sym, ap, _∙_}
-use mathlib.Core.Bool.{Bool, true, false, cond, _&&_, _||_, true≢false, and-false}
+use mathlib.Core.Bool.{Bool, true, false, cond, _||_, true≢false, and-false}
 use mathlib.Core.List.{List}
 use Prim.Native.Nat.{ℕ, _+_, _<_}
 use borrow.Author.Tests.{eqb-true, ltb-true}
-use lib.ListN.{length, set, getD}
+use lib.ListN.{length, set}
 use lib.Dec.{eqb, ltb}
 use Rattle.lists.specs.Buffer.{overlay}
 use Rattle.lists.specs.Word.{lowFirst}
@@ -14,15 +14,15 @@ use Rattle.message.specs.Layout.{written, headerOf, stringOf}
 use Rattle.process.specs.declared.record.Process.{Process}
 use Rattle.process.specs.Local.{Local, local}
 use Rattle.process.specs.Report.{reported}
-use Rattle.rules.specs.Rule.{Public, public, ruleOf, names}
+use Rattle.rules.specs.Rule.{public, ruleOf, names}
 use Rattle.rules.specs.Tests.{State, recordOf}
-use Rattle.rules.specs.Step.{Answer, Stepped, localOf, refused, requested, told, noted, stored}
+use Rattle.rules.specs.Step.{localOf, refused, requested, told, noted, stored}
 use Rattle.rules.specs.Ready.{Ready}
 use Rattle.rules.specs.Isolation.{Hosts, Processes, deposits, publicThen, publicOf, noticed, Apart, Free}
-use Rattle.rules.proofs.RuleLaws.{Kept, Row, rule-row, public-reported}
+use Rattle.rules.proofs.RuleLaws.{Kept, rule-row, public-reported}
 use Rattle.rules.proofs.StateLaws.{Changed, unchanged}
 use Rattle.rules.proofs.NumberLaws.{envelope, envelope-sent}
-use Rattle.rules.proofs.NamedLaws.{tested, left, named-changed, refused-same, stranger-refused, left-kept}
+use Rattle.rules.proofs.NamedLaws.{left, named-changed, refused-same, stranger-refused, left-kept}
 use Rattle.rules.proofs.ShapeLaws.{request-refused, request-away, reportTested, reportSaid, afterReport, report-away, report-answer, report-changed, store-changed, store-away}
 use Rattle.rules.proofs.TwoLaws.{apart-changed, stranger}
 

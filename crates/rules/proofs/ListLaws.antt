@@ -2,22 +2,22 @@
 use mathlib.Core.Path.{_≡_, refl, sym, ap, ap₂, _∙_, subst}
 use mathlib.Core.Bool.{Bool, true, false, not, cond, _&&_, true≢false}
 use mathlib.Core.List.{List, [], _∷_, _++_}
-use Prim.Native.Nat.{ℕ, _<_, _≤_}
-use borrow.Author.Tests.{leb-true, not-true}
-use lib.Dec.{eqb, ltb, leb, lit<}
-use lib.ListN.{length, take, getD}
+use Prim.Native.Nat.{ℕ, _<_}
+use borrow.Author.Tests.{not-true}
+use lib.Dec.{leb, lit<}
+use lib.ListN.{length, take}
 use lib.Seq.{getD-take}
 use Rattle.lists.proofs.Bool.{&&-left, &&-right}
 use Rattle.message.specs.declared.header.Header.{Header}
 use Rattle.message.specs.Layout.{headerOf}
 use Rattle.rules.specs.Rule.{Public, names}
 use Rattle.rules.specs.Tests.{State}
-use Rattle.rules.specs.Step.{Answer, requested, noted, Call, request, report, store, step}
+use Rattle.rules.specs.Step.{Answer, requested, Call, request, report, store, step}
 use Rattle.rules.specs.Ready.{Ready}
 use Rattle.rules.specs.Run.{Entry, entry, run, final, leave}
-use Rattle.rules.specs.Isolation.{Hosts, Processes, hostOf, cmdOf, pidOf, namesOne, deposits, publicOf, noticed, toThem, part, heard, struck, blank, strike, Alike, Apart, Free, Away, theirs, Claim}
+use Rattle.rules.specs.Isolation.{Hosts, Processes, hostOf, cmdOf, pidOf, namesOne, deposits, toThem, part, heard, struck, blank, strike, Alike, Apart, Free, Away, theirs, Claim}
 use Rattle.rules.proofs.StepLaws.{by-test, step-ready}
-use Rattle.rules.proofs.TwoLaws.{Both, both-requested, both-noted, both-stored}
+use Rattle.rules.proofs.TwoLaws.{both-requested, both-noted, both-stored}
 use Rattle.rules.proofs.HiddenLaws.{Hidden, hidden-none, hidden-apart, hidden-report, hidden-store, hidden-deposit, report-quiet, idle}
 
 -- ---- states

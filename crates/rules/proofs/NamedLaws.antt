@@ -1,18 +1,17 @@
 -- A request that names a process: what it answers and leaves goes by that process alone, and a stranger's answer by its public part alone.
 -- Assumes nothing.
 use mathlib.Core.Path.{_≡_, refl, sym, ap, _∙_}
-use mathlib.Core.Bool.{Bool, true, false, not, cond, _&&_, true≢false}
+use mathlib.Core.Bool.{Bool, true, false, not, cond}
 use mathlib.Core.List.{List, [], _∷_}
 use mathlib.Core.Logic.{_⊎_, inl, inr}
 use Prim.Native.Nat.{ℕ, _+_, _<_}
-use native.Mathlib.Omega.{arith}
 use borrow.Author.Tests.{eqb-true, lt-ltb, not-false}
 use lib.ListN.{length}
 use lib.Dec.{eqb, ltb}
 use Rattle.lists.specs.Buffer.{overlay}
 use Rattle.message.specs.declared.header.Header.{Header}
 use Rattle.message.specs.declared.outcome.Outcome.the-variants.{Granted, Refused}
-use Rattle.message.specs.Outcome.{Test, test, firstFailing}
+use Rattle.message.specs.Outcome.{test, firstFailing}
 use Rattle.message.specs.Layout.{written, headerOf, stringOf}
 use Rattle.message.specs.Answer.{cantOf}
 use Rattle.message.proofs.OutcomeLaws.{first-passes, rest-passes}
@@ -20,13 +19,13 @@ use Rattle.process.specs.declared.record.Process.{Process}
 use Rattle.process.specs.Local.{Local}
 use Rattle.rules.specs.Rule.{Rule, Public, public, ruleOf, names}
 use Rattle.rules.specs.Tests.{State, recordOf, ruleTests, askedTests, requestNumber}
-use Rattle.rules.specs.Step.{Answer, localOf, put, grantedNamed, granted, refused, requested}
+use Rattle.rules.specs.Step.{Answer, localOf, grantedNamed, granted, refused, requested}
 use Rattle.rules.specs.Ready.{Ready}
 use Rattle.rules.specs.Isolation.{publicThen, isGranted}
 use Rattle.rules.proofs.RuleLaws.{Open, Kept, Taking, Row}
 use Rattle.rules.proofs.StateLaws.{Changed, unchanged, put-changed}
-use Rattle.rules.proofs.NumberLaws.{orElse, envelope, number-staged, Sent}
-use Rattle.rules.proofs.StepLaws.{Accepted, accepted, effect-proper}
+use Rattle.rules.proofs.NumberLaws.{envelope, number-staged}
+use Rattle.rules.proofs.StepLaws.{accepted, effect-proper}
 
 -- the tests 7 to 12 of a process whose number is under 8
 abbrev pub tested : Rule → Header → Process → ℕ
@@ -91,9 +90,6 @@ unfolding firstFailing public
 open-tested r o h p = rw (o .runs (p .run), o .range h, o .room (h .arg1) p, o .found (h .arg1) p)
 
 -- where test 7 or 8 fails, the others are not asked
-barred : (a b : Bool) (n : ℕ) → b ≡ false → cond (not a) 7 (cond (not b) 8 n) ≡ cond (not a) 7 (cond (not b) 8 0)
-barred a b n e = rw e
-
 barred-tested : (r : Rule) (h : Header) (p : Process) → r .right (public p) (h .host) ≡ false → tested r h p ≡ testedBy r h (public p)
 unfolding firstFailing public
 barred-tested r h p e = rw e

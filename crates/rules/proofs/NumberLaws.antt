@@ -1,16 +1,15 @@
 -- The number of a request, stage by stage: what the message says by itself, and what is asked of the process. Assumes nothing.
-use mathlib.Core.Path.{_≡_, refl, sym, ap, _∙_}
-use mathlib.Core.Bool.{Bool, true, false, not, cond, _&&_, _||_, true≢false}
-use mathlib.Core.List.{List, [], _∷_, _++_}
-use Prim.Native.Nat.{ℕ, zero, suc, _+_, _≤_, _<_}
+use mathlib.Core.Path.{_≡_, refl, sym}
+use mathlib.Core.Bool.{Bool, true, false, not, cond, _||_, true≢false}
+use mathlib.Core.List.{List, [], _∷_}
+use Prim.Native.Nat.{ℕ, _+_, _≤_}
 use native.Mathlib.Omega.{arith}
-use borrow.Author.Tests.{eq-eqb, eqb-true, ltb-true, not-true, not-false}
-use lib.ListN.{length, getD}
+use borrow.Author.Tests.{eq-eqb, eqb-true, not-false}
+use lib.ListN.{length}
 use lib.Dec.{eqb, ltb}
 use Rattle.lists.specs.Every.{every}
-use Rattle.lists.proofs.Bool.{&&-left, &&-right, ||-left, ||-right}
+use Rattle.lists.proofs.Bool.{||-right}
 use Rattle.lists.proofs.Every.{every-getD}
-use Rattle.message.specs.declared.header.Header.{Header}
 use Rattle.message.specs.declared.table.Carried.{Carried}
 use Rattle.message.specs.declared.table.Carried.the-variants.{Nothing, Counted, Vector}
 use Rattle.message.specs.declared.table.Op.{Op}
@@ -18,12 +17,11 @@ use Rattle.message.specs.Outcome.{Test, test, firstFailing}
 use Rattle.message.specs.Table.{bare, row, ops, op, asks, requestForm}
 use Rattle.message.specs.Layout.{headerOf, stringOf, fixedRight}
 use Rattle.message.specs.Refusal.{carriedLength, unusedZero, wrongLength, wrongHeader, unknown, misfits, malformed, layoutTests}
-use Rattle.message.proofs.OutcomeLaws.{first-passes, rest-passes}
-use Rattle.message.proofs.TestLaws.{Passed, zero-passed, sized-between}
+use Rattle.message.proofs.OutcomeLaws.{rest-passes}
+use Rattle.message.proofs.TestLaws.{zero-passed, sized-between}
 use Rattle.message.proofs.LayoutLaws.{length-stringOf}
 use Rattle.message.proofs.AnswerLaws.{Asked, asked-passed, requestForm-known}
-use Rattle.rules.specs.Rule.{Rule, public, ruleOf, names, creates}
-use Rattle.rules.specs.Tests.{State, noRoom, unsound, recordOf, absent, ruleTests, askedTests, requestTests, requestNumber, badReport, reportTests, reportNumber}
+use Rattle.rules.specs.Tests.{State, noRoom, unsound, recordOf, absent, askedTests, requestNumber, badReport, reportNumber}
 use Rattle.rules.specs.Ready.{Ready}
 
 -- the tests of a message and its reply buffer by themselves
@@ -63,7 +61,7 @@ module _ (s : State) (r : Ready s) where
 
   -- a report's number likewise
   pub report-staged : (p kind reason : ℕ) (buffer : List ℕ)
-      → reportNumber s p kind reason buffer ≡ firstFailing (test 1 (ltb (length buffer) 266) ∷ test 2 false ∷ test 14 (badReport kind reason) ∷ test 7 (absent s p) ∷ test 9 (not (Rattle.process.specs.Report.accepts kind (recordOf s p .run))) ∷ [])
+      → reportNumber s p kind reason buffer ≡ firstFailing (test 1 (ltb (length buffer) 266) ∷ test 2 false ∷ test 14 (badReport kind reason) ∷ test 7 (absent s p) ∷ test 9 (not (accepts kind (recordOf s p .run))) ∷ [])
   unfolding reportNumber firstFailing
   report-staged p kind reason buffer = rw (room-by buffer, sound-by)
 

@@ -6,13 +6,12 @@ use Prim.Native.Nat.{ℕ, _<_}
 use borrow.Author.Tests.{eqb-true, eqb-false, eq-eqb, ne-eqb}
 use lib.Dec.{eqb}
 use Rattle.process.specs.Local.{Local}
-use Rattle.process.specs.declared.record.Process.{Process}
 use Rattle.rules.specs.Rule.{Public, public}
 use Rattle.rules.specs.Tests.{State, recordOf}
-use Rattle.rules.specs.Step.{Call, step, localOf}
+use Rattle.rules.specs.Step.{Call, step}
 use Rattle.rules.specs.Ready.{Ready}
-use Rattle.rules.specs.Run.{Entry, run, final, leave}
-use Rattle.rules.specs.Isolation.{heard, Alike, Apart, Free, Away, theirs, toldOf, publicOf, Debuggers, Claim}
+use Rattle.rules.specs.Run.{run}
+use Rattle.rules.specs.Isolation.{Apart, Free, Away, toldOf, publicOf, Debuggers, Claim}
 use Rattle.rules.specs.Outsider.{only, Differ, Never, Outside, Outsider}
 use Rattle.rules.proofs.StepLaws.{step-ready}
 use Rattle.rules.proofs.ListLaws.{claim}

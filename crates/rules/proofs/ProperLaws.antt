@@ -1,22 +1,19 @@
 -- What a request or report leaves of a process is again a sound record with eight entries and 4,096 bytes. Assumes nothing.
-use mathlib.Core.Path.{_≡_, refl, sym, ap, _∙_}
-use mathlib.Core.Bool.{Bool, true, false, cond, _||_}
+use mathlib.Core.Path.{_≡_, refl, _∙_}
+use mathlib.Core.Bool.{Bool, true, false, cond}
 use mathlib.Core.List.{List, map}
-use Prim.Native.Nat.{ℕ, _+_, _-_, _≤_, _<_, _%_}
+use Prim.Native.Nat.{ℕ, _+_, _-_, _≤_, _%_}
 use native.Mathlib.Omega.{arith}
-use borrow.Author.Tests.{eqb-true, leb-true}
 use lib.ListN.{length, set, length-set, length-map, length-replicate}
-use lib.Seq.{paste, length-paste}
-use lib.Dec.{ltb, leb, eqb}
-use Rattle.lists.proofs.Bool.{&&-left, &&-right}
-use Rattle.process.specs.declared.record.Process.{Process}
-use Rattle.process.specs.declared.record.Run.the-variants.{Running, Stepping, Stopped}
+use lib.Seq.{length-paste}
+use lib.Dec.{ltb}
+use Rattle.process.specs.declared.record.Run.the-variants.{Running, Stopped}
 use Rattle.process.specs.declared.find.Want.the-variants.{Free, At}
-use Rattle.process.specs.Record.{fresh, withCount, entry, withRun, withHost, withVector, withBreaks, withEntry}
+use Rattle.process.specs.Record.{fresh, withCount, entry, withRun, withHost, withVector, withEntry}
 use Rattle.process.specs.Find.{find}
-use Rattle.process.specs.Sound.{Sound, moving, placed}
+use Rattle.process.specs.Sound.{Sound, moving}
 use Rattle.process.specs.Seen.{seen, savedFrom, sheltered}
-use Rattle.process.specs.Local.{Local, local, Tested, Proper}
+use Rattle.process.specs.Local.{Local, local, Proper}
 use Rattle.process.specs.Planting.{plantedIn, liftedIn, removedFrom, replanted, liftedAt}
 use Rattle.process.specs.Request.{pc, onRecord, halted, atBreak, hasBreak, hasRoom, endDebugged, halt, stepped, proceeded, toBeSeen, deposited, breakSet, breakRemoved, created, cleared}
 use Rattle.process.specs.Report.{accepts, recorded, passes, passed, runAfter, reported}

@@ -1,12 +1,11 @@
 -- What changes a process, and when a right begins and ends. Assumes nothing.
 use mathlib.Core.Path.{_≡_, refl, sym, ap, ap₂, _∙_}
-use mathlib.Core.Bool.{Bool, true, false, not, cond, _&&_}
+use mathlib.Core.Bool.{Bool, true, false, not, cond}
 use mathlib.Core.List.{List, [], _∷_}
 use mathlib.Core.Logic.{_⊎_, inl, inr}
 use Prim.Native.Nat.{ℕ, _<_}
 use native.Mathlib.Omega.{arith}
 use borrow.Author.Tests.{eqb-true, eqb-false, ltb-true, not-true}
-use lib.ListN.{length}
 use lib.Dec.{eqb, ltb}
 use Rattle.lists.proofs.First.{first-passes}
 use Rattle.message.specs.Layout.{headerOf, stringOf}
@@ -16,9 +15,9 @@ use Rattle.process.specs.Local.{Local, local}
 use Rattle.process.specs.Request.{created}
 use Rattle.state.specs.Gateway.{nobody}
 use Rattle.state.proofs.GatewayLaws.{state-sound}
-use Rattle.rules.specs.Rule.{Rule, Public, public, ruleOf, names, creates}
+use Rattle.rules.specs.Rule.{Public, public, ruleOf, names, creates}
 use Rattle.rules.specs.Tests.{State, recordOf, lowestAbsent}
-use Rattle.rules.specs.Step.{Stepped, localOf, put, replied, grantedCreate, refused, requested, noted, stored, Call, request, report, store, step}
+use Rattle.rules.specs.Step.{Stepped, localOf, put, grantedCreate, refused, requested, Call, request, report, store, step}
 use Rattle.rules.specs.Ready.{Ready}
 use Rattle.rules.specs.Run.{final}
 use Rattle.rules.specs.Isolation.{isGranted, publicThen, publicOf}
@@ -30,7 +29,7 @@ use Rattle.rules.proofs.NumberLaws.{envelope, envelope-sent}
 use Rattle.rules.proofs.StepLaws.{by-test, step-ready}
 use Rattle.rules.proofs.NamedLaws.{tested, said, left, named-answer, named-changed, refused-same, tested-right, stranger-refused}
 use Rattle.rules.proofs.ShapeLaws.{request-refused, request-away, request-creates, request-idle}
-use Rattle.rules.proofs.HiddenLaws.{Hidden, hidden-report, hidden-store}
+use Rattle.rules.proofs.HiddenLaws.{hidden-report, hidden-store}
 use Rattle.rules.proofs.DebuggerLaws.{hidden-public}
 
 -- what is in another place of a state that changed in one

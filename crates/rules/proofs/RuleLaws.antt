@@ -1,11 +1,11 @@
 -- What holds of every row of the rules: one law for each row, and every other proof goes by these. Assumes nothing.
 use mathlib.Core.Path.{_≡_, refl, sym, _∙_, subst}
-use mathlib.Core.Bool.{Bool, true, false, not, cond, _&&_, _||_, true≢false}
+use mathlib.Core.Bool.{Bool, true, false, cond, _&&_, _||_, true≢false}
 use mathlib.Core.List.{List, [], _∷_}
-use mathlib.Core.Logic.{_⊎_, inl, inr, ⊎-elim}
+use mathlib.Core.Logic.{_⊎_, inl, inr}
 use Prim.Native.Nat.{ℕ, zero, suc, _+_, _≤_, _<_, _%_}
 use native.Mathlib.Omega.{arith}
-use borrow.Author.Tests.{eqb-true, leb-true, ltb-true}
+use borrow.Author.Tests.{eqb-true, leb-true}
 use lib.ListN.{length, getD}
 use lib.Dec.{eqb, leb, ltb}
 use Rattle.lists.proofs.Bool.{&&-left, &&-right}
@@ -13,10 +13,10 @@ use Rattle.message.specs.declared.header.Header.{Header}
 use Rattle.process.specs.declared.record.Run.{Run}
 use Rattle.process.specs.declared.record.Process.{Process}
 use Rattle.process.specs.declared.find.Want.the-variants.{Lifted, At}
-use Rattle.process.specs.Record.{fresh, entry, withVector}
+use Rattle.process.specs.Record.{fresh, withVector}
 use Rattle.process.specs.Find.{find}
 use Rattle.process.specs.Sound.{moving, placed}
-use Rattle.process.specs.Local.{Local, local, Proper}
+use Rattle.process.specs.Local.{Local, Proper}
 use Rattle.process.specs.Planting.{plantedIn, liftedIn, removedFrom, replanted, liftedAt}
 use Rattle.process.specs.Request.{pc, onRecord, halted, atBreak, hasBreak, hasRoom, endDebugged, halt, resumed, stepped, proceeded, deposited, vectorDeposited, breakSet, breakRemoved, cleared, destroyed}
 use Rattle.process.specs.Report.{recorded, passes, passed, reported}

@@ -1,28 +1,28 @@
 -- A call on a sound state, case by case: what a request is that names no process, or is refused before one is asked, and what a report
 -- does with the process that it is about. Assumes nothing.
-use mathlib.Core.Path.{_≡_, refl, sym, ap, _∙_}
-use mathlib.Core.Bool.{Bool, true, false, not, cond, _&&_}
+use mathlib.Core.Path.{_≡_, refl, _∙_}
+use mathlib.Core.Bool.{Bool, true, false, not, cond}
 use mathlib.Core.List.{List, [], _∷_}
 use Prim.Native.Nat.{ℕ, _+_, _<_}
-use borrow.Author.Tests.{eqb-true, lt-ltb, ltb-true}
+use borrow.Author.Tests.{eqb-true, lt-ltb}
 use lib.ListN.{length, set}
 use lib.Dec.{eqb, ltb}
 use Rattle.lists.specs.Buffer.{overlay}
 use Rattle.lists.specs.Word.{lowFirst}
 use Rattle.message.specs.declared.outcome.Outcome.the-variants.{Granted, Refused}
-use Rattle.message.specs.Outcome.{Test, test, firstFailing}
-use Rattle.message.specs.Layout.{written, headerOf, stringOf}
+use Rattle.message.specs.Outcome.{test, firstFailing}
+use Rattle.message.specs.Layout.{written, headerOf}
 use Rattle.message.specs.Answer.{noticeOf}
 use Rattle.process.specs.declared.record.Process.{Process}
 use Rattle.process.specs.Local.{Local, local}
 use Rattle.process.specs.Report.{accepts, reported}
 use Rattle.rules.specs.Rule.{names, creates}
 use Rattle.rules.specs.Tests.{State, recordOf, lowestAbsent, askedTests, requestNumber, badReport, reportNumber}
-use Rattle.rules.specs.Step.{Answer, Stepped, answers, localOf, put, replied, grantedCreate, granted, refused, requested, told, notified, noted, stored}
+use Rattle.rules.specs.Step.{Answer, Stepped, answers, localOf, replied, grantedCreate, granted, refused, requested, told, notified, noted, stored}
 use Rattle.rules.specs.Ready.{Ready}
 use Rattle.rules.proofs.ProperLaws.{report-proper, store-proper}
 use Rattle.rules.proofs.StateLaws.{local-proper, Changed, unchanged, put-changed}
-use Rattle.rules.proofs.NumberLaws.{orElse, envelope, number-staged, report-staged}
+use Rattle.rules.proofs.NumberLaws.{envelope, number-staged, report-staged}
 use Rattle.rules.proofs.StepLaws.{by-test, report-zero}
 
 -- ---- requests

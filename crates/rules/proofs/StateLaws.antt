@@ -1,20 +1,17 @@
 -- A state with another process in one place: what changes, what stays, and that it is still sound. Assumes nothing.
-use mathlib.Core.Path.{_≡_, refl, sym, ap, _∙_}
+use mathlib.Core.Path.{_≡_, refl, ap, _∙_}
 use mathlib.Core.Bool.{Bool, true, false}
-use mathlib.Core.List.{List}
 use Prim.Native.Nat.{ℕ, _<_}
 use native.Mathlib.Omega.{arith}
 use borrow.Author.Tests.{eqb-true, eqb-false}
-use lib.ListN.{length, set, length-set}
+use lib.ListN.{length, length-set}
 use lib.Seq.{getD-set-same, getD-set-other}
 use lib.Dec.{eqb}
-use Rattle.lists.proofs.Every.{below-at}
 use Rattle.process.specs.declared.record.Process.{Process}
 use Rattle.process.specs.Sound.{Sound}
-use Rattle.process.specs.Sound.{soundTest as soundProcess}
-use Rattle.process.specs.Local.{Local, local, Tested, Proper}
-use Rattle.state.specs.Gateway.{nobody, processAt, soundTest}
-use Rattle.state.specs.Slot.{slot, withSlot}
+use Rattle.process.specs.Local.{Local, Proper}
+use Rattle.state.specs.Gateway.{nobody}
+use Rattle.state.specs.Slot.{slot}
 use Rattle.state.proofs.GatewayLaws.{state-sound, state-passes}
 use Rattle.state.proofs.SlotLaws.{length-slot, length-withSlot, slot-same, slot-other}
 use Rattle.rules.specs.Tests.{State, recordOf}

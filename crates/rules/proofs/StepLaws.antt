@@ -1,25 +1,24 @@
 -- One call on a sound state: the state after it is sound. Assumes nothing.
-use mathlib.Core.Path.{_≡_, refl, sym, ap, _∙_}
-use mathlib.Core.Bool.{Bool, true, false, not, cond, _&&_, true≢false}
-use mathlib.Core.List.{List, [], _∷_}
+use mathlib.Core.Path.{_≡_, refl, sym, _∙_}
+use mathlib.Core.Bool.{Bool, true, false, not, cond, _&&_}
+use mathlib.Core.List.{List}
 use Prim.Native.Nat.{ℕ, zero, suc, _≤_, _<_}
 use native.Mathlib.Omega.{arith}
 use borrow.Author.Tests.{eqb-true, ltb-true, not-false}
-use lib.ListN.{length, set}
+use lib.ListN.{length}
 use lib.Dec.{eqb, ltb, eqb·suc-zero}
 use Rattle.lists.proofs.Bool.{&&-left, &&-right}
 use Rattle.message.specs.declared.header.Header.{Header}
-use Rattle.message.specs.Outcome.{Test, test, firstFailing}
+use Rattle.message.specs.Outcome.{firstFailing}
 use Rattle.message.specs.Layout.{headerOf, stringOf}
 use Rattle.message.proofs.OutcomeLaws.{first-passes, rest-passes}
 use Rattle.process.specs.declared.record.Process.{Process}
-use Rattle.process.specs.Local.{Local, local, Proper}
+use Rattle.process.specs.Local.{Proper}
 use Rattle.process.specs.Request.{created}
 use Rattle.process.specs.Report.{accepts, reported}
-use Rattle.state.specs.Slot.{slot}
-use Rattle.rules.specs.Rule.{Rule, public, ruleOf, names, creates}
-use Rattle.rules.specs.Tests.{State, recordOf, absent, lowestAbsent, ruleTests, askedTests, requestNumber, badReport, reportNumber}
-use Rattle.rules.specs.Step.{Answer, Stepped, answers, localOf, put, replied, grantedNamed, grantedCreate, granted, refused, requested, told, notified, noted, stored, Call, request, report, store, step}
+use Rattle.rules.specs.Rule.{Rule, ruleOf, names, creates}
+use Rattle.rules.specs.Tests.{State, recordOf, absent, lowestAbsent, ruleTests, askedTests, requestNumber, reportNumber}
+use Rattle.rules.specs.Step.{Stepped, localOf, put, grantedNamed, grantedCreate, granted, refused, requested, told, notified, noted, stored, Call, request, report, store, step}
 use Rattle.rules.specs.Ready.{Ready}
 use Rattle.rules.proofs.ProperLaws.{create-proper, report-proper, store-proper}
 use Rattle.rules.proofs.RuleLaws.{Passing, rule-row}

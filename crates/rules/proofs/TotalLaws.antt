@@ -1,31 +1,27 @@
 -- Demand 1. Assumes nothing.
 use mathlib.Core.Path.{_≡_, refl, sym, ap, _∙_, subst}
-use mathlib.Core.Bool.{Bool, true, false, not, cond, _&&_, _||_, true≢false}
-use mathlib.Core.List.{List, [], _∷_, _++_}
+use mathlib.Core.Bool.{Bool, true, false, cond, _&&_, true≢false}
+use mathlib.Core.List.{List, [], _∷_}
 use mathlib.Core.Logic.{_⊎_, inl, inr}
-use Prim.Native.Nat.{ℕ, zero, suc, _+_, _≤_}
-use native.Mathlib.Omega.{arith}
+use Prim.Native.Nat.{ℕ, _+_, _≤_}
 use borrow.Author.Tests.{eqb-true, leb-true}
-use lib.ListN.{length, drop, length-append}
+use lib.ListN.{length, drop}
 use lib.Seq.{drop-append-seam}
-use lib.Dec.{leb, ltb, eqb, eqb·suc-zero}
+use lib.Dec.{leb, ltb, eqb}
 use Rattle.lists.specs.Buffer.{overlay}
 use Rattle.lists.specs.Every.{every}
 use Rattle.lists.specs.Word.{lowFirst}
 use Rattle.lists.proofs.Bool.{&&-left, &&-right}
 use Rattle.message.specs.declared.header.Header.{Header}
-use Rattle.message.specs.declared.outcome.Outcome.{Outcome}
 use Rattle.message.specs.declared.outcome.Outcome.the-variants.{Granted, Refused}
-use Rattle.message.specs.Outcome.{Test, test, firstFailing, numberOf}
-use Rattle.message.specs.Layout.{written, headerOf, stringOf, fixedRight}
-use Rattle.message.specs.Refusal.{layoutTests}
-use Rattle.message.specs.Table.{requestForm}
-use Rattle.message.specs.Answer.{cantOf, noticeOf}
+use Rattle.message.specs.Outcome.{Test, firstFailing, numberOf}
+use Rattle.message.specs.Layout.{written, headerOf, stringOf}
+use Rattle.message.specs.Answer.{cantOf}
 use Rattle.message.proofs.LayoutLaws.{length-written}
 use Rattle.process.specs.Local.{Local}
-use Rattle.rules.specs.Rule.{ruleOf, names, creates}
+use Rattle.rules.specs.Rule.{names, creates}
 use Rattle.rules.specs.Tests.{State, askedTests, requestTests, requestNumber, reportTests, reportNumber}
-use Rattle.rules.specs.Step.{Answer, Stepped, localOf, replied, grantedNamed, grantedCreate, granted, refused, requested, told, notified, noted, Call}
+use Rattle.rules.specs.Step.{Stepped, localOf, replied, grantedNamed, grantedCreate, granted, refused, requested, told, notified, noted}
 use Rattle.rules.specs.Isolation.{isGranted}
 use Rattle.rules.specs.Total.{First, reportNumbers, cantOver, Total}
 use Rattle.rules.proofs.StepLaws.{by-test, step-ready}

@@ -1,12 +1,12 @@
 -- One call on two states that differ in some processes alone: the states after it do too, and the hosts who debug none of these
 -- processes are answered alike. Assumes nothing.
 use mathlib.Core.Path.{_≡_, refl, sym, ap, ap₂, _∙_}
-use mathlib.Core.Bool.{Bool, true, false, not, cond, _&&_, true≢false}
+use mathlib.Core.Bool.{Bool, true, false, not, cond, true≢false}
 use mathlib.Core.List.{List, []}
 use Prim.Native.Nat.{ℕ, _<_}
 use native.Mathlib.Omega.{arith}
 use borrow.Author.Tests.{eqb-true, eqb-false, ltb-true}
-use lib.ListN.{length, set}
+use lib.ListN.{set}
 use lib.Dec.{eqb, ltb}
 use Rattle.lists.proofs.First.{first-alike}
 use Rattle.message.specs.declared.header.Header.{Header}
@@ -18,15 +18,15 @@ use Rattle.state.specs.Gateway.{nobody}
 use Rattle.state.specs.Slot.{slot}
 use Rattle.rules.specs.Rule.{Rule, Public, public, ruleOf, names, creates}
 use Rattle.rules.specs.Tests.{State, recordOf, lowestAbsent}
-use Rattle.rules.specs.Step.{Answer, Stepped, answers, localOf, put, grantedCreate, refused, requested, noted, stored}
+use Rattle.rules.specs.Step.{Stepped, localOf, grantedCreate, refused, requested, noted, stored}
 use Rattle.rules.specs.Ready.{Ready}
-use Rattle.rules.specs.Isolation.{Hosts, Processes, hostOf, cmdOf, pidOf, publicOf, Apart, Free}
+use Rattle.rules.specs.Isolation.{Hosts, Processes, publicOf, Apart, Free}
 use Rattle.rules.proofs.ProperLaws.{create-proper}
 use Rattle.rules.proofs.RuleLaws.{Row, rule-row}
-use Rattle.rules.proofs.StateLaws.{Changed, unchanged, put-changed}
-use Rattle.rules.proofs.NumberLaws.{envelope, Sent, envelope-sent}
+use Rattle.rules.proofs.StateLaws.{Changed, put-changed}
+use Rattle.rules.proofs.NumberLaws.{envelope, envelope-sent}
 use Rattle.rules.proofs.NamedLaws.{said, left, saidBy, testedBy, named-answer, named-changed, said-stranger, left-alike}
-use Rattle.rules.proofs.ShapeLaws.{request-refused, request-away, request-creates, request-idle, awayNumber, reportSaid, afterReport, report-away, report-answer, report-changed, store-changed, store-away}
+use Rattle.rules.proofs.ShapeLaws.{request-refused, request-away, request-creates, request-idle, reportSaid, afterReport, report-away, report-answer, report-changed, store-changed, store-away}
 
 -- one test in two places
 by-test₂ : {A B : Type 0} (F : A → B → Type 0) (t : Bool) {x y : A} {z w : B} → (t ≡ true → F x z) → (t ≡ false → F y w) → F (cond t x y) (cond t z w)

@@ -1,5 +1,5 @@
 -- One call: what is answered, and state, memory and output buffer after it.
-use mathlib.Core.Bool.{Bool, true, false, not, cond, _&&_, _||_}
+use mathlib.Core.Bool.{Bool, not, cond, _&&_}
 use mathlib.Core.List.{List, []}
 use Prim.Native.Nat.{ℕ, _+_}
 use lib.ListN.{length, set}
@@ -14,9 +14,9 @@ use Rattle.message.specs.Answer.{cantOf, createdOf, noticeOf}
 use Rattle.process.specs.Local.{Local, local}
 use Rattle.process.specs.Request.{created}
 use Rattle.process.specs.Report.{recorded, passes, reported}
-use Rattle.state.specs.Gateway.{processAt, withProcess}
+use Rattle.state.specs.Gateway.{withProcess}
 use Rattle.state.specs.Slot.{slot, withSlot}
-use Rattle.rules.specs.Rule.{Rule, ruleOf, names, creates}
+use Rattle.rules.specs.Rule.{ruleOf, names, creates}
 use Rattle.rules.specs.Tests.{State, recordOf, lowestAbsent, requestNumber, reportNumber}
 
 -- 'An answer is all that a call returns but the state, and every byte of its output buffers after it.'

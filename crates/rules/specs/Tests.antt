@@ -1,5 +1,5 @@
 -- 'Numbers returned, and the order of tests'.
-use mathlib.Core.Bool.{Bool, true, false, not, cond, _&&_, _||_}
+use mathlib.Core.Bool.{Bool, not, cond, _&&_, _||_}
 use mathlib.Core.List.{List, [], _∷_, _++_}
 use Prim.Native.Nat.{ℕ, _+_}
 use lib.ListN.{length}
@@ -14,7 +14,7 @@ use Rattle.process.specs.declared.record.Process.{Process}
 use Rattle.process.specs.Report.{accepts}
 use Rattle.state.specs.declared.gateway.Gateway.{Gateway}
 use Rattle.state.specs.Gateway.{processAt, soundTest}
-use Rattle.rules.specs.Rule.{Rule, Public, public, ruleOf, names, creates}
+use Rattle.rules.specs.Rule.{Rule, public, ruleOf, names, creates}
 
 -- the gateway's eight records and the lent memory
 pub record State : Type 0 where

@@ -1,20 +1,18 @@
 -- Demand 1: every call is answered by a number of the list, and a refusal changes nothing.
 use mathlib.Core.Path.{_≡_}
 use mathlib.Core.Bool.{Bool, true, false, cond, _||_}
-use mathlib.Core.List.{List, [], _∷_, _++_}
+use mathlib.Core.List.{List, [], _∷_}
 use mathlib.Core.Logic.{_⊎_}
 use Prim.Native.Nat.{ℕ, _≤_}
 use lib.ListN.{length, drop}
-use lib.Dec.{leb, ltb, eqb}
+use lib.Dec.{ltb, eqb}
 use Rattle.lists.specs.Buffer.{overlay}
-use Rattle.lists.specs.Every.{every}
-use Rattle.message.specs.declared.outcome.Outcome.{Outcome}
 use Rattle.message.specs.declared.outcome.Outcome.the-variants.{Granted, Refused}
-use Rattle.message.specs.Outcome.{Test, test, firstFailing, numberOf, lengthOf}
+use Rattle.message.specs.Outcome.{Test, numberOf}
 use Rattle.message.specs.Layout.{written, headerOf}
 use Rattle.message.specs.Answer.{cantOf}
 use Rattle.rules.specs.Tests.{State, requestTests, reportTests}
-use Rattle.rules.specs.Step.{Answer, Stepped, Call, requested, noted, step}
+use Rattle.rules.specs.Step.{Call, requested, noted, step}
 use Rattle.rules.specs.Ready.{Ready}
 
 -- 0, or one of the numbers 1 to 13; a report's is 0, 1, 2, 14, 7 or 9
