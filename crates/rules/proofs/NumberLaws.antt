@@ -21,6 +21,7 @@ use Rattle.message.proofs.OutcomeLaws.{rest-passes}
 use Rattle.message.proofs.TestLaws.{zero-passed, sized-between}
 use Rattle.message.proofs.LayoutLaws.{length-stringOf}
 use Rattle.message.proofs.AnswerLaws.{Asked, asked-passed, requestForm-known}
+use Rattle.process.specs.Report.{accepts}
 use Rattle.rules.specs.Tests.{State, noRoom, unsound, recordOf, absent, askedTests, requestNumber, badReport, reportNumber}
 use Rattle.rules.specs.Ready.{Ready}
 
