@@ -46,7 +46,7 @@ outcomes c = map (seenOf (c .places)) (run (record { gateway = freshStart (c .th
 -- ---- calls
 
 abbrev pub buffer : List ℕ
-buffer = replicate 266 0
+buffer = replicate 266 170
 
 abbrev pub sent : List ℕ → Call
 sent m = request m buffer

@@ -43,7 +43,7 @@ deposit string = asked 6 4 2 16 2 string
 abbrev pub oneCalls : List Call
 oneCalls = asked 5 1 3 0 0 [] ∷ asked 6 6 2 0 1 [] ∷ deposit (1 ∷ 2 ∷ []) ∷ halt ∷ store 2 9 9 ∷ store 3 1 4 ∷ closing
 
--- other bytes and more of them, no report, another store
+-- other bytes and more of them, no report, two other stores
 abbrev pub otherCalls : List Call
 otherCalls = asked 5 1 3 0 0 [] ∷ asked 6 6 2 0 1 [] ∷ deposit (3 ∷ 4 ∷ 5 ∷ []) ∷ store 2 7 7 ∷ store 2 8 8 ∷ store 3 1 4 ∷ closing
 

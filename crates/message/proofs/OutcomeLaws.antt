@@ -9,7 +9,7 @@ use Rattle.message.specs.declared.outcome.Outcome.the-variants.{Granted}
 use Rattle.message.specs.declared.outcome.Outcome.the-variants.{Refused as OutcomeRefused}
 use Rattle.message.specs.declared.outcome.Reading.the-variants.{Message}
 use Rattle.message.specs.declared.outcome.Reading.the-variants.{Refused as ReadingRefused}
-use Rattle.message.specs.Outcome.{outcome, reading, numberOf, lengthOf, Test, test, firstFailing}
+use Rattle.message.specs.Outcome.{outcome, reading, numberOf, Test, test, firstFailing}
 
 -- number 0 is the grant
 pub outcome-zero : (number length : ℕ) → number ≡ 0 → Granted length ≡ outcome number length

@@ -20,11 +20,6 @@ unfoldable pub numberOf : Outcome → ℕ
 numberOf (Granted length) = 0
 numberOf (OutcomeRefused number) = number
 
--- the length of each case: 'writes nothing' when refused
-unfoldable pub lengthOf : Outcome → ℕ
-lengthOf (Granted length) = length
-lengthOf (OutcomeRefused number) = 0
-
 -- the same for a reader: the fields where no test fails, else the number
 unfoldable pub reading : ℕ → Header → Reading
 reading zero header = Message header

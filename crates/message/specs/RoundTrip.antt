@@ -20,7 +20,7 @@ pub record WrittenAs (forms : Forms) (h : Header) (string buffer m : List ℕ) :
   pub granted : writes forms h string buffer .outcome ≡ Granted (length m)
   pub bytes : take (length m) (writes forms h string buffer .buffer) ≡ m
 
--- 'Writing a message and reading it gives it back, and only its written form is read as it.'
+-- Writing a message and reading it gives it back, and only its written form is read as it.
 -- A string that stood in the buffer already counts as written.
 pub record RoundTrip (forms : Forms) : Type 0 where
   pub written-is-read : (h : Header) (string buffer : List ℕ) (n : ℕ) → writes forms h string buffer .outcome ≡ Granted n

@@ -49,8 +49,8 @@ asks op = op .0
 abbrev pub replies : Op → Form
 replies op = op .1
 
--- 'Used fields: all but 0 and 12 use PID; 4, 6, 7, 8 use ARG1 and ARG2; 9 uses ARG1. Only 4 and 7 carry a string, of exactly ARG2 bytes.'
--- 'Reply: the request's CMD, PID, ARG1, ARG2. CONTENTS (reply to 6) appends the ARG2 bytes. CREATED carries the new number in PID.'
+-- 'Used fields: all but 0 and 12 use PID ..; 4, 6, 7, 8 use ARG1 and ARG2; 9 uses ARG1. .. Only 4 and 7 carry a string, of exactly ARG2 bytes.'
+-- 'Reply: the request's CMD, PID, ARG1, ARG2 .. CONTENTS (reply to 6) appends the ARG2 bytes. CREATED carries the new number in PID.'
 abbrev pub ops : List Op
 ops =
     row bare bare  -- 0 NOP

@@ -157,6 +157,41 @@ module _ (H : Hosts) (P : Processes) where
       ∙ ap (λ (l : List Call). heard H (run s₂ l)) e
       ∙ sym (normal l₂ s₂ s₂ r₂ r₂ (apart-same P s₂) (both-away s₁ s₂ r₁ r₂ a l₁ l₂ e w))
 
+  -- ---- the states at the end
+
+  final-apart : (l : List Call) (s₁ s₂ : State) → Ready s₁ → Ready s₂ → Apart P s₁ s₂ → Apart P (final s₁ l) (final s₂ (strike H P l))
+  unfolding final strike
+  final-apart [] s₁ s₂ r₁ r₂ a = a
+  final-apart (c ∷ l) s₁ s₂ r₁ r₂ a =
+      by-test (λ (x : List Call). Apart P (final (step s₁ c .after) l) (final s₂ x)) (struck P c)
+      (λ e. final-apart l (step s₁ c .after) s₂ (step-ready s₁ r₁ c) r₂ (struck-apart P s₁ s₂ r₁ a c e))
+      (λ e. final-apart l (step s₁ c .after) (step s₂ (blank H P c) .after) (step-ready s₁ r₁ c) (step-ready s₂ r₂ (blank H P c)) (stays H P s₁ s₂ r₁ r₂ a c e .apart))
+
+  final-ready : (l : List Call) (s : State) → Ready s → Ready (final s l)
+  unfolding final
+  final-ready [] s r = r
+  final-ready (c ∷ l) s r = final-ready l (step s c .after) (step-ready s r c)
+
+  final-free : (l : List Call) (s : State) → Away H P s l → Free H P (final s l)
+  unfolding final Away
+  final-free [] s w = w
+  final-free (c ∷ l) s w = final-free l (step s c .after) (w .1)
+
+  -- the answer after a list is the one after what is left of it
+  next-struck : (l : List Call) (s₁ s₂ : State) → Ready s₁ → Ready s₂ → Apart P s₁ s₂ → Away H P s₁ l → (m buffer : List ℕ) → H (hostOf m) ≡ true
+      → step (final s₁ l) (request m buffer) .answer ≡ step (final s₂ (strike H P l)) (request m buffer) .answer
+  unfolding step
+  next-struck l s₁ s₂ r₁ r₂ a w m buffer h =
+      both-requested H P (final s₁ l) (final s₂ (strike H P l)) (final-ready l s₁ r₁) (final-ready (strike H P l) s₂ r₂) (final-apart l s₁ s₂ r₁ r₂ a) m buffer .same h
+      (final-free l s₁ w)
+
+  same-next : (s₁ s₂ : State) → Ready s₁ → Ready s₂ → Apart P s₁ s₂ → (l₁ l₂ : List Call) → Alike H P l₁ l₂ → Away H P s₁ l₁
+      → (m buffer : List ℕ) → H (hostOf m) ≡ true → step (final s₁ l₁) (request m buffer) .answer ≡ step (final s₂ l₂) (request m buffer) .answer
+  same-next s₁ s₂ r₁ r₂ a l₁ l₂ e w m buffer h =
+      next-struck l₁ s₁ s₂ r₁ r₂ a w m buffer h
+      ∙ ap (λ (l : List Call). step (final s₂ l) (request m buffer) .answer) e
+      ∙ sym (next-struck l₂ s₂ s₂ r₂ r₂ (apart-same P s₂) (both-away s₁ s₂ r₁ r₂ a l₁ l₂ e w) m buffer h)
+
   -- ---- what is left out
 
   theirs-idle : (s : State) → Ready s → (c : Call) → theirs H P c ≡ true → Free H P s → Free H P (step s c .after) → step s c .after ≡ s
@@ -202,4 +237,4 @@ module _ (H : Hosts) (P : Processes) where
       go rest false e = rest
 
   pub claim : Claim H P
-  claim = record { same-heard = same-heard; both-away = both-away; left-out = left-out; same-end = same-end }
+  claim = record { same-heard = same-heard; same-next = same-next; both-away = both-away; left-out = left-out; same-end = same-end }

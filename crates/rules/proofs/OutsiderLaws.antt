@@ -69,6 +69,8 @@ module _ (host p : ℕ) where
   outsider low = record {
     either = λ s₁ s₂ r₁ r₂ d l₁ l₂ e w. away-out low l₂ s₂ r₂ (c .both-away s₁ s₂ r₁ r₂ (differ-apart p s₁ s₂ d) l₁ l₂ e (out-away l₁ s₁ r₁ w));
     same-answers = λ s₁ s₂ r₁ r₂ d l₁ l₂ e w. c .same-heard s₁ s₂ r₁ r₂ (differ-apart p s₁ s₂ d) l₁ l₂ e (out-away l₁ s₁ r₁ w);
+    same-next = λ s₁ s₂ r₁ r₂ d l₁ l₂ e w m buffer h.
+        c .same-next s₁ s₂ r₁ r₂ (differ-apart p s₁ s₂ d) l₁ l₂ e (out-away l₁ s₁ r₁ w) m buffer (eq-eqb host _ (sym h));
     unnoticed = λ s r l w. c .left-out s r l (out-away l s r w);
     same-end = λ s r l w. c .same-end s r l (out-away l s r w);
   }

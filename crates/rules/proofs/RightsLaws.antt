@@ -46,7 +46,9 @@ absent-unheld s r low =
 
 module _ (s : State) (r : Ready s) (m buffer : List ℕ) (p : ℕ) (low : p < 8) where
   abbrev Change : Stepped → Type 0
-  Change x = ((holder s p ≡ headerOf m .host) ⊎ (holder (x .after) p ≡ headerOf m .host) → ⊥) → localOf (x .after) p ≡ localOf s p
+  Change x =
+      (((holder s p ≡ headerOf m .host) ⊎ (holder (x .after) p ≡ headerOf m .host)) × ((headerOf m .pid ≡ p) ⊎ (headerOf m .cmd ≡ 12)) → ⊥)
+      → localOf (x .after) p ≡ localOf s p
 
   change-named : envelope m buffer ≡ 0 → names (headerOf m .cmd) ≡ true → headerOf m .pid < 8 → Change (requested m buffer s)
   change-named sent n near out = go (eqb p q) refl
@@ -60,9 +62,9 @@ module _ (s : State) (r : Ready s) (m buffer : List ℕ) (p : ℕ) (low : p < 8)
       go : (t : Bool) → eqb p q ≡ t → localOf (requested m buffer s .after) p ≡ localOf s p
       go true e =
           let same = eqb-true p q e in
-          let before : holder s q ≡ headerOf m .host → ⊥ = λ i. out (inl (ap (holder s) same ∙ i)) in
+          let before : holder s q ≡ headerOf m .host → ⊥ = λ i. out (inl (ap (holder s) same ∙ i), inl (sym same)) in
           let after : public (left (ruleOf (headerOf m .cmd)) (headerOf m) (stringOf m) (localOf s q) .process) .host ≡ headerOf m .host → ⊥ =
-          λ i. out (inr (ap (holder (requested m buffer s .after)) same ∙ ap (λ (x : Process). public x .host) (here .here) ∙ i)) in
+          λ i. out (inr (ap (holder (requested m buffer s .after)) same ∙ ap (λ (x : Process). public x .host) (here .here) ∙ i), inl (sym same)) in
           ap (λ (x : State). localOf x p)
           (refused-same s r m buffer sent n near
           (stranger-refused (headerOf m .cmd) (ruleOf (headerOf m .cmd)) (rule-row (headerOf m .cmd) (envelope-sent m buffer sent .asked .known))
@@ -81,16 +83,16 @@ module _ (s : State) (r : Ready s) (m buffer : List ℕ) (p : ℕ) (low : p < 8)
   made-held k e =
       ap (holder (put (lowestAbsent s) (created (headerOf m .host)) s)) e ∙ ap (λ (x : Process). public x .host) (made k .here)
 
-  change-created : Change (cond (ltb (lowestAbsent s) 8) (grantedCreate (headerOf m) buffer s) (refused 13 (headerOf m) buffer s))
+  change-created : creates (headerOf m .cmd) ≡ true → Change (cond (ltb (lowestAbsent s) 8) (grantedCreate (headerOf m) buffer s) (refused 13 (headerOf m) buffer s))
   unfolding grantedCreate
-  change-created =
+  change-created c =
       by-test Change (ltb (lowestAbsent s) 8) (λ e out. go out (ltb-true _ 8 e) (eqb p (lowestAbsent s)) refl) (λ e. change-refused 13)
     where
       after : State
       after = put (lowestAbsent s) (created (headerOf m .host)) s
 
-      go : ((holder s p ≡ headerOf m .host) ⊎ (holder after p ≡ headerOf m .host) → ⊥) → lowestAbsent s < 8 → (t : Bool) → eqb p (lowestAbsent s) ≡ t → localOf after p ≡ localOf s p
-      go out k true e = absurd (out (inr (made-held k (eqb-true p (lowestAbsent s) e))))
+      go : (((holder s p ≡ headerOf m .host) ⊎ (holder after p ≡ headerOf m .host)) × ((headerOf m .pid ≡ p) ⊎ (headerOf m .cmd ≡ 12)) → ⊥) → lowestAbsent s < 8 → (t : Bool) → eqb p (lowestAbsent s) ≡ t → localOf after p ≡ localOf s p
+      go out k true e = absurd (out (inr (made-held k (eqb-true p (lowestAbsent s) e)), inr (eqb-true (headerOf m .cmd) 12 c)))
       go out k false e = elsewhere (made k) p low (eqb-false p (lowestAbsent s) e)
 
   -- ---- who debugs it then
@@ -204,7 +206,7 @@ module _ (s : State) (r : Ready s) (m buffer : List ℕ) (p : ℕ) (low : p < 8)
       creating : envelope m buffer ≡ 0 → names (headerOf m .cmd) ≡ false → (t : Bool) → creates (headerOf m .cmd) ≡ t → Asked
       creating sent n true c =
           let e = request-creates s r m buffer sent n c in
-          record { change = rw e change-created; turns = turns-created c e }
+          record { change = rw e (change-created c); turns = turns-created c e }
       creating sent n false c =
           let e = request-idle s r m buffer sent n c in
           record { change = λ out. ap (λ (x : Stepped). localOf (x .after) p) e; turns = turns-refused (ap (λ (x : Stepped). x .after) e) }

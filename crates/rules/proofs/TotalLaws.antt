@@ -4,7 +4,7 @@ use mathlib.Core.Bool.{Bool, true, false, cond, _&&_, true≢false}
 use mathlib.Core.List.{List, [], _∷_}
 use mathlib.Core.Logic.{_⊎_, inl, inr}
 use Prim.Native.Nat.{ℕ, _+_, _≤_}
-use borrow.Author.Tests.{eqb-true, leb-true}
+use borrow.Author.Tests.{eqb-true, eq-eqb, leb-true}
 use lib.ListN.{length, drop}
 use lib.Seq.{drop-append-seam}
 use lib.Dec.{leb, ltb, eqb}
@@ -107,6 +107,15 @@ module _ (s : State) (m buffer : List ℕ) where
   unfolding refused
   request-silent n e = ap (λ (x : Stepped). x .answer .buffer) (request-refusal n e)
 
+-- 0 is granted
+request-granted : (s : State) (m buffer : List ℕ) → numberOf (requested m buffer s .answer .outcome) ≡ 0 → isGranted (requested m buffer s .answer .outcome) ≡ true
+unfolding requested
+request-granted s m buffer z = go (eqb (requestNumber s m buffer) 0) refl
+  where
+    go : (t : Bool) → eqb (requestNumber s m buffer) 0 ≡ t → isGranted (requested m buffer s .answer .outcome) ≡ true
+    go true e = rw e (granted-is s m buffer)
+    go false e = absurd (true≢false (sym (eq-eqb _ 0 (sym (request-is s m buffer) ∙ z)) ∙ e))
+
 -- what is past an overlay is as it was
 past : (xs buffer : List ℕ) → drop (length xs) (overlay xs buffer) ≡ drop (length xs) buffer
 unfolding overlay
@@ -177,6 +186,15 @@ module _ (s : State) (p kind reason : ℕ) (words buffer : List ℕ) where
       Past : Stepped → Type 0
       Past x = x .answer .outcome ≡ Granted n → drop n (x .answer .buffer) ≡ drop n buffer
 
+report-granted : (s : State) (p kind reason : ℕ) (words buffer : List ℕ) → numberOf (noted p kind reason words buffer s .answer .outcome) ≡ 0
+    → isGranted (noted p kind reason words buffer s .answer .outcome) ≡ true
+unfolding noted
+report-granted s p kind reason words buffer z = go (eqb (reportNumber s p kind reason buffer) 0) refl
+  where
+    go : (t : Bool) → eqb (reportNumber s p kind reason buffer) 0 ≡ t → isGranted (noted p kind reason words buffer s .answer .outcome) ≡ true
+    go true e = rw e (notified-is s p kind reason words buffer _ _)
+    go false e = absurd (true≢false (sym (eq-eqb _ 0 (sym (report-is s p kind reason words buffer) ∙ z)) ∙ e))
+
 pub total : Total
 unfolding requestNumber reportNumber
 total = record {
@@ -190,6 +208,8 @@ total = record {
   request-silent = request-silent;
   cant-ten = λ m. length-written (cantOf (headerOf m)) [];
   report-silent = report-silent;
+  request-granted = request-granted;
+  report-granted = report-granted;
   request-past = request-past;
   report-past = report-past;
   sound-stays = step-ready;

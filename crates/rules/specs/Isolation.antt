@@ -144,6 +144,9 @@ pub record Claim (H : Hosts) (P : Processes) : Type 0 where
   -- part one: what they are answered is the same in both gateways; it is enough that they stay away in one of the two
   pub same-heard : (s₁ s₂ : State) → Ready s₁ → Ready s₂ → Apart P s₁ s₂ → (l₁ l₂ : List Call) → Alike H P l₁ l₂ → Away H P s₁ l₁
       → heard H (run s₁ l₁) ≡ heard H (run s₂ l₂)
+  -- and so is the next answer to one of them, also the one that makes him debug such a process
+  pub same-next : (s₁ s₂ : State) → Ready s₁ → Ready s₂ → Apart P s₁ s₂ → (l₁ l₂ : List Call) → Alike H P l₁ l₂ → Away H P s₁ l₁
+      → (m buffer : List ℕ) → H (hostOf m) ≡ true → step (final s₁ l₁) (request m buffer) .answer ≡ step (final s₂ l₂) (request m buffer) .answer
   pub both-away : (s₁ s₂ : State) → Ready s₁ → Ready s₂ → Apart P s₁ s₂ → (l₁ l₂ : List Call) → Alike H P l₁ l₂ → Away H P s₁ l₁
       → Away H P s₂ l₂
   -- part two: some or all of their requests that name one of the processes are left out, and every other call has the same answer and

@@ -6,10 +6,10 @@ use Prim.Native.Nat.{ℕ, _<_}
 use lib.Dec.{eqb}
 use Rattle.rules.specs.Rule.{Public}
 use Rattle.rules.specs.Tests.{State, recordOf}
-use Rattle.rules.specs.Step.{Call, localOf}
+use Rattle.rules.specs.Step.{Call, request, step, localOf}
 use Rattle.rules.specs.Ready.{Ready}
 use Rattle.rules.specs.Run.{Entry, run, final, leave}
-use Rattle.rules.specs.Isolation.{heard, Alike, theirs, toldOf, publicOf}
+use Rattle.rules.specs.Isolation.{hostOf, heard, Alike, theirs, toldOf, publicOf}
 
 -- one host, or one process
 abbrev pub only : ℕ → ℕ → Bool
@@ -37,6 +37,10 @@ pub record Outsider (host p : ℕ) : Type 0 where
   -- part one: the sequence of answers to him is the same in both
   pub same-answers : (s₁ s₂ : State) → Ready s₁ → Ready s₂ → Differ p s₁ s₂ → (l₁ l₂ : List Call) → Alike (only host) (only p) l₁ l₂
       → Outside host p s₁ l₁ → heard (only host) (run s₁ l₁) ≡ heard (only host) (run s₂ l₂)
+  -- and so is the answer to his next request, also to the DEBUG or CREATE by which he debugs P
+  pub same-next : (s₁ s₂ : State) → Ready s₁ → Ready s₂ → Differ p s₁ s₂ → (l₁ l₂ : List Call) → Alike (only host) (only p) l₁ l₂
+      → Outside host p s₁ l₁ → (m buffer : List ℕ) → hostOf m ≡ host
+      → step (final s₁ l₁) (request m buffer) .answer ≡ step (final s₂ l₂) (request m buffer) .answer
   -- part two: without some or all of his requests that name P, every other call has the same answer and the same state after it
   pub unnoticed : (s : State) → Ready s → (l : List Call) → Outside host p s l → (marks : List Bool)
       → run s (leave (theirs (only host) (only p)) marks l) ≡ leave (λ (e : Entry). theirs (only host) (only p) (e .call)) marks (run s l)

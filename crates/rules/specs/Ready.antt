@@ -6,7 +6,7 @@ use Rattle.state.specs.Gateway.{soundTest}
 use Rattle.state.specs.Theorems.{EightEntries}
 use Rattle.rules.specs.Tests.{State}
 
--- a sound state; the sizes are those that document 01 lists, which every state of the code has
+-- a sound state; records and entries have the sizes of the code's types, and with another memory every call is refused by 1
 pub record Ready (s : State) : Type 0 where
   pub memory : length (s .memory) ≡ 32768
   pub processes : length (s .gateway .processes) ≡ 8

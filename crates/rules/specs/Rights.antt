@@ -14,9 +14,10 @@ use Rattle.rules.specs.Isolation.{hostOf, cmdOf, pidOf, isGranted, publi
 abbrev pub holder : State → ℕ → ℕ
 holder s p = publicOf s p .host
 
--- a request of the host that debugs it, or that debugs it then; a report about it; a store into it
+-- a request that names it, or a CREATE, of the host that debugs it or does then; a report about it; a store into it
 unfoldable pub MayChange : ℕ → State → Call → Type 0
-MayChange p s (request m buffer) = (holder s p ≡ hostOf m) ⊎ (holder (requested m buffer s .after) p ≡ hostOf m)
+MayChange p s (request m buffer) =
+    ((holder s p ≡ hostOf m) ⊎ (holder (requested m buffer s .after) p ≡ hostOf m)) × ((pidOf m ≡ p) ⊎ (cmdOf m ≡ 12))
 MayChange p s (report q kind reason words buffer) = q ≡ p
 MayChange p s (store q x v) = q ≡ p
 

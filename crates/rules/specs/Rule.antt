@@ -37,11 +37,11 @@ pub record Rule : Type 0 where
   -- the string of the reply
   pub shown : Header → Local → List ℕ
 
--- 'asker is not debugging it'
+-- 8 fails where 'asker is not debugging it'
 abbrev pub holds : Public → ℕ → Bool
 holds u asker = eqb (u .host) asker
 
--- 'for DEBUG, another host is'
+-- 8 fails, 'for DEBUG,' where 'another host is'
 abbrev pub noOther : Public → ℕ → Bool
 noOther u asker = eqb (u .host) 0 || eqb (u .host) asker
 
@@ -96,7 +96,7 @@ debugRule = record {
   shown = λ h l. [];
 }
 
--- 'EXAMINE over 256'
+-- 10 fails for 'EXAMINE over 256'
 abbrev pub examineRule : Rule
 examineRule = record {
   right = holds;
@@ -108,7 +108,7 @@ examineRule = record {
   shown = λ h. examined (h .arg1) (h .arg2);
 }
 
--- 'BREAK address odd or over 4,094'; 'eight breakpoints and a ninth asked'
+-- 10 fails for 'BREAK address odd or over 4,094'; 11 fails with 'eight breakpoints and a ninth asked'
 abbrev pub breakRule : Rule
 breakRule = record {
   right = holds;
@@ -120,7 +120,7 @@ breakRule = record {
   shown = λ h l. [];
 }
 
--- 'no breakpoint at that address'
+-- 12 fails where there is 'no breakpoint at that address'
 abbrev pub unbreakRule : Rule
 unbreakRule = record {
   right = holds;

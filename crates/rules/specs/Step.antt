@@ -19,7 +19,7 @@ use Rattle.state.specs.Slot.{slot, withSlot}
 use Rattle.rules.specs.Rule.{ruleOf, names, creates}
 use Rattle.rules.specs.Tests.{State, recordOf, lowestAbsent, requestNumber, reportNumber}
 
--- 'An answer is all that a call returns but the state, and every byte of its output buffers after it.'
+-- 'An answer is all that a call returns but the state .., and every byte of its output buffers after it.'
 pub record Answer : Type 0 where
   pub outcome : Outcome
   pub buffer : List ℕ

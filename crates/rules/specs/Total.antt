@@ -14,8 +14,9 @@ use Rattle.message.specs.Answer.{cantOf}
 use Rattle.rules.specs.Tests.{State, requestTests, reportTests}
 use Rattle.rules.specs.Step.{Call, requested, noted, step}
 use Rattle.rules.specs.Ready.{Ready}
+use Rattle.rules.specs.Isolation.{isGranted}
 
--- 0, or one of the numbers 1 to 13; a report's is 0, 1, 2, 14, 7 or 9
+-- the numbers of a report
 abbrev pub reportNumbers : ℕ → Bool
 reportNumbers n = eqb n 0 || (eqb n 1 || (eqb n 2 || (eqb n 14 || (eqb n 7 || eqb n 9))))
 
@@ -33,9 +34,14 @@ pub record Total : Type 0 where
   pub request-number : (s : State) (m buffer : List ℕ) → First (requestTests s m buffer) (numberOf (requested m buffer s .answer .outcome))
   pub report-number : (s : State) (p kind reason : ℕ) (words buffer : List ℕ)
       → First (reportTests s p kind reason buffer) (numberOf (noted p kind reason words buffer s .answer .outcome))
-  -- 'Bad input is refused by a number from a fixed list'
+  -- 'Numbers returned': every number is one of the list
   pub request-listed : (s : State) (m buffer : List ℕ) → numberOf (requested m buffer s .answer .outcome) ≤ 13
   pub report-listed : (s : State) (p kind reason : ℕ) (words buffer : List ℕ) → reportNumbers (numberOf (noted p kind reason words buffer s .answer .outcome)) ≡ true
+  -- '0 is granted.'
+  pub request-granted : (s : State) (m buffer : List ℕ) → numberOf (requested m buffer s .answer .outcome) ≡ 0
+      → isGranted (requested m buffer s .answer .outcome) ≡ true
+  pub report-granted : (s : State) (p kind reason : ℕ) (words buffer : List ℕ) → numberOf (noted p kind reason words buffer s .answer .outcome) ≡ 0
+      → isGranted (noted p kind reason words buffer s .answer .outcome) ≡ true
   -- 'State and memory are unchanged by a refusal'
   pub request-refused : (s : State) (m buffer : List ℕ) → (numberOf (requested m buffer s .answer .outcome) ≡ 0 → ⊥) → requested m buffer s .after ≡ s
   pub report-refused : (s : State) (p kind reason : ℕ) (words buffer : List ℕ)

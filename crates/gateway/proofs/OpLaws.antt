@@ -1,0 +1,55 @@
+-- The rule of each op code, in the shape in which the code asks for it: one line for each op code. Assumes nothing.
+use mathlib.Core.Path.{_≡_, refl}
+use mathlib.Core.Bool.{true, false, cond, _&&_, _||_}
+use mathlib.Core.List.{List, [], _∷_}
+use Prim.Native.Nat.{ℕ, zero, suc, _+_, _≤_, _<_, _%_}
+use native.Mathlib.Omega.{arith}
+use borrow.Author.Tests.{ne-eqb}
+use lib.ListN.{length, getD}
+use lib.Dec.{eqb, leb}
+use Rattle.message.specs.declared.header.Header.{Header}
+use Rattle.process.specs.declared.record.Run.{Run}
+use Rattle.process.specs.declared.record.Process.{Process}
+use Rattle.process.specs.Sound.{placed}
+use Rattle.process.specs.Request.{halted, atBreak, hasBreak, hasRoom}
+use Rattle.rules.specs.Rule.{Public, Rule, rules, noRule, ruleOf}
+
+-- a rule as the code asks for it, by its op code
+pub record Coded (cmd : ℕ) (r : Rule) : Type 0 where
+  pub right : (u : Public) (asker : ℕ) → r .right u asker ≡ cond (eqb cmd 1) (eqb (u .host) 0 || eqb (u .host) asker) (eqb (u .host) asker)
+  pub runs : (x : Run) → r .runs x ≡ cond (eqb cmd 5) (halted x) (cond (eqb cmd 10) (halted x) (cond (eqb cmd 11) (atBreak x) true))
+  pub range : (h : Header) → r .range h
+      ≡ cond (eqb cmd 4) (leb (h .arg1 + h .arg2) 4096)
+      (cond (eqb cmd 6) (leb (h .arg1 + h .arg2) 4096 && leb (h .arg2) 256)
+      (cond (eqb cmd 7) (leb (h .arg1 + h .arg2) 18) (cond (eqb cmd 8) (placed (h .arg1)) true)))
+  pub room : (a : ℕ) (p : Process) → r .room a p ≡ cond (eqb cmd 8) (hasBreak a p || hasRoom p) true
+  pub found : (a : ℕ) (p : Process) → r .found a p ≡ cond (eqb cmd 9) (hasBreak a p) true
+
+abbrev Each : ℕ → List Rule → Type 0
+Each from [] = (n : ℕ) → from ≤ n → Coded n noRule
+Each from (r ∷ rs) = Coded from r × Each (suc from) rs
+
+each-at : (from : ℕ) (rs : List Rule) → Each from rs → (k n : ℕ) → n ≡ k + from → Coded n (getD rs k noRule)
+each-at from [] e k n i = e n (omega (arith, i))
+each-at from (r ∷ rs) e zero n i = let same : n ≡ from = omega (arith, i) in rw same (e .0)
+each-at from (r ∷ rs) e (suc k) n i = each-at (suc from) rs (e .1) k n (omega (arith, i))
+
+past : (n : ℕ) → 14 ≤ n → Coded n noRule
+past n h = record {
+  right = λ u asker. rw (other 1 (omega arith));
+  runs = λ x. rw (other 5 (omega arith), other 10 (omega arith), other 11 (omega arith));
+  range = λ k. rw (other 4 (omega arith), other 6 (omega arith), other 7 (omega arith), other 8 (omega arith));
+  room = λ a p. rw (other 8 (omega arith));
+  found = λ a p. rw (other 9 (omega arith));
+}
+  where
+    other : (k : ℕ) → k < 14 → eqb n k ≡ false
+    other k i = ne-eqb n k (λ e. omega (arith, h, i, e))
+
+-- the rule of any op code
+pub coded : (cmd : ℕ) → Coded cmd (ruleOf cmd)
+unfolding ruleOf
+coded cmd =
+    each-at 0 rules
+    (record { right = λ u asker. refl; runs = λ x. refl; range = λ h. refl; room = λ a p. refl; found = λ a p. refl }, (record { right = λ u asker. refl; runs = λ x. refl; range = λ h. refl; room = λ a p. refl; found = λ a p. refl }, (record { right = λ u asker. refl; runs = λ x. refl; range = λ h. refl; room = λ a p. refl; found = λ a p. refl }, (record { right = λ u asker. refl; runs = λ x. refl; range = λ h. refl; room = λ a p. refl; found = λ a p. refl }, (record { right = λ u asker. refl; runs = λ x. refl; range = λ h. refl; room = λ a p. refl; found = λ a p. refl }, (record { right = λ u asker. refl; runs = λ x. refl; range = λ h. refl; room = λ a p. refl; found = λ a p. refl }, (record { right = λ u asker. refl; runs = λ x. refl; range = λ h. refl; room = λ a p. refl; found = λ a p. refl }, (record { right = λ u asker. refl; runs = λ x. refl; range = λ h. refl; room = λ a p. refl; found = λ a p. refl }, (record { right = λ u asker. refl; runs = λ x. refl; range = λ h. refl; room = λ a p. refl; found = λ a p. refl }, (record { right = λ u asker. refl; runs = λ x. refl; range = λ h. refl; room = λ a p. refl; found = λ a p. refl }, (record { right = λ u asker. refl; runs = λ x. refl; range = λ h. refl; room = λ a p. refl; found = λ a p. refl }, (record { right = λ u asker. refl; runs = λ x. refl; range = λ h. refl; room = λ a p. refl; found = λ a p. refl }, (record { right = λ u asker. refl; runs = λ x. refl; range = λ h. refl; room = λ a p. refl; found = λ a p. refl }, (record { right = λ u asker. refl; runs = λ x. refl; range = λ h. refl; room = λ a p. refl; found = λ a p. refl }, past))))))))))))))
+    cmd cmd (omega arith)

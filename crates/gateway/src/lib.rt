@@ -1,0 +1,2 @@
+// The gateway: what answers the requests of the network and the reports of the machine.
+mod rule;
