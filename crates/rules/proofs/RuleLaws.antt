@@ -20,7 +20,7 @@ use Rattle.process.specs.Local.{Local, Proper}
 use Rattle.process.specs.Planting.{plantedIn, liftedIn, removedFrom, replanted, liftedAt}
 use Rattle.process.specs.Request.{pc, onRecord, halted, atBreak, hasBreak, hasRoom, endDebugged, halt, resumed, stepped, proceeded, deposited, vectorDeposited, breakSet, breakRemoved, cleared, destroyed}
 use Rattle.process.specs.Report.{recorded, passes, passed, reported}
-use Rattle.rules.specs.Rule.{Public, public, Rule, rules, noRule, debugRule, examineRule, breakRule, unbreakRule, plain, whileRun, within, upTo, ruleOf}
+use Rattle.rules.specs.Rule.{Public, public, Rule, rules, noRule, debugRule, endDebugRule, examineRule, breakRule, unbreakRule, plain, whileRun, within, upTo, ruleOf}
 use Rattle.rules.specs.Isolation.{publicThen}
 use Rattle.rules.proofs.ProperLaws.{end-debug-proper, stop-proper, step-proper, proceed-proper, deposit-proper, break-proper, unbreak-proper, destroy-proper, host-proper, resume-proper, vector-proper}
 
@@ -133,10 +133,10 @@ debug-row = record {
   publicly = λ h s l. refl;
 }
 
-end-debug-open : Open (plain (λ h s. endDebugged))
+end-debug-open : Open endDebugRule
 end-debug-open = record { runs = λ x. refl; range = λ h. refl; room = λ a p. refl; found = λ a p. refl; shown = λ h l. refl }
 
-end-debug-row : Row 2 (plain (λ h s. endDebugged))
+end-debug-row : Row 2 endDebugRule
 unfolding endDebugged public publicThen
 end-debug-row = record {
   keeps = λ h s l g p. end-debug-proper l g;

@@ -96,6 +96,9 @@ debugRule = record {
   shown = λ h l. [];
 }
 
+abbrev pub endDebugRule : Rule
+endDebugRule = plain (λ h s. endDebugged)
+
 -- 10 fails for 'EXAMINE over 256'
 abbrev pub examineRule : Rule
 examineRule = record {
@@ -140,7 +143,7 @@ abbrev pub rules : List Rule
 rules =
     noRule  -- 0 NOP
     ∷ debugRule  -- 1 DEBUG
-    ∷ plain (λ h s. endDebugged)  -- 2 END DEBUG
+    ∷ endDebugRule  -- 2 END DEBUG
     ∷ plain (λ h s. halt)  -- 3 STOP
     ∷ within (upTo 4096) (λ h s. deposited (h .arg1) s)  -- 4 DEPOSIT
     ∷ whileRun halted (λ h s. resumed)  -- 5 RESUME
