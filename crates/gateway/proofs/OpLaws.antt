@@ -1,18 +1,24 @@
 -- The rule of each op code, in the shape in which the code asks for it: one line for each op code. Assumes nothing.
 use mathlib.Core.Path.{_≡_, refl}
-use mathlib.Core.Bool.{true, false, cond, _&&_, _||_}
+use mathlib.Core.Bool.{Bool, true, false, cond, _&&_, _||_, true≢false}
 use mathlib.Core.List.{List, [], _∷_}
-use Prim.Native.Nat.{ℕ, zero, suc, _+_, _≤_, _<_, _%_}
+use Prim.Native.Nat.{ℕ, zero, suc, _+_, _≤_, _<_}
 use native.Mathlib.Omega.{arith}
 use borrow.Author.Tests.{ne-eqb}
-use lib.ListN.{length, getD}
+use lib.ListN.{getD}
 use lib.Dec.{eqb, leb}
 use Rattle.message.specs.declared.header.Header.{Header}
 use Rattle.process.specs.declared.record.Run.{Run}
 use Rattle.process.specs.declared.record.Process.{Process}
 use Rattle.process.specs.Sound.{placed}
-use Rattle.process.specs.Request.{halted, atBreak, hasBreak, hasRoom}
+use Rattle.process.specs.Local.{Local}
+use Rattle.process.specs.Request.{halted, atBreak, hasBreak, hasRoom, examined}
 use Rattle.rules.specs.Rule.{Public, Rule, rules, noRule, ruleOf}
+
+-- the op codes that do something to the process that they name
+abbrev pub acts : ℕ → Bool
+acts cmd =
+    eqb cmd 1 || (eqb cmd 2 || (eqb cmd 3 || (eqb cmd 4 || (eqb cmd 5 || (eqb cmd 7 || (eqb cmd 8 || (eqb cmd 9 || (eqb cmd 10 || (eqb cmd 11 || eqb cmd 13)))))))))
 
 -- a rule as the code asks for it, by its op code
 pub record Coded (cmd : ℕ) (r : Rule) : Type 0 where
@@ -24,6 +30,8 @@ pub record Coded (cmd : ℕ) (r : Rule) : Type 0 where
       (cond (eqb cmd 7) (leb (h .arg1 + h .arg2) 18) (cond (eqb cmd 8) (placed (h .arg1)) true)))
   pub room : (a : ℕ) (p : Process) → r .room a p ≡ cond (eqb cmd 8) (hasBreak a p || hasRoom p) true
   pub found : (a : ℕ) (p : Process) → r .found a p ≡ cond (eqb cmd 9) (hasBreak a p) true
+  pub shown : (h : Header) (l : Local) → r .shown h l ≡ cond (eqb cmd 6) (examined (h .arg1) (h .arg2) l) []
+  pub idle : acts cmd ≡ false → (h : Header) (string : List ℕ) (l : Local) → r .effect h string l ≡ l
 
 abbrev Each : ℕ → List Rule → Type 0
 Each from [] = (n : ℕ) → from ≤ n → Coded n noRule
@@ -41,6 +49,8 @@ past n h = record {
   range = λ k. rw (other 4 (omega arith), other 6 (omega arith), other 7 (omega arith), other 8 (omega arith));
   room = λ a p. rw (other 8 (omega arith));
   found = λ a p. rw (other 9 (omega arith));
+  shown = λ k l. rw (other 6 (omega arith));
+  idle = λ e k s l. refl;
 }
   where
     other : (k : ℕ) → k < 14 → eqb n k ≡ false
@@ -51,5 +61,5 @@ pub coded : (cmd : ℕ) → Coded cmd (ruleOf cmd)
 unfolding ruleOf
 coded cmd =
     each-at 0 rules
-    (record { right = λ u asker. refl; runs = λ x. refl; range = λ h. refl; room = λ a p. refl; found = λ a p. refl }, (record { right = λ u asker. refl; runs = λ x. refl; range = λ h. refl; room = λ a p. refl; found = λ a p. refl }, (record { right = λ u asker. refl; runs = λ x. refl; range = λ h. refl; room = λ a p. refl; found = λ a p. refl }, (record { right = λ u asker. refl; runs = λ x. refl; range = λ h. refl; room = λ a p. refl; found = λ a p. refl }, (record { right = λ u asker. refl; runs = λ x. refl; range = λ h. refl; room = λ a p. refl; found = λ a p. refl }, (record { right = λ u asker. refl; runs = λ x. refl; range = λ h. refl; room = λ a p. refl; found = λ a p. refl }, (record { right = λ u asker. refl; runs = λ x. refl; range = λ h. refl; room = λ a p. refl; found = λ a p. refl }, (record { right = λ u asker. refl; runs = λ x. refl; range = λ h. refl; room = λ a p. refl; found = λ a p. refl }, (record { right = λ u asker. refl; runs = λ x. refl; range = λ h. refl; room = λ a p. refl; found = λ a p. refl }, (record { right = λ u asker. refl; runs = λ x. refl; range = λ h. refl; room = λ a p. refl; found = λ a p. refl }, (record { right = λ u asker. refl; runs = λ x. refl; range = λ h. refl; room = λ a p. refl; found = λ a p. refl }, (record { right = λ u asker. refl; runs = λ x. refl; range = λ h. refl; room = λ a p. refl; found = λ a p. refl }, (record { right = λ u asker. refl; runs = λ x. refl; range = λ h. refl; room = λ a p. refl; found = λ a p. refl }, (record { right = λ u asker. refl; runs = λ x. refl; range = λ h. refl; room = λ a p. refl; found = λ a p. refl }, past))))))))))))))
+    (record { right = λ u asker. refl; runs = λ x. refl; range = λ h. refl; room = λ a p. refl; found = λ a p. refl; shown = λ h l. refl; idle = λ e h s l. refl }, (record { right = λ u asker. refl; runs = λ x. refl; range = λ h. refl; room = λ a p. refl; found = λ a p. refl; shown = λ h l. refl; idle = λ e. absurd (true≢false e) }, (record { right = λ u asker. refl; runs = λ x. refl; range = λ h. refl; room = λ a p. refl; found = λ a p. refl; shown = λ h l. refl; idle = λ e. absurd (true≢false e) }, (record { right = λ u asker. refl; runs = λ x. refl; range = λ h. refl; room = λ a p. refl; found = λ a p. refl; shown = λ h l. refl; idle = λ e. absurd (true≢false e) }, (record { right = λ u asker. refl; runs = λ x. refl; range = λ h. refl; room = λ a p. refl; found = λ a p. refl; shown = λ h l. refl; idle = λ e. absurd (true≢false e) }, (record { right = λ u asker. refl; runs = λ x. refl; range = λ h. refl; room = λ a p. refl; found = λ a p. refl; shown = λ h l. refl; idle = λ e. absurd (true≢false e) }, (record { right = λ u asker. refl; runs = λ x. refl; range = λ h. refl; room = λ a p. refl; found = λ a p. refl; shown = λ h l. refl; idle = λ e h s l. refl }, (record { right = λ u asker. refl; runs = λ x. refl; range = λ h. refl; room = λ a p. refl; found = λ a p. refl; shown = λ h l. refl; idle = λ e. absurd (true≢false e) }, (record { right = λ u asker. refl; runs = λ x. refl; range = λ h. refl; room = λ a p. refl; found = λ a p. refl; shown = λ h l. refl; idle = λ e. absurd (true≢false e) }, (record { right = λ u asker. refl; runs = λ x. refl; range = λ h. refl; room = λ a p. refl; found = λ a p. refl; shown = λ h l. refl; idle = λ e. absurd (true≢false e) }, (record { right = λ u asker. refl; runs = λ x. refl; range = λ h. refl; room = λ a p. refl; found = λ a p. refl; shown = λ h l. refl; idle = λ e. absurd (true≢false e) }, (record { right = λ u asker. refl; runs = λ x. refl; range = λ h. refl; room = λ a p. refl; found = λ a p. refl; shown = λ h l. refl; idle = λ e. absurd (true≢false e) }, (record { right = λ u asker. refl; runs = λ x. refl; range = λ h. refl; room = λ a p. refl; found = λ a p. refl; shown = λ h l. refl; idle = λ e h s l. refl }, (record { right = λ u asker. refl; runs = λ x. refl; range = λ h. refl; room = λ a p. refl; found = λ a p. refl; shown = λ h l. refl; idle = λ e. absurd (true≢false e) }, past))))))))))))))
     cmd cmd (omega arith)

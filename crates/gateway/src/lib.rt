@@ -1,2 +1,16 @@
 // The gateway: what answers the requests of the network and the reports of the machine.
+mod answered;
+mod effect;
+mod fresh;
+mod lent;
+mod reply;
+mod reports;
+mod requests;
 mod rule;
+mod serve;
+mod task;
+
+pub use answered::Answered;
+pub use fresh::fresh_start;
+pub use reports::report;
+pub use requests::request;

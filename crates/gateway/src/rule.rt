@@ -1,14 +1,15 @@
 // The tests 8 to 12 of a request that names a process, by its op code.
+use crate::task::Task;
 use message::Header;
 use process::Process;
 use process::Run;
+use process::Want;
 ghost use mathlib.Core.Path.{_≡_};
 ghost use mathlib.Core.Bool.{_&&_};
 ghost use lib.Dec.{leb};
 ghost use Rattle.process.specs.Sound.{placed};
-ghost use Rattle.message.specs.Outcome.{firstFailing};
 ghost use Rattle.rules.specs.Rule.{public, ruleOf};
-ghost use Rattle.rules.specs.Tests.{ruleTests};
+ghost use Rattle.gateway.specs.Task.{entryTask, ruleTask};
 
 // 8: the asker debugs the process; for DEBUG, no other host does.
 fn right(cmd: u8, p: Process, asker: u8) -> bool
@@ -72,48 +73,57 @@ fn range(h: Header) -> bool
     true
 }
 
-// 11: there is room for a new breakpoint.
-fn room(cmd: u8, a: u16, p: Process) -> bool
-    ensures { λ r. ⌜ r ≡ ruleOf cmd .room a p ⌝ }
+// 11: a BREAK at this address has an entry to go to.
+fn break_task(a: u16, p: Process) -> Task
+    ensures { λ r. ⌜ r ≡ entryTask 8 a p ⌝ }
 {
-    if cmd != 8 {
-        return true;
+    let k = p.entry_for(a);
+    if k < 8 {
+        return Task::Change(k);
     }
-    p.has_break(a) || p.has_room()
+    Task::Refuse(11)
 }
 
 // 12: there is a breakpoint to remove.
-fn found(cmd: u8, a: u16, p: Process) -> bool
-    ensures { λ r. ⌜ r ≡ ruleOf cmd .found a p ⌝ }
+fn unbreak_task(a: u16, p: Process) -> Task
+    ensures { λ r. ⌜ r ≡ entryTask 9 a p ⌝ }
 {
-    if cmd != 9 {
-        return true;
+    let k = p.find(Want::At(a));
+    if k < 8 {
+        return Task::Change(k);
     }
-    p.has_break(a)
+    Task::Refuse(12)
 }
 
-// The number of the first of these tests that fails, or 0.
-pub(crate) fn rule_number(h: Header, p: Process) -> u8
-    ensures { λ r. ⌜ r ≡ firstFailing (ruleTests (ruleOf (h .cmd)) h p) ⌝ }
+// 11 and 12.
+fn entry_task(cmd: u8, a: u16, p: Process) -> Task
+    ensures { λ r. ⌜ r ≡ entryTask cmd a p ⌝ }
+{
+    if cmd == 8 {
+        return break_task(a, p);
+    }
+    if cmd == 9 {
+        return unbreak_task(a, p);
+    }
+    Task::Change(0)
+}
+
+// The first of these tests that fails, or the entry that the request goes to.
+pub(crate) fn rule_task(h: Header, p: Process) -> Task
+    ensures { λ r. ⌜ r ≡ ruleTask h p ⌝ }
 {
     let cmd = h.cmd;
     let host = h.host;
     let arg1 = h.arg1;
     let run = p.run;
     if !right(cmd, p, host) {
-        return 8;
+        return Task::Refuse(8);
     }
     if !runs(cmd, run) {
-        return 9;
+        return Task::Refuse(9);
     }
     if !range(h) {
-        return 10;
+        return Task::Refuse(10);
     }
-    if !room(cmd, arg1, p) {
-        return 11;
-    }
-    if !found(cmd, arg1, p) {
-        return 12;
-    }
-    0
+    entry_task(cmd, arg1, p)
 }

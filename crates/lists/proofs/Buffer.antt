@@ -99,3 +99,12 @@ module _ (at : ℕ) (ys buffer : List ℕ) (fits : at + length ys ≤ length buf
       ∙ ap (λ (b : List ℕ). getD b (i - (at + length ys)) 0) behind
       ∙ getD-drop (at + length ys) buffer (i - (at + length ys)) 0
       ∙ ap (λ (k : ℕ). getD buffer k 0) j
+
+-- a list laid over the start of a buffer in which another stands right behind it already
+pub overlay-before : (xs ys buffer : List ℕ) (n : ℕ) → n ≡ length ys → length xs ≤ length buffer
+    → overlay xs (take (length xs) buffer ++ (ys ++ drop n (drop (length xs) buffer))) ≡ overlay (xs ++ ys) buffer
+unfolding overlay
+overlay-before xs ys buffer n e h =
+    let front : length (take (length xs) buffer) ≡ length xs = length-take-le (length xs) buffer h in
+    rw (drop-at (take (length xs) buffer) (ys ++ drop n (drop (length xs) buffer)) (length xs) front, e)
+    (simp (append-assoc, length-append, drop-drop))

@@ -1,5 +1,6 @@
 -- Laws that several proofs of this crate, and of the crates above, cite.
 pub mod FindLaws
+pub mod EntryLaws
 pub mod SoundTestLaws
 pub mod SeenLaws
 pub mod SoundLaws

@@ -43,6 +43,10 @@ recorded words l = replanted (onRecord (withVector words) l)
 unfoldable pub passes : ℕ → Process → Bool
 passes kind p = isBpt kind && (hasBreak (pc p) p && ltb 0 (entry p (find (At (pc p)) p) .count))
 
+-- the entry of the breakpoint that is passed so, or 8
+unfoldable pub passedEntry : ℕ → Process → ℕ
+passedEntry kind p = cond (passes kind p) (find (At (pc p)) p) 8
+
 -- 'the count falls by one, that breakpoint is lifted, the run state stays and no notice goes out'
 unfoldable pub passed : ℕ → Local → Local
 passed k l = liftedIn k (onRecord (withEntry k (withCount (entry (l .process) k .count - 1) (entry (l .process) k))) l)

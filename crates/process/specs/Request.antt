@@ -51,6 +51,10 @@ hasBreak a p = ltb (find (At a) p) 8
 unfoldable pub hasRoom : Process → Bool
 hasRoom p = ltb (find Free p) 8
 
+-- the entry that BREAK goes to: that of the breakpoint at the address, else the lowest free one, or 8
+unfoldable pub entryFor : ℕ → Process → ℕ
+entryFor a p = cond (hasBreak a p) (find (At a) p) (find Free p)
+
 -- ---- DEBUG and END DEBUG
 
 -- 'the asker debugs it; granted again to the same host'

@@ -1,16 +1,14 @@
 // The requests that read or change a process's memory, vector or breakpoints.
-use crate::find::Want;
 use crate::record::Process;
 use crate::record::Run;
 use words::vector_bytes;
 use words::vector_of;
 ghost use mathlib.Core.Path.{_≡_};
-ghost use mathlib.Core.Bool.{true, false};
 ghost use Prim.Native.Nat.{_+_, _≤_, _<_};
 ghost use lib.ListN.{length};
 ghost use Rattle.process.specs.Local.{Local, local, Tested};
 ghost use Rattle.process.specs.Record.{withVector};
-ghost use Rattle.process.specs.Request.{hasBreak, hasRoom, examined, deposited, vectorAfter, breakSet, breakRemoved, created, cleared};
+ghost use Rattle.process.specs.Request.{entryFor, examined, deposited, vectorAfter, breakSet, created, cleared};
 
 impl Process {
     // The seen bytes from address at on go to out, as many as it holds.
@@ -48,29 +46,18 @@ impl Process {
         self.with_vector(vector_of(words))
     }
 
-    // A breakpoint with this count: an existing one at that address gets the count, else one is planted.
-    pub fn set_break(self, bytes: &mut [u8], a: u16, count: u16) -> Self
-        requires { ⌜ (a + 1 < length (now bytes)) × (hasBreak a self ≡ false → hasRoom self ≡ true) ⌝ }
+    // A breakpoint at that address, with this count, in the entry that was found for it: one that is there gets the count, else one is
+    // planted.
+    pub fn set_break(self, k: usize, a: u16, count: u16, bytes: &mut [u8]) -> Self
+        requires { ⌜ (k < 8) × (k ≡ entryFor a self) × (a + 1 < length (now bytes)) ⌝ }
         ensures { λ r. ⌜ r ≡ breakSet a count (local self (now (bytes .entry))) .process ⌝ }
         ensures { λ _. ⌜ now (bytes .exit) ≡ breakSet a count (local self (now (bytes .entry))) .bytes ⌝ }
     {
-        let k = self.find(Want::At(a));
-        if k < 8 {
-            let b = self.breaks[k];
+        let b = self.breaks[k];
+        if b.used {
             return self.with_entry(k, b.with_count(count));
         }
-        let free = self.find(Want::Free);
-        self.plant_in(free, a, count, bytes)
-    }
-
-    // The breakpoint at that address goes.
-    pub fn remove_break(self, bytes: &mut [u8], a: u16) -> Self
-        requires { ⌜ Tested self (now bytes) ⌝ }
-        requires { ⌜ hasBreak a self ≡ true ⌝ }
-        ensures { λ r. ⌜ r ≡ breakRemoved a (local self (now (bytes .entry))) .process ⌝ }
-        ensures { λ _. ⌜ now (bytes .exit) ≡ breakRemoved a (local self (now (bytes .entry))) .bytes ⌝ }
-    {
-        self.remove_from(self.find(Want::At(a)), bytes)
+        self.plant_in(k, a, count, bytes)
     }
 
     // A new process of this host, whose memory is all zero.

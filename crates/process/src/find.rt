@@ -25,7 +25,7 @@ impl Breakpoint {
 
 impl Process {
     // The first entry that is wanted, or 8.
-    pub(crate) fn find(self, want: Want) -> usize
+    pub fn find(self, want: Want) -> usize
         ensures { λ r. ⌜ r ≡ find want self ⌝ }
     {
         let breaks = self.breaks;

@@ -37,7 +37,7 @@ impl Process {
     }
 
     // Entry k is freed, and its word put back if it is planted.
-    pub(crate) fn remove_from(self, k: usize, bytes: &mut [u8]) -> Self
+    pub fn remove_from(self, k: usize, bytes: &mut [u8]) -> Self
         requires { ⌜ (k < 8) × Inside self (now bytes) ⌝ }
         ensures { λ r. ⌜ r ≡ removedFrom k (local self (now (bytes .entry))) .process ⌝ }
         ensures { λ _. ⌜ now (bytes .exit) ≡ removedFrom k (local self (now (bytes .entry))) .bytes ⌝ }

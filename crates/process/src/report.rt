@@ -7,7 +7,7 @@ ghost use mathlib.Core.Bool.{not};
 ghost use Prim.Native.Nat.{_<_};
 ghost use Rattle.process.specs.Record.{entry};
 ghost use Rattle.process.specs.Local.{Local, local, Inside, Tested};
-ghost use Rattle.process.specs.Report.{stepping, accepts, recorded, passes, passed, runAfter, reported};
+ghost use Rattle.process.specs.Report.{stepping, accepts, recorded, passes, passedEntry, passed, runAfter, reported};
 
 // A process after a report, and whether its host is to be told. A breakpoint that is passed silently tells nobody.
 pub struct Reported {
@@ -54,19 +54,22 @@ impl Run {
 }
 
 impl Process {
-    // A report of this kind is passed silently: a BPT at a breakpoint whose count is above 0.
-    fn passes(self, kind: u8) -> bool
-        ensures { λ r. ⌜ r ≡ passes kind self ⌝ }
+    // The entry of the breakpoint that a report of this kind passes silently, or 8: a BPT at a breakpoint whose count is above 0.
+    fn passed_entry(self, kind: u8) -> usize
+        ensures { λ r. ⌜ r ≡ passedEntry kind self ⌝ }
     {
         if kind != 2 {
-            return false;
+            return 8;
         }
         let k = self.find(Want::At(self.pc()));
-        if k < 8 {
-            let b = self.breaks[k];
-            return 0 < b.count;
+        if 8 <= k {
+            return 8;
         }
-        false
+        let b = self.breaks[k];
+        if 0 < b.count {
+            return k;
+        }
+        8
     }
 
     // The breakpoint in entry k is passed: its count falls by one, and it is lifted.
@@ -98,8 +101,9 @@ impl Process {
         ensures { λ _. ⌜ now (bytes .exit) ≡ reported kind vector (local self (now (bytes .entry))) .bytes ⌝ }
     {
         let p = self.settle(vector, bytes);
-        if p.passes(kind) {
-            let q = p.pass(p.find(Want::At(p.pc())), bytes);
+        let k = p.passed_entry(kind);
+        if k < 8 {
+            let q = p.pass(k, bytes);
             return Reported {
                 process: q,
                 silent: true,

@@ -6,7 +6,7 @@ use crate::record::Run;
 ghost use mathlib.Core.Path.{_≡_};
 ghost use Rattle.process.specs.Local.{Local, local, Tested};
 ghost use Rattle.process.specs.Record.{withHost, withRun};
-ghost use Rattle.process.specs.Request.{pc, halted, atBreak, hasBreak, hasRoom, released, endDebugged, halt, stepped, proceeded};
+ghost use Rattle.process.specs.Request.{pc, halted, atBreak, entryFor, released, endDebugged, halt, stepped, proceeded};
 
 impl Run {
     // Stopped or at a breakpoint.
@@ -48,18 +48,16 @@ impl Run {
     }
 }
 
-// The tests that rest on the process.
 impl Process {
-    pub fn has_break(self, a: u16) -> bool
-        ensures { λ r. ⌜ r ≡ hasBreak a self ⌝ }
+    // The entry that a BREAK at this address goes to: that of the breakpoint there, else the first free one, or 8.
+    pub fn entry_for(self, a: u16) -> usize
+        ensures { λ r. ⌜ r ≡ entryFor a self ⌝ }
     {
-        self.find(Want::At(a)) < 8
-    }
-
-    pub fn has_room(self) -> bool
-        ensures { λ r. ⌜ r ≡ hasRoom self ⌝ }
-    {
-        self.find(Want::Free) < 8
+        let k = self.find(Want::At(a));
+        if k < 8 {
+            return k;
+        }
+        self.find(Want::Free)
     }
 
     pub(crate) fn pc(self) -> u16

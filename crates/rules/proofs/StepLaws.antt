@@ -32,7 +32,7 @@ by-test F false f g = g refl
 
 -- ---- a number that is 0
 
-orElse-zero : (a b : ℕ) → orElse a b ≡ 0 → (a ≡ 0) × (b ≡ 0)
+pub orElse-zero : (a b : ℕ) → orElse a b ≡ 0 → (a ≡ 0) × (b ≡ 0)
 orElse-zero zero b e = (refl, e)
 orElse-zero (suc a) b e = let z = rw (eqb·suc-zero a) at e in absurd (omega arith)
 

@@ -40,8 +40,11 @@ unfoldable pub put : ℕ → Local → State → State
 put p l s = record { gateway = withProcess p (l .process) (s .gateway); memory = withSlot p (l .bytes) (s .memory) }
 
 -- a reply is laid over the start of the reply buffer
+abbrev pub replyOf : Header → List ℕ → List ℕ → Answer
+replyOf h string buffer = record { outcome = Granted (10 + length string); buffer = overlay (written h string) buffer }
+
 abbrev pub replied : Header → List ℕ → List ℕ → State → Stepped
-replied h string buffer s = answers (Granted (10 + length string)) (overlay (written h string) buffer) s
+replied h string buffer s = record { answer = replyOf h string buffer; after = s }
 
 -- a request that names a process, granted
 unfoldable pub grantedNamed : Header → List ℕ → List ℕ → State → Stepped

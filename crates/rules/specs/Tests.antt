@@ -21,6 +21,10 @@ pub record State : Type 0 where
   pub gateway : Gateway
   pub memory : List ℕ
 
+-- the state that a call is given
+abbrev pub lent : Gateway → List ℕ → State
+lent g memory = record { gateway = g; memory = memory }
+
 -- 1: 'memory not 32,768 bytes, or reply or notice buffer under 266'
 abbrev pub noRoom : State → List ℕ → Bool
 noRoom s buffer = not (eqb (length (s .memory)) 32768) || ltb (length buffer) 266

@@ -1,0 +1,121 @@
+-- A request stage by stage: refused by what is lent, by its layout, or asked of the state. Assumes nothing.
+use mathlib.Core.Path.{_≡_, refl, sym, _∙_, subst}
+use mathlib.Core.Bool.{Bool, true, false, not, cond}
+use mathlib.Core.List.{List}
+use Prim.Native.Nat.{ℕ, zero, suc, _≤_}
+use native.Mathlib.Omega.{arith}
+use borrow.Author.Tests.{ne-eqb, eqb-true, ltb-false, not-false}
+use lib.ListN.{length}
+use lib.Dec.{eqb, ltb}
+use Rattle.lists.proofs.Bool.{||-left, ||-right}
+use Rattle.message.specs.declared.header.Header.{Header}
+use Rattle.message.specs.declared.outcome.Reading.{Reading}
+use Rattle.message.specs.declared.outcome.Reading.the-variants.{Message}
+use Rattle.message.specs.Outcome.{firstFailing, reading}
+use Rattle.message.specs.Table.{requestForm}
+use Rattle.message.specs.Layout.{headerOf, stringOf, fixedRight}
+use Rattle.message.specs.Refusal.{wrongLength, wrongHeader, unknown, malformed}
+use Rattle.message.specs.Exchange.{readNumber, reads}
+use Rattle.message.specs.declared.outcome.Outcome.the-variants.{Refused as OutcomeRefused}
+use Rattle.message.specs.declared.outcome.Reading.the-variants.{Refused as ReadingRefused}
+use Rattle.message.proofs.OutcomeLaws.{message-header, first-passes, rest-passes}
+use Rattle.state.specs.declared.gateway.Gateway.{Gateway}
+use Rattle.state.specs.Gateway.{soundTest}
+use Rattle.rules.specs.Tests.{State, lent, noRoom, unsound, askedTests, requestNumber}
+use Rattle.rules.specs.Step.{answers, refused, requested}
+use Rattle.rules.proofs.NumberLaws.{orElse}
+use Rattle.gateway.specs.Stage.{lentNumber, asked}
+
+-- ---- the number
+
+staged : (a b c d e f : Bool) (n : ℕ)
+    → cond a 1 (cond b 2 (cond c 3 (cond d 4 (cond e 5 (cond f 6 n)))))
+    ≡ orElse (cond a 1 (cond b 2 0)) (orElse (cond c 3 (cond d 4 (cond e 5 (cond f 6 0)))) n)
+staged true b c d e f n = refl
+staged false true c d e f n = refl
+staged false false true d e f n = refl
+staged false false false true e f n = refl
+staged false false false false true f n = refl
+staged false false false false false true n = refl
+staged false false false false false false n = refl
+
+module _ (s : State) (m buffer : List ℕ) where
+  layout : ℕ
+  layout = readNumber (requestForm (headerOf m .cmd)) m
+
+  number-stages : requestNumber s m buffer ≡ orElse (lentNumber s buffer) (orElse layout (firstFailing (askedTests (headerOf m) s)))
+  unfolding requestNumber lentNumber layout readNumber firstFailing
+  number-stages =
+      staged (noRoom s buffer) (unsound s) (wrongLength (length m)) (wrongHeader (fixedRight m) (headerOf m .host))
+      (unknown (requestForm (headerOf m .cmd))) (malformed (requestForm (headerOf m .cmd)) (headerOf m) (length m)) (firstFailing (askedTests (headerOf m) s))
+
+  -- ---- a request that is refused with nothing written
+
+  low-lent : (a b : Bool) → ltb (cond a 1 (cond b 2 0)) 7 ≡ true
+  low-lent true b = refl
+  low-lent false true = refl
+  low-lent false false = refl
+
+  low-layout : (c d e f : Bool) → ltb (cond c 3 (cond d 4 (cond e 5 (cond f 6 0)))) 7 ≡ true
+  low-layout true d e f = refl
+  low-layout false true e f = refl
+  low-layout false false true f = refl
+  low-layout false false false true = refl
+  low-layout false false false false = refl
+
+  silent : (n : ℕ) → requestNumber s m buffer ≡ n → (n ≡ 0 → ⊥) → ltb n 7 ≡ true → requested m buffer s ≡ answers (OutcomeRefused n) buffer s
+  unfolding requested refused
+  silent n e z low = rw (e, ne-eqb n 0 z, low)
+
+  pub request-lent : (n : ℕ) → n ≡ lentNumber s buffer → (n ≡ 0 → ⊥) → requested m buffer s ≡ answers (OutcomeRefused n) buffer s
+  unfolding lentNumber firstFailing
+  request-lent n e z =
+      silent n (number-stages ∙ rw (← e, ne-eqb n 0 z)) z (rw e (low-lent (noRoom s buffer) (unsound s)))
+
+  -- what a reading says of its number
+  Read : Reading → Type 0
+  Read (Message h) = layout ≡ 0
+  Read (ReadingRefused n) = (n ≡ layout) × (n ≡ 0 → ⊥)
+
+  reading-says : (k : ℕ) → k ≡ layout → Read (reading k (headerOf m))
+  unfolding Read reading
+  reading-says zero e = sym e
+  reading-says (suc k) e = (e, λ z. omega (arith, z))
+
+  read-says : (r : Reading) → r ≡ reads requestForm m → Read r
+  unfolding reads layout
+  read-says r e = subst Read (sym e) (reading-says (readNumber (requestForm (headerOf m .cmd)) m) refl)
+
+  pub request-read : (n : ℕ) → lentNumber s buffer ≡ 0 → ReadingRefused n ≡ reads requestForm m → requested m buffer s ≡ answers (OutcomeRefused n) buffer s
+  unfolding Read layout readNumber firstFailing
+  request-read n z e =
+      let r = read-says (ReadingRefused n) e in
+      silent n (number-stages ∙ rw (z, ← r .0, ne-eqb n 0 (r .1))) (r .1)
+      (rw (r .0) (low-layout (wrongLength (length m)) (wrongHeader (fixedRight m) (headerOf m .host))
+      (unknown (requestForm (headerOf m .cmd))) (malformed (requestForm (headerOf m .cmd)) (headerOf m) (length m))))
+
+  -- ---- a request that was read
+
+  pub request-asked : (h : Header) → lentNumber s buffer ≡ 0 → Message h ≡ reads requestForm m → requested m buffer s ≡ asked h (stringOf m) buffer s
+  unfolding requested asked Read layout reads
+  request-asked h z e =
+      let r = read-says (Message h) e in
+      let number : requestNumber s m buffer ≡ firstFailing (askedTests (headerOf m) s) = number-stages ∙ rw (z, r) in
+      rw (number, message-header (readNumber (requestForm (headerOf m .cmd)) m) (headerOf m) h (sym e))
+
+-- ---- what is lent, where the tests 1 and 2 pass
+
+pub record Fit (g : Gateway) (m buffer : List ℕ) : Type 0 where
+  pub memory : length m ≡ 32768
+  pub room : 266 ≤ length buffer
+  pub sound : soundTest g ≡ true
+
+pub lent-fit : (g : Gateway) (memory buffer : List ℕ) → lentNumber (lent g memory) buffer ≡ 0 → Fit g memory buffer
+unfolding lentNumber
+lent-fit g memory buffer e =
+    let one = first-passes 0 _ _ e in
+    record {
+      memory = eqb-true (length memory) 32768 (not-false _ (||-left _ _ one));
+      room = ltb-false (length buffer) 266 (||-right (not (eqb (length memory) 32768)) _ one);
+      sound = not-false _ (first-passes 1 _ _ (rest-passes 0 _ _ e));
+    }
