@@ -7,3 +7,4 @@ pub mod PartLaws
 pub mod StageLaws
 pub mod AskedLaws
 pub mod NoticeLaws
+pub mod DemandLaws

@@ -2,3 +2,4 @@
 pub mod Task
 pub mod Stage
 pub mod Notice
+pub mod Demands

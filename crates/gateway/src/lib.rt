@@ -9,6 +9,7 @@ mod requests;
 mod rule;
 mod serve;
 mod task;
+pub mod theorems;
 
 pub use answered::Answered;
 pub use fresh::fresh_start;
