@@ -1,0 +1,4 @@
+-- Laws that the proofs of this crate cite.
+pub mod ScanLaws
+pub mod PrintLaws
+pub mod PairLaws

@@ -1,0 +1,97 @@
+// The line that answers a call, and the ends of lines.
+ghost use mathlib.Core.Path.{_≡_};
+ghost use Prim.Native.Nat.{_+_, _*_, _≤_, _<_};
+ghost use lib.ListN.{length, drop};
+ghost use Rattle.lists.specs.Buffer.{overlay};
+ghost use Rattle.lists.specs.First.{first};
+ghost use Rattle.lines.specs.Hex.{digit, decimal, pairAt, spaced, spacedOrDash, answerLine};
+ghost use Rattle.lines.specs.Scan.{isNewline};
+
+// The index of the first newline from this one on, or where the text ends.
+pub fn line_end(text: &[u8], from: usize) -> usize
+    ensures { λ r. ⌜ r ≡ from + first isNewline (drop from (now (text .entry))) ⌝ }
+{
+    let mut i = from;
+    while i < text.len() {
+        if text[i] == 10 {
+            return i;
+        }
+        i += 1;
+    }
+    i
+}
+
+// The digit of a number under 16.
+fn digit(v: u8) -> u8
+    requires { ⌜ v < 16 ⌝ }
+    ensures { λ r. ⌜ r ≡ digit v ⌝ }
+{
+    if v < 10 {
+        return 48 + v;
+    }
+    87 + v
+}
+
+// A blank and the two digits of a byte, from an index on.
+fn put_pair(b: u8, at: usize, out: &mut [u8])
+    requires { ⌜ at + 3 ≤ length (now out) ⌝ }
+    ensures { λ _. ⌜ now (out .exit) ≡ pairAt b at (now (out .entry)) ⌝ }
+{
+    out[at] = 32;
+    out[at + 1] = digit(b / 16);
+    out[at + 2] = digit(b % 16);
+}
+
+// Each byte behind a blank.
+fn put_spaced(bytes: &[u8], out: &mut [u8])
+    requires { ⌜ 3 * length (now bytes) ≤ length (now out) ⌝ }
+    ensures { λ _. ⌜ now (out .exit) ≡ overlay (spaced (now (bytes .entry))) (now (out .entry)) ⌝ }
+{
+    let mut i = 0;
+    while i < bytes.len() {
+        put_pair(bytes[i], 3 * i, out);
+        i += 1;
+    }
+}
+
+// Each byte behind a blank, or a dash where there is none.
+fn put_bytes(bytes: &[u8], out: &mut [u8]) -> usize
+    requires { ⌜ 2 + 3 * length (now bytes) ≤ length (now out) ⌝ }
+    ensures { λ r. ⌜ r ≡ length (spacedOrDash (now (bytes .entry))) ⌝ }
+    ensures { λ _. ⌜ now (out .exit) ≡ overlay (spacedOrDash (now (bytes .entry))) (now (out .entry)) ⌝ }
+{
+    if bytes.len() == 0 {
+        out[0] = 32;
+        out[1] = 45;
+        return 2;
+    }
+    put_spaced(bytes, out);
+    3 * bytes.len()
+}
+
+// A number under 100.
+fn put_decimal(number: u8, out: &mut [u8]) -> usize
+    requires { ⌜ 2 ≤ length (now out) ⌝ }
+    ensures { λ r. ⌜ r ≡ length (decimal number) ⌝ }
+    ensures { λ _. ⌜ now (out .exit) ≡ overlay (decimal number) (now (out .entry)) ⌝ }
+{
+    if number < 10 {
+        out[0] = 48 + number;
+        return 1;
+    }
+    out[0] = 48 + number / 10;
+    out[1] = 48 + number % 10;
+    2
+}
+
+// The number and the bytes, or a dash where there is none, as a line; the length of the line.
+pub fn put_answer(number: u8, bytes: &[u8], out: &mut [u8]) -> usize
+    requires { ⌜ 5 + 3 * length (now bytes) ≤ length (now out) ⌝ }
+    ensures { λ r. ⌜ r ≡ length (answerLine number (now (bytes .entry))) ⌝ }
+    ensures { λ _. ⌜ now (out .exit) ≡ overlay (answerLine number (now (bytes .entry))) (now (out .entry)) ⌝ }
+{
+    let at = put_decimal(number, out);
+    let end = at + put_bytes(bytes, &mut out[at..]);
+    out[end] = 10;
+    end + 1
+}
