@@ -88,6 +88,7 @@ fn put_decimal(number: u8, out: &mut [u8]) -> usize
 pub fn put_answer(number: u8, bytes: &[u8], out: &mut [u8]) -> usize
     requires { ⌜ 5 + 3 * length (now bytes) ≤ length (now out) ⌝ }
     ensures { λ r. ⌜ r ≡ length (answerLine number (now (bytes .entry))) ⌝ }
+    ensures { λ r. ⌜ r ≤ length (now (out .entry)) ⌝ }
     ensures { λ _. ⌜ now (out .exit) ≡ overlay (answerLine number (now (bytes .entry))) (now (out .entry)) ⌝ }
 {
     let at = put_decimal(number, out);

@@ -138,7 +138,7 @@ returns c =
     let room : length front + length (spacedOrDash (a .bytes .now)) < length (a .out .now) = omega (arith, short .1, body, s .pre) in
     let whole : length ((front ++ spacedOrDash (a .bytes .now)) ++ (10 ∷ [])) ≡ length front + length (spacedOrDash (a .bytes .now)) + 1 =
     length-append (front ++ spacedOrDash (a .bytes .now)) (10 ∷ []) ∙ ap (λ (n : ℕ). n + 1) (length-append front (spacedOrDash (a .bytes .now))) in
-    (omega (arith, at, size, whole), laid-line front (spacedOrDash (a .bytes .now)) (a .out .now) (d .put-decimal .last .1 .0) (p .put-bytes .last .1 .0) (d .put-decimal .result) (p .put-bytes .result) at (d .put-decimal .ensures .1) size (p .put-bytes .ensures .1) room)
+    (omega (arith, at, size, whole), (omega (arith, at, size, room), laid-line front (spacedOrDash (a .bytes .now)) (a .out .now) (d .put-decimal .last .1 .0) (p .put-bytes .last .1 .0) (d .put-decimal .result) (p .put-bytes .result) at (d .put-decimal .ensures .1) size (p .put-bytes .ensures .1) room))
 
 pub put-answer-spec : {M : Type 1} → statement M
 put-answer-spec =
