@@ -1,5 +1,5 @@
 # make test   the gate: layout of the files, checks outside Rattle, then every proof, must-fail edit and program
-# make run    prints the table of op codes, every message's written form, and messages that are refused
+# make run    answers the requests of examples/session.txt: each request, and below it the number and the reply
 
 .PHONY: test run
 
@@ -8,10 +8,10 @@ test:
 	@sh checks/table
 	@rt ci
 
-run: target/bin/layout
-	@target/bin/layout
+run: target/bin/bench
+	@target/bin/bench <examples/session.txt | paste -d '\n' examples/session.txt -
 
-target/bin/layout: crates.txt $(shell find crates -type f)
+target/bin/bench: crates.txt $(shell find crates -type f)
 	@mkdir -p target
-	@rt check layout >target/run.log 2>&1 || { cat target/run.log; exit 1; }
+	@rt check bench >target/run.log 2>&1 || { cat target/run.log; exit 1; }
 	@touch $@

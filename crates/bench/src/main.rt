@@ -1,10 +1,4 @@
-// The bench: process 2 alone, memory all zero. Each line of lower-case hex pairs parted by single blanks is a request; its number and
-// its reply are printed, or a dash where nothing is written. Any other line prints a question mark.
-//
-// What a person types is answered line by line; what comes through a pipe is read and written in blocks.
-mod line;
-mod session;
-
+// The bench program. Its stored test is the session of document 01.
 fn main() {
-    session::run();
+    console::run();
 }

@@ -152,7 +152,7 @@ fn converse(memory: &mut [u8], message: &mut [u8], block: &mut [u8], out: &mut [
 }
 
 // All of standard input; a last line needs no newline.
-pub(crate) fn run() {
+pub fn run() {
     let mut memory = [0u8; 32768];
     let mut message = [0u8; 267];
     let mut block = io::large_buffer();

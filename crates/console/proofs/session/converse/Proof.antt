@@ -1,10 +1,10 @@
--- `bench::session::converse` meets its contract. The loop's invariant: the buffers keep their lengths. Assumes nothing.
+-- `console::session::converse` meets its contract. The loop's invariant: the buffers keep their lengths. Assumes nothing.
 use mathlib.Core.Path.{_≡_, refl}
 use native.Mathlib.Omega.{arith}
 use borrow.Author.Needs.{needs}
 use lib.ListN.{length}
-use Rattle.bench.proofs.session.converse.Statement.{statement}
-use Rattle.bench.proofs.session.converse.Tie as tie
+use Rattle.console.proofs.session.converse.Statement.{statement}
+use Rattle.console.proofs.session.converse.Tie as tie
 
 abbrev Inv-loop : tie.InvT-loop
 Inv-loop memory₀ message₀ block₀ out₀ session₀ turns₀ memory message block out session turns =

@@ -1,12 +1,12 @@
--- `bench::session::feed` meets its contract. Assumes nothing.
+-- `console::session::feed` meets its contract. Assumes nothing.
 use mathlib.Core.Path.{_≡_, refl}
 use Prim.Native.Nat.{_+_, _-_, _≤_}
 use native.Mathlib.Omega.{arith}
 use borrow.Author.Needs.{needs}
 use lib.ListN.{length}
 use Rattle.lines.proofs.PrintLaws.{end-within}
-use Rattle.bench.proofs.session.feed.Statement.{statement}
-use Rattle.bench.proofs.session.feed.Tie as tie
+use Rattle.console.proofs.session.feed.Statement.{statement}
+use Rattle.console.proofs.session.feed.Tie as tie
 
 abbrev Inv-loop : tie.InvT-loop
 Inv-loop block memory₀ message₀ out₀ now₀ at₀ memory message out now at =

@@ -1,12 +1,12 @@
--- `bench::line::within` meets its contract. Assumes nothing.
+-- `console::line::within` meets its contract. Assumes nothing.
 use mathlib.Core.Path.{sym, ap}
 use mathlib.Core.List.{List}
 use Prim.Native.Nat.{ℕ}
 use native.Mathlib.Omega.{arith}
 use lib.ListN.{length}
 use lib.Seq.{take-length, length-take-le}
-use Rattle.bench.proofs.line.within.Statement.{statement}
-use Rattle.bench.proofs.line.within.Tie as tie
+use Rattle.console.proofs.line.within.Statement.{statement}
+use Rattle.console.proofs.line.within.Tie as tie
 
 returns : tie.Need-returns
 returns c = let a = c .before .args in (omega arith, sym (length-take-le (a .n) (a .bytes .now) (omega arith)))

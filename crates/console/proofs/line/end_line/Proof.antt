@@ -1,9 +1,9 @@
--- `bench::line::end_line` meets its contract. Assumes nothing.
+-- `console::line::end_line` meets its contract. Assumes nothing.
 use native.Mathlib.Omega.{arith}
 use borrow.Author.Needs.{needs}
 use lib.ListN.{length-set}
-use Rattle.bench.proofs.line.end_line.Statement.{statement}
-use Rattle.bench.proofs.line.end_line.Tie as tie
+use Rattle.console.proofs.line.end_line.Statement.{statement}
+use Rattle.console.proofs.line.end_line.Tie as tie
 
 within-requires : tie.Need-within-requires
 within-requires c κs = search needs

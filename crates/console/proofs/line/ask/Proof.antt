@@ -1,7 +1,7 @@
--- `bench::line::ask` meets its contract. Assumes nothing.
+-- `console::line::ask` meets its contract. Assumes nothing.
 use borrow.Author.Needs.{needs}
-use Rattle.bench.proofs.line.ask.Statement.{statement}
-use Rattle.bench.proofs.line.ask.Tie as tie
+use Rattle.console.proofs.line.ask.Statement.{statement}
+use Rattle.console.proofs.line.ask.Tie as tie
 
 slice-aggregate-request : tie.Need-slice-aggregate-request
 slice-aggregate-request c = search needs
