@@ -25,10 +25,11 @@ use Rattle.rules.specs.Tests.{lent, lowestAbsent, askedTests}
 use Rattle.rules.specs.Step.{answers, replied, grantedNamed, grantedCreate, granted, refused}
 use Rattle.rules.proofs.StepLaws.{by-test}
 use Rattle.rules.proofs.NumberLaws.{envelope, envelope-sent}
-use Rattle.gateway.specs.declared.task.Task.the-variants.{Change, Create, Nothing, Refuse}
-use Rattle.gateway.specs.Task.{taskOf}
-use Rattle.gateway.specs.Stage.{asked, Answerable}
-use Rattle.gateway.proofs.TaskLaws.{says}
+use Rattle.service.specs.declared.task.Task.the-variants.{Change, Create, Nothing, Refuse}
+use Rattle.service.specs.Task.{taskOf}
+use Rattle.service.specs.Reply.{Answerable}
+use Rattle.gateway.specs.Stage.{asked}
+use Rattle.service.proofs.TaskLaws.{says}
 
 -- ---- the fields of a message that was read
 

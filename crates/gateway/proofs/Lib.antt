@@ -1,8 +1,4 @@
 -- Laws that the proofs of this crate cite.
-pub mod OpLaws
-pub mod TaskLaws
-pub mod EffectLaws
-pub mod ReplyLaws
 pub mod PartLaws
 pub mod StageLaws
 pub mod AskedLaws

@@ -1,12 +1,10 @@
 -- A request stage by stage: what is lent, what the message says, and what is asked of the state.
 use mathlib.Core.Bool.{cond}
 use mathlib.Core.List.{List, [], _∷_}
-use Prim.Native.Nat.{ℕ, _≤_}
-use lib.ListN.{length}
+use Prim.Native.Nat.{ℕ}
 use lib.Dec.{eqb}
 use Rattle.message.specs.declared.header.Header.{Header}
 use Rattle.message.specs.Outcome.{test, firstFailing}
-use Rattle.message.specs.Granted.{Answers}
 use Rattle.rules.specs.Tests.{State, noRoom, unsound, askedTests}
 use Rattle.rules.specs.Step.{Stepped, granted, refused}
 
@@ -18,7 +16,3 @@ lentNumber s buffer = firstFailing (test 1 (noRoom s buffer) ∷ test 2 (unsound
 unfoldable pub asked : Header → List ℕ → List ℕ → State → Stepped
 asked h string buffer s =
     cond (eqb (firstFailing (askedTests h s)) 0) (granted h string buffer s) (refused (firstFailing (askedTests h s)) h buffer s)
-
--- each answer to a request with these fields has room in every buffer of 266 bytes
-abbrev pub Answerable : Header → Type 0
-Answerable h = (buffer : List ℕ) → 266 ≤ length buffer → Answers h buffer

@@ -1,14 +1,9 @@
 // The gateway: what answers the requests of the network and the reports of the machine.
 mod answered;
-mod effect;
 mod fresh;
 mod lent;
-mod reply;
 mod reports;
 mod requests;
-mod rule;
-mod serve;
-mod task;
 pub mod theorems;
 
 pub use answered::Answered;

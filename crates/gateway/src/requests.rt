@@ -1,9 +1,6 @@
 // A request: any message, with the buffer for its reply.
 use crate::answered::Answered;
 use crate::lent::lent_number;
-use crate::serve::serve;
-use crate::task::Task;
-use crate::task::task_of;
 use message::Header;
 use message::Outcome;
 use message::Reading;
@@ -13,12 +10,15 @@ use message::write_cant;
 use message::write_created;
 use message::write_reply;
 use process::Process;
+use service::Task;
+use service::serve;
+use service::task_of;
 use state::Gateway;
 use state::start;
 ghost use mathlib.Core.Path.{_≡_};
 ghost use mathlib.Core.Bool.{true};
 ghost use mathlib.Core.List.{[]};
-ghost use Prim.Native.Nat.{_≤_, _<_};
+ghost use Prim.Native.Nat.{_≤_};
 ghost use lib.ListN.{length};
 ghost use Rattle.lists.specs.Buffer.{overlay};
 ghost use Rattle.message.specs.Answer.{cantOf};
@@ -27,9 +27,10 @@ ghost use Rattle.message.specs.Table.{requestForm};
 ghost use Rattle.message.specs.Exchange.{reads};
 ghost use Rattle.state.specs.Gateway.{soundTest};
 ghost use Rattle.rules.specs.Tests.{lent};
-ghost use Rattle.rules.specs.Step.{replyOf, refused, grantedNamed, grantedCreate, requested};
-ghost use Rattle.gateway.specs.Task.{taskOf};
-ghost use Rattle.gateway.specs.Stage.{Answerable, asked};
+ghost use Rattle.rules.specs.Step.{grantedNamed, grantedCreate, requested};
+ghost use Rattle.service.specs.Task.{taskOf};
+ghost use Rattle.service.specs.Reply.{Answerable};
+ghost use Rattle.gateway.specs.Stage.{asked};
 
 // The CAN'T goes out, and nothing else is done.
 fn refuse(h: Header, number: u8, reply: &mut [u8]) -> Outcome

@@ -9,7 +9,7 @@ use Rattle.message.specs.declared.outcome.Outcome.the-variants.{Granted}
 use Rattle.message.specs.Answer.{noticeOf}
 use Rattle.gateway.specs.Notice.{noticeOr}
 use Rattle.gateway.proofs.NoticeLaws.{notice-granted, notice-long}
-use Rattle.gateway.proofs.ReplyLaws.{writes-buffer}
+use Rattle.service.proofs.ReplyLaws.{writes-buffer}
 use Rattle.gateway.proofs.reports.notify.Statement.{statement}
 use Rattle.gateway.proofs.reports.notify.Tie as tie
 

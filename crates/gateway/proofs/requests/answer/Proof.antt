@@ -3,7 +3,7 @@ use mathlib.Core.Path.{refl, sym, _∙_}
 use mathlib.Core.List.{[]}
 use borrow.Author.Needs.{needs}
 use Rattle.message.specs.Layout.{stringOf}
-use Rattle.gateway.proofs.ReplyLaws.{writes-buffer, plain-reply}
+use Rattle.service.proofs.ReplyLaws.{writes-buffer, plain-reply}
 use Rattle.gateway.proofs.AskedLaws.{answerable, carried-short, refused-not-nop, idle-not-examine, asked-change, asked-create, asked-idle, asked-refuse}
 use Rattle.gateway.proofs.requests.answer.Statement.{statement}
 use Rattle.gateway.proofs.requests.answer.Tie as tie

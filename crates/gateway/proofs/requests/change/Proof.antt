@@ -3,8 +3,8 @@ use native.Mathlib.Omega.{arith}
 use borrow.Author.Needs.{needs}
 use Rattle.state.proofs.SlotLaws.{startOf-is}
 use Rattle.rules.specs.Step.{grantedNamed, put}
-use Rattle.gateway.specs.declared.task.Task.the-variants.{Change}
-use Rattle.gateway.proofs.TaskLaws.{says}
+use Rattle.service.specs.declared.task.Task.the-variants.{Change}
+use Rattle.service.proofs.TaskLaws.{says}
 use Rattle.gateway.proofs.PartLaws.{slot-back, tested-part, local-part}
 use Rattle.gateway.proofs.requests.change.Statement.{statement}
 use Rattle.gateway.proofs.requests.change.Tie as tie

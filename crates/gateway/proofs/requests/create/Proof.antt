@@ -7,10 +7,10 @@ use Rattle.message.specs.Answer.{createdOf}
 use Rattle.state.proofs.SlotLaws.{startOf-is}
 use Rattle.rules.specs.Tests.{lent, lowestAbsent}
 use Rattle.rules.specs.Step.{grantedCreate, put}
-use Rattle.gateway.specs.declared.task.Task.the-variants.{Create}
-use Rattle.gateway.proofs.TaskLaws.{says}
+use Rattle.service.specs.declared.task.Task.the-variants.{Create}
+use Rattle.service.proofs.TaskLaws.{says}
 use Rattle.gateway.proofs.PartLaws.{slot-back, lowest-lent}
-use Rattle.gateway.proofs.ReplyLaws.{writes-buffer}
+use Rattle.service.proofs.ReplyLaws.{writes-buffer}
 use Rattle.gateway.proofs.requests.create.Statement.{statement}
 use Rattle.gateway.proofs.requests.create.Tie as tie
 

@@ -3,7 +3,7 @@ use mathlib.Core.Path.{refl, _∙_}
 use mathlib.Core.List.{[]}
 use borrow.Author.Needs.{needs}
 use Rattle.message.specs.Answer.{cantOf}
-use Rattle.gateway.proofs.ReplyLaws.{writes-buffer}
+use Rattle.service.proofs.ReplyLaws.{writes-buffer}
 use Rattle.gateway.proofs.requests.refuse.Statement.{statement}
 use Rattle.gateway.proofs.requests.refuse.Tie as tie
 

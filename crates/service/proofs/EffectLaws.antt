@@ -1,0 +1,79 @@
+-- What the tests 8 to 12 of a request that passed say to what it does. Assumes nothing.
+use mathlib.Core.Path.{_≡_, ap, _∙_}
+use mathlib.Core.Bool.{true, _&&_}
+use Prim.Native.Nat.{ℕ, _+_, _≤_, _<_, _%_}
+use native.Mathlib.Omega.{arith}
+use borrow.Author.Tests.{ltb-true, leb-true, not-false}
+use lib.Dec.{eqb, leb, ltb}
+use Rattle.lists.proofs.Bool.{&&-left, &&-right}
+use Rattle.message.specs.declared.header.Header.{Header}
+use Rattle.message.specs.Outcome.{firstFailing}
+use Rattle.message.proofs.OutcomeLaws.{first-passes, rest-passes}
+use Rattle.process.specs.declared.record.Process.{Process}
+use Rattle.process.specs.declared.find.Want.the-variants.{At}
+use Rattle.process.specs.Find.{find}
+use Rattle.process.specs.Sound.{placed}
+use Rattle.process.specs.Request.{hasBreak, entryFor}
+use Rattle.process.proofs.EntryLaws.{entry-low}
+use Rattle.rules.specs.Rule.{Rule, ruleOf}
+use Rattle.rules.specs.Tests.{ruleTests}
+use Rattle.service.specs.Task.{entryOf}
+
+module _ (r : Rule) (h : Header) (p : Process) (e : firstFailing (ruleTests r h p) ≡ 0) where
+  pub rule-range : r .range h ≡ true
+  rule-range = not-false _ (first-passes 9 _ _ (rest-passes 8 _ _ (rest-passes 7 _ _ e)))
+
+  pub rule-room : r .room (h .arg1) p ≡ true
+  rule-room = not-false _ (first-passes 10 _ _ (rest-passes 9 _ _ (rest-passes 8 _ _ (rest-passes 7 _ _ e))))
+
+  pub rule-found : r .found (h .arg1) p ≡ true
+  rule-found = not-false _ (first-passes 11 _ _ (rest-passes 10 _ _ (rest-passes 9 _ _ (rest-passes 8 _ _ (rest-passes 7 _ _ e)))))
+
+-- ---- by the op code
+
+module _ (h : Header) (p : Process) (e : firstFailing (ruleTests (ruleOf (h .cmd)) h p) ≡ 0) where
+  pub deposit-within : (n : ℕ) → h .cmd ≡ 4 → n ≤ h .arg2 → h .arg1 + n ≤ 4096
+  unfolding ruleOf
+  deposit-within n op short = omega (arith, leb-true (h .arg1 + h .arg2) 4096 (rw op at (rule-range (ruleOf (h .cmd)) h p e)), short)
+
+  pub vector-within : (n : ℕ) → h .cmd ≡ 7 → n ≤ h .arg2 → h .arg1 + n ≤ 18
+  unfolding ruleOf
+  vector-within n op short = omega (arith, leb-true (h .arg1 + h .arg2) 18 (rw op at (rule-range (ruleOf (h .cmd)) h p e)), short)
+
+  pub break-within : h .cmd ≡ 8 → h .arg1 + 1 < 4096
+  unfolding ruleOf placed
+  break-within op =
+      let range = rw op at (rule-range (ruleOf (h .cmd)) h p e) in
+      omega (arith, leb-true (h .arg1) 4094 (&&-right (eqb (h .arg1 % 2) 0) (leb (h .arg1) 4094) range))
+
+  module _ (k : ℕ) (i : k ≡ entryOf (h .cmd) (h .arg1) p) where
+    pub break-is : h .cmd ≡ 8 → k ≡ entryFor (h .arg1) p
+    unfolding entryOf
+    break-is op = rw op at i
+
+    pub break-low : h .cmd ≡ 8 → k < 8
+    unfolding ruleOf
+    break-low op =
+        let room = rw op at (rule-room (ruleOf (h .cmd)) h p e) in
+        ltb-true k 8 (ap (λ (n : ℕ). ltb n 8) (break-is op) ∙ entry-low (h .arg1) p ∙ room)
+
+    pub unbreak-is : h .cmd ≡ 9 → k ≡ find (At (h .arg1)) p
+    unfolding entryOf
+    unbreak-is op = rw op at i
+
+    pub unbreak-low : h .cmd ≡ 9 → k < 8
+    unfolding ruleOf hasBreak
+    unbreak-low op =
+        let found = rw op at (rule-found (ruleOf (h .cmd)) h p e) in
+        ltb-true k 8 (ap (λ (n : ℕ). ltb n 8) (unbreak-is op) ∙ found)
+
+  -- EXAMINE's range, and its count
+  pub examine-within : h .cmd ≡ 6 → h .arg1 + h .arg2 ≤ 4096
+  unfolding ruleOf
+  examine-within op =
+      leb-true (h .arg1 + h .arg2) 4096 (&&-left (leb (h .arg1 + h .arg2) 4096) (leb (h .arg2) 256) (rw op at (rule-range (ruleOf (h .cmd)) h p e)))
+
+  pub examine-short : h .cmd ≡ 6 → h .arg2 ≤ 256
+  unfolding ruleOf
+  examine-short op =
+      leb-true (h .arg2) 256 (&&-right (leb (h .arg1 + h .arg2) 4096) (leb (h .arg2) 256) (rw op at (rule-range (ruleOf (h .cmd)) h p e)))

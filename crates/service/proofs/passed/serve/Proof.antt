@@ -1,0 +1,26 @@
+-- `service::passed::serve` meets its contract: that of the reply and of what is done. Assumes nothing.
+use borrow.Author.Needs.{needs}
+use Rattle.service.proofs.passed.serve.Statement.{statement}
+use Rattle.service.proofs.passed.serve.Tie as tie
+
+reply-to-requires : tie.Need-reply-to-requires
+reply-to-requires c κs = search needs
+
+perform-requires : tie.Need-perform-requires
+perform-requires c κs = search needs
+
+same-length : tie.Need-same-length
+same-length c = search needs
+
+same-length-2 : tie.Need-same-length-2
+same-length-2 c = search needs
+
+returns : tie.Need-returns
+returns c =
+    let p = c .before .before in
+    let r = p .before .before .before .before in
+    (r .reply-to .ensures .0, (p .perform .ensures .0, (p .perform .ensures .1, r .reply-to .ensures .1)))
+
+pub serve-spec : {M : Type 1} → statement M
+serve-spec =
+    tie.close (tie.spec reply-to-requires perform-requires same-length same-length-2 returns)

@@ -1,0 +1,16 @@
+-- `service::rule::placed` meets its contract, by the two tests. Assumes nothing.
+use borrow.Author.Tests.{eq-eqb, ne-eqb}
+use Rattle.process.specs.Sound.{placed}
+use Rattle.service.proofs.rule.placed.Statement.{statement}
+use Rattle.service.proofs.rule.placed.Tie as tie
+
+returns : tie.Need-returns
+unfolding placed
+returns c = rw (eq-eqb _ _ (c .if1 .taken))
+
+returns-2 : tie.Need-returns-2
+unfolding placed
+returns-2 c = rw (ne-eqb _ _ (c .if1 .left))
+
+pub placed-spec : {M : Type 1} → statement M
+placed-spec = tie.close (tie.spec returns returns-2)

@@ -1,0 +1,47 @@
+-- `service::rule::rule_task` meets its contract: at each `return` the tests before it have passed. Assumes nothing.
+use borrow.Author.Needs.{needs}
+use Rattle.message.specs.Outcome.{firstFailing}
+use Rattle.service.specs.Task.{taskBy, entryTask, ruleTask}
+use Rattle.service.proofs.rule.rule_task.Statement.{statement}
+use Rattle.service.proofs.rule.rule_task.Tie as tie
+
+right-requires : tie.Need-right-requires
+right-requires c κs = search needs
+
+returns : tie.Need-returns
+unfolding ruleTask taskBy firstFailing
+returns c = rw (← c .before .right .ensures, c .if1 .taken)
+
+runs-requires : tie.Need-runs-requires
+runs-requires c κs = search needs
+
+returns-2 : tie.Need-returns-2
+unfolding ruleTask taskBy firstFailing
+returns-2 c = let i = c .before .before in rw (← i .before .right .ensures, i .if1 .left, ← c .before .runs .ensures, c .if2 .taken)
+
+range-requires : tie.Need-range-requires
+range-requires c κs = search needs
+
+returns-3 : tie.Need-returns-3
+unfolding ruleTask taskBy firstFailing
+returns-3 c = let j = c .before .before in let i = j .before .before in rw (← i .before .right .ensures, i .if1 .left, ← j .before .runs .ensures, j .if2 .left, ← c .before .range .ensures, c .if3 .taken)
+
+entry-task-requires : tie.Need-entry-task-requires
+entry-task-requires c κs = search needs
+
+returns-4 : tie.Need-returns-4
+unfolding ruleTask taskBy firstFailing entryTask
+returns-4 c = let k = c .before in let j = k .before .before in let i = j .before .before in rw (← i .before .right .ensures, i .if1 .left, ← j .before .runs .ensures, j .if2 .left, ← k .before .range .ensures, k .if3 .left) (c .entry-task .ensures)
+
+pub rule-task-spec : {M : Type 1} → statement M
+rule-task-spec =
+    tie.close
+    (tie.spec
+    right-requires
+    returns
+    runs-requires
+    returns-2
+    range-requires
+    returns-3
+    entry-task-requires
+    returns-4)

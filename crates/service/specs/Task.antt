@@ -1,0 +1,49 @@
+-- What a request that was read is to do, by the tests 7 to 13, and what they found on the way.
+use mathlib.Core.Bool.{not, cond}
+use mathlib.Core.List.{[], _∷_}
+use Prim.Native.Nat.{ℕ, zero, suc}
+use lib.Dec.{eqb, ltb}
+use Rattle.message.specs.declared.header.Header.{Header}
+use Rattle.message.specs.Outcome.{test, firstFailing}
+use Rattle.process.specs.declared.record.Process.{Process}
+use Rattle.process.specs.declared.find.Want.the-variants.{At}
+use Rattle.process.specs.Find.{find}
+use Rattle.process.specs.Request.{entryFor}
+use Rattle.state.specs.declared.gateway.Gateway.{Gateway}
+use Rattle.state.specs.Gateway.{processAt}
+use Rattle.rules.specs.Rule.{ruleOf, names, creates}
+use Rattle.rules.specs.Tests.{lent, absent, lowestAbsent, ruleTests}
+use Rattle.service.specs.declared.task.Task.{Task}
+use Rattle.service.specs.declared.task.Task.the-variants.{Change, Create, Nothing, Refuse}
+
+-- the task where no test fails, else the refusal by this number
+unfoldable pub taskBy : ℕ → Task → Task
+taskBy zero task = task
+taskBy (suc n) task = Refuse (suc n)
+
+-- the entry of the process that a BREAK or UNBREAK at this address goes to; others go to none, and have 0
+unfoldable pub entryOf : ℕ → ℕ → Process → ℕ
+entryOf cmd a p = cond (eqb cmd 8) (entryFor a p) (cond (eqb cmd 9) (find (At a) p) 0)
+
+-- by the tests 11 and 12
+unfoldable pub entryTask : ℕ → ℕ → Process → Task
+entryTask cmd a p =
+    taskBy (firstFailing (test 11 (not (ruleOf cmd .room a p)) ∷ test 12 (not (ruleOf cmd .found a p)) ∷ [])) (Change (entryOf cmd a p))
+
+-- by the tests 8 to 12
+unfoldable pub ruleTask : Header → Process → Task
+ruleTask h p = taskBy (firstFailing (ruleTests (ruleOf (h .cmd)) h p)) (Change (entryOf (h .cmd) (h .arg1) p))
+
+-- by the tests 7 to 12
+unfoldable pub namedTask : Header → Gateway → Task
+namedTask h g =
+    taskBy (firstFailing (test 7 (absent (lent g []) (h .pid)) ∷ ruleTests (ruleOf (h .cmd)) h (processAt g (h .pid))))
+    (Change (entryOf (h .cmd) (h .arg1) (processAt g (h .pid))))
+
+-- by test 13
+unfoldable pub createTask : Gateway → Task
+createTask g = taskBy (firstFailing (test 13 (not (ltb (lowestAbsent (lent g [])) 8)) ∷ [])) (Create (lowestAbsent (lent g [])))
+
+-- by the tests 7 to 13; none reads memory
+unfoldable pub taskOf : Header → Gateway → Task
+taskOf h g = cond (names (h .cmd)) (namedTask h g) (cond (creates (h .cmd)) (createTask g) Nothing)

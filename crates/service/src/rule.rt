@@ -1,0 +1,129 @@
+// The tests 8 to 12 of a request that names a process, by its op code.
+use crate::task::Task;
+use message::Header;
+use process::Process;
+use process::Run;
+use process::Want;
+ghost use mathlib.Core.Path.{_≡_};
+ghost use mathlib.Core.Bool.{_&&_};
+ghost use lib.Dec.{leb};
+ghost use Rattle.process.specs.Sound.{placed};
+ghost use Rattle.rules.specs.Rule.{public, ruleOf};
+ghost use Rattle.service.specs.Task.{entryTask, ruleTask};
+
+// 8: the asker debugs the process; for DEBUG, no other host does.
+fn right(cmd: u8, p: Process, asker: u8) -> bool
+    ensures { λ r. ⌜ r ≡ ruleOf cmd .right (public p) asker ⌝ }
+{
+    if cmd != 1 {
+        return p.host == asker;
+    }
+    p.host == 0 || p.host == asker
+}
+
+// 9: the run state is one that the op code works in.
+fn runs(cmd: u8, run: Run) -> bool
+    ensures { λ r. ⌜ r ≡ ruleOf cmd .runs run ⌝ }
+{
+    if cmd == 5 {
+        return run.halted();
+    }
+    if cmd == 10 {
+        return run.halted();
+    }
+    if cmd == 11 {
+        return run.at_break();
+    }
+    true
+}
+
+// Whether a breakpoint may stand at this address.
+fn placed(a: u16) -> bool
+    ensures { λ r. ⌜ r ≡ placed a ⌝ }
+{
+    a % 2 == 0 && a <= 4094
+}
+
+// Whether so many bytes from this address on may be examined.
+fn readable(end: usize, count: u16) -> bool
+    ensures { λ r. ⌜ r ≡ leb end 4096 && leb count 256 ⌝ }
+{
+    end <= 4096 && count <= 256
+}
+
+// 10: what is asked for lies inside memory or vector.
+fn range(h: Header) -> bool
+    ensures { λ r. ⌜ r ≡ ruleOf (h .cmd) .range h ⌝ }
+{
+    let arg1 = h.arg1;
+    let arg2 = h.arg2;
+    let end = arg1 as usize + arg2 as usize;
+    if h.cmd == 4 {
+        return end <= 4096;
+    }
+    if h.cmd == 6 {
+        return readable(end, arg2);
+    }
+    if h.cmd == 7 {
+        return end <= 18;
+    }
+    if h.cmd == 8 {
+        return placed(arg1);
+    }
+    true
+}
+
+// 11: a BREAK at this address has an entry to go to.
+fn break_task(a: u16, p: Process) -> Task
+    ensures { λ r. ⌜ r ≡ entryTask 8 a p ⌝ }
+{
+    let k = p.entry_for(a);
+    if k < 8 {
+        return Task::Change(k);
+    }
+    Task::Refuse(11)
+}
+
+// 12: there is a breakpoint to remove.
+fn unbreak_task(a: u16, p: Process) -> Task
+    ensures { λ r. ⌜ r ≡ entryTask 9 a p ⌝ }
+{
+    let k = p.find(Want::At(a));
+    if k < 8 {
+        return Task::Change(k);
+    }
+    Task::Refuse(12)
+}
+
+// 11 and 12.
+fn entry_task(cmd: u8, a: u16, p: Process) -> Task
+    ensures { λ r. ⌜ r ≡ entryTask cmd a p ⌝ }
+{
+    if cmd == 8 {
+        return break_task(a, p);
+    }
+    if cmd == 9 {
+        return unbreak_task(a, p);
+    }
+    Task::Change(0)
+}
+
+// The first of these tests that fails, or the entry that the request goes to.
+pub(crate) fn rule_task(h: Header, p: Process) -> Task
+    ensures { λ r. ⌜ r ≡ ruleTask h p ⌝ }
+{
+    let cmd = h.cmd;
+    let host = h.host;
+    let arg1 = h.arg1;
+    let run = p.run;
+    if !right(cmd, p, host) {
+        return Task::Refuse(8);
+    }
+    if !runs(cmd, run) {
+        return Task::Refuse(9);
+    }
+    if !range(h) {
+        return Task::Refuse(10);
+    }
+    entry_task(cmd, arg1, p)
+}
