@@ -37,10 +37,9 @@ fn names(cmd: u8) -> bool
 fn lowest_absent(state: Gateway) -> usize
     ensures { λ r. ⌜ r ≡ lowestAbsent (lent state []) ⌝ }
 {
-    let processes = state.processes;
     let mut p = 0;
     while p < 8 {
-        let process = processes[p];
+        let process = state.processes[p];
         if !process.there {
             return p;
         }

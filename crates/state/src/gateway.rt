@@ -30,10 +30,9 @@ impl Gateway {
     pub fn sound(self) -> bool
         ensures { λ r. ⌜ r ≡ soundTest self ⌝ }
     {
-        let processes = self.processes;
         let mut p = 0;
         while p < 8 {
-            let process = processes[p];
+            let process = self.processes[p];
             if !process.sound() {
                 return false;
             }

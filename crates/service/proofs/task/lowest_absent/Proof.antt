@@ -18,25 +18,25 @@ abbrev away : Process → Bool
 away p = not (p .there)
 
 abbrev Inv-loop : tie.InvT-loop
-Inv-loop processes p₀ p = (p ≤ 8) × (length processes ≡ 8) × (first away processes ≡ first away (drop p processes) + p)
+Inv-loop state p₀ p = (p ≤ 8) × (length (state .processes) ≡ 8) × (first away (state .processes) ≡ first away (drop p (state .processes)) + p)
 
 abbrev μ-loop : tie.MeasureT-loop
-μ-loop processes p₀ p = 8 - p
+μ-loop state p₀ p = 8 - p
 
 loop-holds : tie.Need-loop-holds Inv-loop μ-loop
-loop-holds c = (omega arith, simp length-map at (c .before .good .0 .1 .1 .0 .1 .0 .1), omega arith)
+loop-holds c = (omega arith, simp length-map at (c .good .0 .1 .1 .0 .1 .0 .1), omega arith)
 
 mul-process : tie.Need-mul-process Inv-loop μ-loop
 mul-process c = search needs
 
-array-copy-out-process : tie.Need-array-copy-out-process Inv-loop μ-loop
-array-copy-out-process c = search needs
+element-copy-out-process : tie.Need-element-copy-out-process Inv-loop μ-loop
+element-copy-out-process c = search needs
 
 returns : tie.Need-returns Inv-loop μ-loop
 unfolding lowestAbsent
 returns c =
     let l = c .before .before .before .before in
-    let e = first-here away (l .before .before .args .state .processes) (l .loop .p) nobody (omega arith) (c .if1 .taken) in
+    let e = first-here away (l .before .args .t1 .processes) (l .loop .p) nobody (omega arith) (c .if1 .taken) in
     omega arith
 
 add-p : tie.Need-add-p Inv-loop μ-loop
@@ -48,13 +48,13 @@ loop-less c = omega arith
 loop-again : tie.Need-loop-again Inv-loop μ-loop
 loop-again c =
     let l = c .before .before .before .before in
-    let e = first-next away (l .before .before .args .state .processes) (l .loop .p) nobody (omega arith) (c .if1 .left) in
+    let e = first-next away (l .before .args .t1 .processes) (l .loop .p) nobody (omega arith) (c .if1 .left) in
     (omega arith, l .loop .inv .1, omega arith)
 
 returns-2 : tie.Need-returns-2 Inv-loop μ-loop
 unfolding lowestAbsent
 returns-2 c =
-    let a = c .before .before .before .args .state .processes in
+    let a = c .before .before .args .t1 .processes in
     let past : length a ≤ c .before .loop .p = omega arith in
     let e = ap (first away) (drop-of-length-le a past) in
     omega arith
@@ -67,7 +67,7 @@ lowest-absent-spec =
     μ-loop
     loop-holds
     mul-process
-    array-copy-out-process
+    element-copy-out-process
     returns
     add-p
     loop-less

@@ -14,10 +14,10 @@ use Rattle.state.proofs.gateway.Gateway.sound.Statement.{statement}
 use Rattle.state.proofs.gateway.Gateway.sound.Tie as tie
 
 abbrev Inv-loop : tie.InvT-loop
-Inv-loop processes p₀ p = (p ≤ 8) × (below (λ (q : ℕ). soundProcess (getD processes q nobody)) p ≡ true)
+Inv-loop self p₀ p = (p ≤ 8) × (below (λ (q : ℕ). soundProcess (getD (self .processes) q nobody)) p ≡ true)
 
 abbrev μ-loop : tie.MeasureT-loop
-μ-loop processes p₀ p = 8 - p
+μ-loop self p₀ p = 8 - p
 
 loop-holds : tie.Need-loop-holds Inv-loop μ-loop
 loop-holds c = (omega arith, refl)
@@ -25,8 +25,8 @@ loop-holds c = (omega arith, refl)
 mul-process : tie.Need-mul-process Inv-loop μ-loop
 mul-process c = search needs
 
-array-copy-out-process : tie.Need-array-copy-out-process Inv-loop μ-loop
-array-copy-out-process c = search needs
+element-copy-out-process : tie.Need-element-copy-out-process Inv-loop μ-loop
+element-copy-out-process c = search needs
 
 sound-requires : tie.Need-sound-requires Inv-loop μ-loop
 sound-requires c κs = search needs
@@ -36,7 +36,7 @@ unfolding soundTest
 returns c =
     let s = c .before in
     let l = s .before .before .before in
-    let g = l .before .before .args .self .processes in
+    let g = l .before .args .t1 .processes in
     let fails = sym (s .sound .ensures) ∙ not-true (s .sound .result) (c .if1 .taken) in
     sym (below-fails (λ (q : ℕ). soundProcess (getD g q nobody)) 8 (l .loop .p) (s .before .before .loop-test .taken) fails)
 
@@ -50,7 +50,7 @@ loop-again : tie.Need-loop-again Inv-loop μ-loop
 loop-again c =
     let s = c .before in
     let l = s .before .before .before in
-    let g = l .before .before .args .self .processes in
+    let g = l .before .args .t1 .processes in
     let holds = sym (s .sound .ensures) ∙ not-false (s .sound .result) (c .if1 .left) in
     (omega arith, below-more (λ (q : ℕ). soundProcess (getD g q nobody)) (l .loop .p) (l .loop .inv .1) holds)
 
@@ -69,7 +69,7 @@ sound-spec =
     μ-loop
     loop-holds
     mul-process
-    array-copy-out-process
+    element-copy-out-process
     sound-requires
     returns
     add-p
