@@ -7,11 +7,11 @@ use native.Mathlib.Numerals.{add-one}
 use native.Mathlib.Omega.{arith}
 use lib.ListN.{length, take, drop, getD, set, length-append, length-drop, length-set}
 use lib.Dec.{ltb}
-use lib.Seq.{length-take-le, take-suc, take-all, take-length}
+use lib.Seq.{length-take-le, take-suc, take-all}
 use Rattle.lists.specs.Buffer.{overlay}
 use Rattle.lists.specs.First.{first}
 use Rattle.lists.proofs.First.{first-≤}
-use Rattle.lists.proofs.Buffer.{overlay-snoc, paste-part, paste-overlay, length-overlay}
+use Rattle.lists.proofs.Buffer.{overlay-snoc, length-overlay, part-overlay}
 use Rattle.lines.specs.Hex.{digit, pair, pairAt, spaced, spacedOrDash, decimal}
 use Rattle.lines.specs.Scan.{isNewline}
 
@@ -36,15 +36,6 @@ pair-overlay xs buffer b h =
     let longer : length zs ≡ length xs + 2 = length-append ys (digit (b / 16) ∷ []) ∙ omega (arith, long) in
     rw (overlay-snoc xs buffer 32 (omega (arith, h)), ← long, overlay-snoc ys buffer (digit (b / 16)) (omega (arith, long, h)), ← longer, overlay-snoc zs buffer (digit (b % 16)) (omega (arith, longer, h)))
     (ap (λ (l : List ℕ). overlay l buffer) (ap (λ (l : List ℕ). l ++ (digit (b % 16) ∷ [])) (append-assoc xs (32 ∷ []) (digit (b / 16) ∷ [])) ∙ append-assoc xs (32 ∷ digit (b / 16) ∷ []) (digit (b % 16) ∷ [])))
-
--- what is laid over a lent part behind what was laid over the buffer, in the shape in which the part comes back
-pub part-overlay : (xs ys buffer : List ℕ) (whole : List ℕ) → whole ≡ overlay xs buffer
-    → take (length xs) whole ++ (overlay ys (take (length whole - length xs) (drop (length xs) whole)) ++ drop (length whole - length xs) (drop (length xs) whole))
-    ≡ overlay (xs ++ ys) buffer
-unfolding overlay
-part-overlay xs ys buffer whole e =
-    let part = paste-part (length xs) ys whole in
-    (rw (take-length ys) at part) ∙ rw e (rw (take-length ys) at (paste-overlay xs ys buffer))
 
 -- one byte more of a list
 pub spaced-step : (bytes buffer out : List ℕ) (i : ℕ) → i < length bytes → 3 * length bytes ≤ length buffer → out ≡ overlay (spaced (take i bytes)) buffer

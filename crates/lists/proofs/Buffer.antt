@@ -108,3 +108,12 @@ overlay-before xs ys buffer n e h =
     let front : length (take (length xs) buffer) ≡ length xs = length-take-le (length xs) buffer h in
     rw (drop-at (take (length xs) buffer) (ys ++ drop n (drop (length xs) buffer)) (length xs) front, e)
     (simp (append-assoc, length-append, drop-drop))
+
+-- what is laid over a lent part behind what was laid over the buffer, in the shape in which the part comes back
+pub part-overlay : (xs ys buffer : List ℕ) (whole : List ℕ) → whole ≡ overlay xs buffer
+    → take (length xs) whole ++ (overlay ys (take (length whole - length xs) (drop (length xs) whole)) ++ drop (length whole - length xs) (drop (length xs) whole))
+    ≡ overlay (xs ++ ys) buffer
+unfolding overlay
+part-overlay xs ys buffer whole e =
+    let part = paste-part (length xs) ys whole in
+    (rw (take-length ys) at part) ∙ rw e (rw (take-length ys) at (paste-overlay xs ys buffer))

@@ -1,0 +1,125 @@
+-- Laws of lists in pieces. Assumes nothing.
+use mathlib.Core.Path.{_≡_, refl, sym, ap, _∙_}
+use mathlib.Core.Bool.{Bool, true, false, _&&_}
+use mathlib.Core.List.{List, [], _∷_, _++_, append-assoc, append-nil}
+use Prim.Native.Nat.{ℕ, zero, suc, _+_, _-_, _*_, _≤_, _<_}
+use native.Mathlib.Numerals.{add-one}
+use native.Mathlib.Omega.{arith}
+use lib.ListN.{length, take, drop, getD, set, length-append, length-drop, drop-of-length-le}
+use lib.Seq.{take-all, take-suc, drop-cons, drop-drop, set-append-seam}
+use Rattle.lists.specs.Buffer.{overlay}
+use Rattle.lists.proofs.Buffer.{part-overlay}
+use Rattle.lists.proofs.Bool.{&&-left, &&-right, &&-both}
+use Rattle.image.specs.Chunk.{chunks, everyChunk, joined}
+
+module _ {A : Type 0} (w : ℕ) (f : List ℕ → A) where
+  pub length-chunks : (n : ℕ) (m : List ℕ) → length (chunks w f n m) ≡ n
+  unfolding chunks
+  length-chunks zero m = refl
+  length-chunks (suc n) m = ap suc (length-chunks n (drop w m))
+
+  -- one piece more
+  pub chunks-snoc : (k : ℕ) (m : List ℕ) → chunks w f (suc k) m ≡ chunks w f k m ++ (f (take w (drop (w * k) m)) ∷ [])
+  unfolding chunks
+  chunks-snoc zero m = let z : w * 0 ≡ 0 = omega arith in rw z refl
+  chunks-snoc (suc k) m =
+      let further : drop (w * k) (drop w m) ≡ drop (w * suc k) m = drop-drop (w * k) w m ∙ ap (λ (n : ℕ). drop n m) (mul-suc w k) in
+      ap (λ (l : List A). f (take w m) ∷ l) (chunks-snoc k (drop w m) ∙ ap (λ (l : List ℕ). chunks w f k (drop w m) ++ (f (take w l) ∷ [])) further)
+    where
+      mul-suc : (a b : ℕ) → a + a * b ≡ a * suc b
+      mul-suc a b = omega arith
+
+-- ---- filling an array
+
+-- one element more of an array that is filled from its start
+pub fill-step : {A : Type 0} (xs ys : List A) (k : ℕ) (x d : A) → length xs ≡ k → k < length ys → set (xs ++ drop k ys) k x ≡ (xs ++ (x ∷ [])) ++ drop (k + 1) ys
+fill-step xs ys k x d e h =
+    rw (drop-cons ys k d h, ← e, set-append-seam xs (getD ys (length xs) d) (drop (suc (length xs)) ys) x, add-one (length xs)) (sym (append-assoc xs (x ∷ []) (drop (suc (length xs)) ys)))
+
+-- ---- tests
+
+module _ (w : ℕ) (t : List ℕ → Bool) where
+  mul-more : (k : ℕ) → w + w * k ≡ w * suc k
+  mul-more k = omega arith
+
+  at-next : (k : ℕ) (m : List ℕ) → take w (drop (w * k) (drop w m)) ≡ take w (drop (w * suc k) m)
+  at-next k m = ap (take w) (drop-drop (w * k) w m ∙ ap (λ (n : ℕ). drop n m) (mul-more k))
+
+  pub every-snoc : (k : ℕ) (m : List ℕ) → everyChunk w t k m ≡ true → t (take w (drop (w * k) m)) ≡ true → everyChunk w t (suc k) m ≡ true
+  unfolding everyChunk
+  every-snoc zero m e h = let z : w * 0 ≡ 0 = omega arith in &&-both (t (take w m)) true (rw z at h) refl
+  every-snoc (suc k) m e h =
+      &&-both (t (take w m)) (everyChunk w t (suc k) (drop w m)) (&&-left (t (take w m)) _ e)
+      (every-snoc k (drop w m) (&&-right (t (take w m)) (everyChunk w t k (drop w m)) e) (rw (at-next k m) h))
+
+  pub every-fails : (n k : ℕ) (m : List ℕ) → k < n → t (take w (drop (w * k) m)) ≡ false → everyChunk w t n m ≡ false
+  unfolding everyChunk
+  every-fails zero k m h e = absurd (omega (arith, h))
+  every-fails (suc n) zero m h e = let z : w * 0 ≡ 0 = omega arith in rw (rw z at e)
+  every-fails (suc n) (suc k) m h e = false-right (t (take w m)) (every-fails n k (drop w m) (omega (arith, h)) (rw (at-next k m) e))
+    where
+      false-right : (a : Bool) → everyChunk w t n (drop w m) ≡ false → a && everyChunk w t n (drop w m) ≡ false
+      false-right true i = i
+      false-right false i = refl
+
+-- ---- writing
+
+module _ {A : Type 0} (f : A → List ℕ) where
+  pub joined-snoc : (xs : List A) (x : A) → joined f (xs ++ (x ∷ [])) ≡ joined f xs ++ f x
+  unfolding joined
+  joined-snoc [] x = append-nil (f x)
+  joined-snoc (y ∷ xs) x = ap (λ (l : List ℕ). f y ++ l) (joined-snoc xs x) ∙ sym (append-assoc (f y) (joined f xs) (f x))
+
+  pub length-joined : (w : ℕ) (xs : List A) (d : A) → ((k : ℕ) → k < length xs → length (f (getD xs k d)) ≡ w) → length (joined f xs) ≡ w * length xs
+  unfolding joined
+  length-joined w [] d h = omega arith
+  length-joined w (x ∷ xs) d h =
+      length-append (f x) (joined f xs) ∙ omega (arith, h 0 (omega arith), length-joined w xs d (λ k i. h (suc k) (omega (arith, i))))
+
+-- ---- turns of the loops, in the shapes in which parts are taken and come back
+
+piece : (w k : ℕ) (m : List ℕ) → take (w * k + w - w * k) (drop (w * k) m) ≡ take w (drop (w * k) m)
+piece w k m = let e : w * k + w - w * k ≡ w = omega arith in rw e
+
+pub chunk-fill : {A : Type 0} (w : ℕ) (f : List ℕ → A) (m : List ℕ) (old now : List A) (k : ℕ) (r d : A) → k < length old
+    → now ≡ chunks w f k m ++ drop k old → r ≡ f (take (w * k + w - w * k) (drop (w * k) m))
+    → set now k r ≡ chunks w f (k + 1) m ++ drop (k + 1) old
+chunk-fill w f m old now k r d h e i =
+    let more = chunks-snoc w f k m in
+    rw (e, i, piece w k m, fill-step (chunks w f k m) old k (f (take w (drop (w * k) m))) d (length-chunks w f k m) h, ← more, ← add-one k)
+
+pub chunk-full : {A : Type 0} (w : ℕ) (f : List ℕ → A) (m : List ℕ) (old now : List A) (n k : ℕ) → k ≡ n → length old ≡ n
+    → now ≡ chunks w f k m ++ drop k old → now ≡ chunks w f n m
+chunk-full w f m old now n k e size i =
+    let past : length old ≤ n = omega (arith, size) in
+    i ∙ rw e (ap (λ (l : List _). chunks w f n m ++ l) (drop-of-length-le old past) ∙ append-nil (chunks w f n m))
+
+pub test-piece : (w k : ℕ) (t : List ℕ → Bool) (m : List ℕ) (b : Bool) → t (take (w * k + w - w * k) (drop (w * k) m)) ≡ b → t (take w (drop (w * k) m)) ≡ b
+test-piece w k t m b e = rw (piece w k m) at e
+
+pub joined-step : {A : Type 0} (w : ℕ) (f : A → List ℕ) (xs : List A) (k : ℕ) (d : A) (buffer now last : List ℕ) → k < length xs
+    → length (joined f (take k xs)) ≡ w * k → now ≡ overlay (joined f (take k xs)) buffer
+    → last ≡ overlay (f (getD xs k d)) (take (length now - w * k) (drop (w * k) now))
+    → take (w * k) now ++ (last ++ drop (length now - w * k) (drop (w * k) now)) ≡ overlay (joined f (take (k + 1) xs)) buffer
+joined-step w f xs k d buffer now last h size e l =
+    let more : joined f (take (k + 1) xs) ≡ joined f (take k xs) ++ f (getD xs k d) =
+    ap (λ (n : ℕ). joined f (take n xs)) (add-one k) ∙ ap (joined f) (take-suc xs k d h) ∙ joined-snoc f (take k xs) (getD xs k d) in
+    rw (l, more, ← size) (part-overlay (joined f (take k xs)) (f (getD xs k d)) buffer now e)
+
+pub joined-long : {A : Type 0} (w : ℕ) (f : A → List ℕ) (xs : List A) (k : ℕ) (d : A) → k < length xs
+    → length (joined f (take k xs)) ≡ w * k → length (f (getD xs k d)) ≡ w → length (joined f (take (k + 1) xs)) ≡ w * (k + 1)
+joined-long w f xs k d h size one =
+    ap (λ (n : ℕ). length (joined f (take n xs))) (add-one k)
+    ∙ ap (λ (l : List _). length (joined f l)) (take-suc xs k d h)
+    ∙ ap (λ (l : List ℕ). length l) (joined-snoc f (take k xs) (getD xs k d))
+    ∙ length-append (joined f (take k xs)) (f (getD xs k d)) ∙ omega (arith, size, one)
+
+-- what is laid over a lent part behind what was laid over the buffer
+pub laid-part : (xs ys buffer whole last : List ℕ) (at : ℕ) → at ≡ length xs → whole ≡ overlay xs buffer
+    → last ≡ overlay ys (take (length whole - at) (drop at whole))
+    → take at whole ++ (last ++ drop (length whole - at) (drop at whole)) ≡ overlay (xs ++ ys) buffer
+laid-part xs ys buffer whole last at a w l = rw (l, a) (part-overlay xs ys buffer whole w)
+
+-- a part that reaches to the end
+pub tail-part : (at : ℕ) (m : List ℕ) → take (length m - at) (drop at m) ≡ drop at m
+tail-part at m = take-all (length m - at) (drop at m) (simp length-drop (omega arith))

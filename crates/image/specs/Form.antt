@@ -1,0 +1,94 @@
+-- The 680 bytes of a state: 85 for each process, and of these 8 for each of its entries.
+use mathlib.Core.Bool.{Bool, cond, _&&_}
+use mathlib.Core.List.{List, [], _∷_, _++_}
+use Prim.Native.Nat.{ℕ}
+use lib.ListN.{length, take, drop, getD}
+use lib.Dec.{eqb, leb}
+use Rattle.lists.specs.Word.{high, low, word, lowFirst, vectorOf}
+use Rattle.process.specs.declared.record.Run.{Run}
+use Rattle.process.specs.declared.record.Run.the-variants.{Running, Stepping, Stopped, AtBreak, Ended}
+use Rattle.process.specs.declared.record.Breakpoint.{Breakpoint}
+use Rattle.process.specs.declared.record.Process.{Process}
+use Rattle.state.specs.declared.gateway.Gateway.{Gateway}
+use Rattle.image.specs.Chunk.{chunks, everyChunk, joined}
+
+-- ---- writing
+
+abbrev pub flag : Bool → ℕ
+flag t = cond t 1 0
+
+-- 'running, stepping, stopped, at a breakpoint, ended'
+abbrev pub runNumber : Run → ℕ
+runNumber Running = 0
+runNumber Stepping = 1
+runNumber Stopped = 2
+runNumber AtBreak = 3
+runNumber Ended = 4
+
+-- used, lifted, address, remaining count, saved word
+unfoldable pub entryBytes : Breakpoint → List ℕ
+entryBytes b =
+    flag (b .used)
+    ∷ flag (b .lifted)
+    ∷ low (b .address)
+    ∷ high (b .address)
+    ∷ low (b .count)
+    ∷ high (b .count)
+    ∷ b .low
+    ∷ b .high
+    ∷ []
+
+-- there, host, run state
+abbrev pub headBytes : Process → List ℕ
+headBytes p = flag (p .there) ∷ p .host ∷ runNumber (p .run) ∷ []
+
+-- then the nine words, then the eight entries
+unfoldable pub processBytes : Process → List ℕ
+processBytes p = headBytes p ++ (lowFirst (p .vector) ++ joined entryBytes (p .breaks))
+
+unfoldable pub stateBytes : Gateway → List ℕ
+stateBytes g = joined processBytes (g .processes)
+
+-- ---- reading
+
+unfoldable pub runOf : ℕ → Run
+runOf n = cond (eqb n 1) Stepping (cond (eqb n 2) Stopped (cond (eqb n 3) AtBreak (cond (eqb n 4) Ended Running)))
+
+unfoldable pub entryOf : List ℕ → Breakpoint
+entryOf m = record {
+  used = eqb (getD m 0 0) 1;
+  lifted = eqb (getD m 1 0) 1;
+  address = word (getD m 3 0) (getD m 2 0);
+  count = word (getD m 5 0) (getD m 4 0);
+  low = getD m 6 0;
+  high = getD m 7 0;
+}
+
+unfoldable pub processOf : List ℕ → Process
+processOf m = record {
+  there = eqb (getD m 0 0) 1;
+  host = getD m 1 0;
+  run = runOf (getD m 2 0);
+  vector = vectorOf (take 18 (drop 3 m));
+  breaks = chunks 8 entryOf 8 (drop 21 m);
+}
+
+unfoldable pub stateOf : List ℕ → Gateway
+stateOf m = record { processes = chunks 85 processOf 8 m }
+
+-- ---- bytes that are a state's
+
+-- the two flags of an entry are 0 or 1
+unfoldable pub entryFormed : List ℕ → Bool
+entryFormed m = leb (getD m 0 0) 1 && leb (getD m 1 0) 1
+
+-- the flag is 0 or 1, and the run state one of the five
+unfoldable pub headFormed : List ℕ → Bool
+headFormed m = leb (getD m 0 0) 1 && leb (getD m 2 0) 4
+
+unfoldable pub processFormed : List ℕ → Bool
+processFormed m = headFormed m && everyChunk 8 entryFormed 8 (drop 21 m)
+
+-- 680 bytes, and each flag and run state is one
+unfoldable pub stateFormed : List ℕ → Bool
+stateFormed m = eqb (length m) 680 && everyChunk 85 processFormed 8 m

@@ -1,0 +1,410 @@
+//! The paper's cases P1 to P12, its other cases and its list of easy errors.
+
+use super::*;
+
+/// A gateway: a state, its memory and one reply buffer.
+struct Gateway {
+    state: State,
+    memory: Vec<u8>,
+    output: Vec<u8>,
+}
+
+/// A byte that no case writes, to see which bytes are touched.
+const UNTOUCHED: u8 = 0xa5;
+
+impl Gateway {
+    fn new(there: u8) -> Gateway {
+        Gateway {
+            state: fresh_start(there),
+            memory: vec![0; MEMORY],
+            output: vec![UNTOUCHED; LONGEST],
+        }
+    }
+
+    /// Process 2 alone, debugged by host 5.
+    fn debugged() -> Gateway {
+        let mut gateway = Gateway::new(1 << 2);
+        assert_eq!(gateway.ask(5, DEBUG, 2, 0, 0, &[]), 10);
+        gateway
+    }
+
+    fn send(&mut self, message: &[u8]) -> i64 {
+        self.output.fill(UNTOUCHED);
+        request(&mut self.state, &mut self.memory, message, &mut self.output)
+    }
+
+    fn ask(&mut self, host: u8, cmd: u8, pid: u8, arg1: u16, arg2: u16, string: &[u8]) -> i64 {
+        self.send(&message(host, cmd, pid, arg1, arg2, string))
+    }
+
+    fn report(&mut self, process: u8, kind: u8, reason: u16, pc: u16) -> i64 {
+        self.output.fill(UNTOUCHED);
+        let words = words_with(pc);
+        let (state, memory) = (&mut self.state, &mut self.memory);
+        report(state, memory, process, kind, reason, &words, &mut self.output)
+    }
+
+    /// The bytes written, and a test that none past them is touched.
+    fn written(&self, length: usize) -> &[u8] {
+        assert!(self.output[length..].iter().all(|&b| b == UNTOUCHED));
+        &self.output[..length]
+    }
+
+    fn process(&mut self) -> &mut Process {
+        &mut self.state.processes[2]
+    }
+
+    /// The two bytes that memory holds at an address of process 2.
+    fn held(&self, address: usize) -> [u8; 2] {
+        let at = 2 * SPACE + address;
+        [self.memory[at], self.memory[at + 1]]
+    }
+
+    fn store(&mut self, address: usize, bytes: [u8; 2]) {
+        let at = 2 * SPACE + address;
+        self.memory[at..at + 2].copy_from_slice(&bytes);
+    }
+}
+
+fn message(host: u8, cmd: u8, pid: u8, arg1: u16, arg2: u16, string: &[u8]) -> Vec<u8> {
+    let mut bytes = vec![0; HEAD];
+    write_head(&mut bytes, host, cmd, pid, arg1, arg2);
+    bytes.extend_from_slice(string);
+    bytes
+}
+
+fn words_with(pc: u16) -> [u16; WORDS] {
+    [0x0102, 1, 2, 3, 4, 5, 6, pc, 8]
+}
+
+#[test]
+fn p1_nop_comes_back_the_same() {
+    let mut g = Gateway::new(0);
+    let nop = [0, 5, 255, 0, 0, 0, 0, 0, 0, 0];
+    assert_eq!(g.send(&nop), 10);
+    assert_eq!(g.written(10), nop);
+}
+
+#[test]
+fn p2_p3_p4_debug() {
+    let mut g = Gateway::new(1 << 2);
+    let debug = [0, 5, 255, 0, 1, 2, 0, 0, 0, 0];
+    assert_eq!(g.send(&debug), 10);
+    assert_eq!(g.written(10), debug);
+    assert_eq!(g.send(&[0, 6, 255, 0, 1, 2, 0, 0, 0, 0]), -8);
+    assert_eq!(g.written(10), [0, 6, 255, 0, 129, 2, 0, 0, 0, 0]);
+    assert_eq!(g.send(&debug), 10);
+    assert_eq!(g.process().host, 5);
+}
+
+#[test]
+fn p5_p6_examine_at_the_end_of_memory() {
+    let mut g = Gateway::debugged();
+    g.store(4094, [7, 8]);
+    assert_eq!(g.ask(5, EXAMINE, 2, 4092, 4, &[]), 14);
+    assert_eq!(g.written(14), [0, 5, 255, 0, 6, 2, 15, 252, 0, 4, 0, 0, 7, 8]);
+    assert_eq!(g.ask(5, EXAMINE, 2, 4093, 4, &[]), -10);
+    assert_eq!(g.written(10), [0, 5, 255, 0, 134, 2, 15, 253, 0, 4]);
+    assert_eq!(g.ask(5, EXAMINE, 2, 4096, 0, &[]), 10);
+    assert_eq!(g.written(10), [0, 5, 255, 0, 6, 2, 16, 0, 0, 0]);
+}
+
+#[test]
+fn p7_p8_a_planted_word_is_not_seen() {
+    let mut g = Gateway::debugged();
+    g.store(256, [18, 52]);
+    assert_eq!(g.ask(5, BREAK, 2, 256, 0, &[]), 10);
+    assert_eq!(g.held(256), [3, 0]);
+    assert_eq!(g.ask(5, EXAMINE, 2, 256, 2, &[]), 12);
+    assert_eq!(g.written(12)[10..], [18, 52]);
+    assert_eq!(g.ask(5, DEPOSIT, 2, 257, 1, &[99]), 10);
+    assert_eq!(g.held(256), [3, 0]);
+    assert_eq!(g.ask(5, UNBREAK, 2, 256, 0, &[]), 10);
+    assert_eq!(g.held(256), [18, 99]);
+    assert_eq!(g.process().breakpoints, [FREE; 8]);
+}
+
+#[test]
+fn p9_a_ninth_address() {
+    let mut g = Gateway::debugged();
+    for i in 0..8 {
+        assert_eq!(g.ask(5, BREAK, 2, 2 * i, 0, &[]), 10);
+    }
+    assert_eq!(g.ask(5, BREAK, 2, 16, 0, &[]), -11);
+    assert_eq!(g.ask(5, BREAK, 2, 14, 9, &[]), 10);
+    assert_eq!(g.process().breakpoints[7].remaining, 9);
+}
+
+#[test]
+fn p10_count_of_two() {
+    let mut g = Gateway::debugged();
+    g.store(256, [18, 52]);
+    assert_eq!(g.ask(5, BREAK, 2, 256, 2, &[]), 10);
+    for left in [1, 0] {
+        assert_eq!(g.report(2, BPT, 0, 256), 0);
+        g.written(0);
+        assert_eq!(g.process().breakpoints[0].remaining, left);
+        assert_eq!(g.process().run, Run::Running);
+        assert_eq!(g.held(256), [18, 52]);
+    }
+    assert_eq!(g.report(2, BPT, 0, 256), 28);
+    let notice = g.written(28);
+    assert_eq!(notice[..10], [0, 5, 255, 0, 66, 2, 0, 0, 0, 0]);
+    assert_eq!(notice[10..], [2, 1, 1, 0, 2, 0, 3, 0, 4, 0, 5, 0, 6, 0, 0, 1, 8, 0]);
+    assert_eq!(g.process().run, Run::AtBreakpoint);
+    assert_eq!(g.held(256), [3, 0]);
+}
+
+#[test]
+fn p11_create() {
+    let mut g = Gateway::new(0b1011);
+    g.memory.fill(77);
+    assert_eq!(g.ask(5, CREATE_PROCESS, 0, 0, 0, &[]), 10);
+    assert_eq!(g.written(10), [0, 5, 255, 0, 12, 2, 0, 0, 0, 0]);
+    assert_eq!(*g.process(), Process { there: true, host: 5, run: Run::Stopped, ..CLEARED });
+    assert!(g.memory[2 * SPACE..3 * SPACE].iter().all(|&b| b == 0));
+    assert!(g.memory[..2 * SPACE].iter().all(|&b| b == 77));
+    assert!(g.memory[3 * SPACE..].iter().all(|&b| b == 77));
+    let mut g = Gateway::new(255);
+    assert_eq!(g.ask(5, CREATE_PROCESS, 0, 0, 0, &[]), -13);
+    assert_eq!(g.written(10), [0, 5, 255, 0, 140, 0, 0, 0, 0, 0]);
+}
+
+#[test]
+fn p12_vector_deposit() {
+    let mut g = Gateway::debugged();
+    assert_eq!(g.ask(5, DEPOSIT_STATE_VECTOR, 2, 16, 2, &[1, 2]), 10);
+    assert_eq!(g.process().vector, [0, 0, 0, 0, 0, 0, 0, 0, 0x0201]);
+    assert_eq!(g.ask(5, DEPOSIT_STATE_VECTOR, 2, 17, 2, &[1, 2]), -10);
+    assert_eq!(g.written(10), [0, 5, 255, 0, 135, 2, 0, 17, 0, 2]);
+    assert_eq!(g.ask(5, DEPOSIT_STATE_VECTOR, 2, 3, 1, &[9]), 10);
+    assert_eq!(g.process().vector[1], 0x0900);
+}
+
+#[test]
+fn stranger_with_a_bad_address() {
+    let mut g = Gateway::debugged();
+    for (cmd, string) in [(DEPOSIT, &[1u8, 2][..]), (EXAMINE, &[]), (BREAK, &[])] {
+        assert_eq!(g.ask(6, cmd, 2, 65535, 2, string), -8);
+    }
+    assert_eq!(g.ask(6, UNBREAK, 2, 65535, 0, &[]), -8);
+}
+
+#[test]
+fn examine_of_256_and_257() {
+    let mut g = Gateway::debugged();
+    assert_eq!(g.ask(5, EXAMINE, 2, 0, 256, &[]), 266);
+    assert_eq!(g.ask(5, EXAMINE, 2, 0, 257, &[]), -10);
+}
+
+#[test]
+fn sums_are_not_made_in_16_bits() {
+    let mut g = Gateway::debugged();
+    assert_eq!(g.ask(5, DEPOSIT, 2, 65535, 2, &[1, 2]), -10);
+    assert_eq!(g.ask(5, EXAMINE, 2, 65535, 2, &[]), -10);
+    assert_eq!(g.ask(5, DEPOSIT_STATE_VECTOR, 2, 65535, 2, &[1, 2]), -10);
+}
+
+#[test]
+fn end_debug_leaves_no_bpt_in_memory() {
+    let mut g = Gateway::debugged();
+    g.store(0, [1, 2]);
+    g.store(4094, [5, 6]);
+    g.ask(5, BREAK, 2, 0, 0, &[]);
+    g.ask(5, BREAK, 2, 4094, 3, &[]);
+    g.ask(5, STOP, 2, 0, 0, &[]);
+    assert_eq!(g.ask(5, END_DEBUG, 2, 0, 0, &[]), 10);
+    assert_eq!((g.held(0), g.held(4094)), ([1, 2], [5, 6]));
+    assert_eq!(*g.process(), Process { there: true, ..CLEARED });
+}
+
+#[test]
+fn end_debug_leaves_ended_as_it_is() {
+    let mut g = Gateway::debugged();
+    assert_eq!(g.report(2, HALT, 0, 0), 28);
+    assert_eq!(g.ask(5, END_DEBUG, 2, 0, 0, &[]), 10);
+    assert_eq!(g.process().run, Run::Ended);
+    assert_eq!(g.report(2, HALT, 0, 0), -9);
+}
+
+#[test]
+fn destroy_leaves_the_memory_and_create_clears_it() {
+    let mut g = Gateway::debugged();
+    g.store(10, [1, 2]);
+    g.ask(5, BREAK, 2, 10, 0, &[]);
+    assert_eq!(g.ask(5, DESTROY_PROCESS, 2, 0, 0, &[]), 10);
+    assert_eq!(*g.process(), CLEARED);
+    assert_eq!(g.held(10), [3, 0]);
+    for p in 0..3 {
+        assert_eq!(g.ask(6, CREATE_PROCESS, 0, 0, 0, &[]), 10);
+        assert_eq!(g.written(10)[5], p);
+    }
+    assert_eq!(g.held(10), [0, 0]);
+}
+
+#[test]
+fn lifting_and_planting_again() {
+    let mut g = Gateway::debugged();
+    g.store(6, [1, 2]);
+    g.ask(5, BREAK, 2, 6, 0, &[]);
+    assert_eq!(g.report(2, BPT, 0, 6), 28);
+    assert_eq!(g.ask(5, SINGLE_STEP, 2, 0, 0, &[]), 10);
+    assert_eq!((g.held(6), g.process().run), ([1, 2], Run::Stepping));
+    // A word stored while the breakpoint is lifted is the one saved next.
+    g.store(6, [8, 9]);
+    assert_eq!(g.report(2, TTRAP, 0, 8), 28);
+    assert_eq!(g.held(6), [3, 0]);
+    assert_eq!(g.process().breakpoints[0].saved, [8, 9]);
+    assert_eq!(g.process().run, Run::Stopped);
+    // Stepping from stopped lifts nothing.
+    g.process().vector[PC] = 6;
+    assert_eq!(g.ask(5, SINGLE_STEP, 2, 0, 0, &[]), 10);
+    assert_eq!(g.held(6), [3, 0]);
+    assert_eq!(g.report(2, BPT, 0, 6), 28);
+    assert_eq!(g.ask(5, PROCEED_BPT, 2, 0, 0, &[]), 10);
+    assert_eq!((g.held(6), g.process().run), ([8, 9], Run::Running));
+    assert_eq!(g.ask(5, STOP, 2, 0, 0, &[]), 10);
+    assert_eq!((g.held(6), g.process().run), ([3, 0], Run::Stopped));
+    assert_eq!(g.ask(5, PROCEED_BPT, 2, 0, 0, &[]), -9);
+}
+
+#[test]
+fn a_store_into_a_planted_word_is_not_seen() {
+    let mut g = Gateway::debugged();
+    g.store(6, [1, 2]);
+    g.ask(5, BREAK, 2, 6, 0, &[]);
+    g.store(6, [70, 71]);
+    assert_eq!(g.ask(5, EXAMINE, 2, 5, 2, &[]), 12);
+    assert_eq!(g.written(12)[10..], [0, 1]);
+    assert_eq!(g.ask(5, DEPOSIT, 2, 7, 1, &[4]), 10);
+    assert_eq!(g.held(6), [70, 71]);
+    assert_eq!(g.ask(5, UNBREAK, 2, 6, 0, &[]), 10);
+    assert_eq!(g.held(6), [1, 4]);
+}
+
+#[test]
+fn the_order_of_a_reports_tests() {
+    let mut g = Gateway::new(1);
+    assert_eq!(g.report(9, 4, 0, 0), -14);
+    assert_eq!(g.report(9, HALT, 1, 0), -14);
+    assert_eq!(g.report(9, TTRAP, 0, 0), -7);
+    assert_eq!(g.report(1, TTRAP, 0, 0), -7);
+    assert_eq!(g.report(0, TTRAP, 0, 0), -9);
+    assert_eq!(g.report(0, TRAP, 4, 0), 0);
+    assert_eq!(g.report(0, TRAP, 4, 0), -9);
+    g.written(0);
+}
+
+#[test]
+fn a_trap_carries_its_reason() {
+    let mut g = Gateway::debugged();
+    assert_eq!(g.report(2, TRAP, 0x1234, 0), 28);
+    assert_eq!(g.written(28)[..10], [0, 5, 255, 0, 64, 2, 0x12, 0x34, 0, 0]);
+}
+
+#[test]
+fn the_order_of_a_requests_tests() {
+    let mut g = Gateway::debugged();
+    let Gateway { state, memory, output } = &mut g;
+    let unsound = {
+        let mut state = state.clone();
+        state.processes[0].host = 1;
+        state
+    };
+    assert_eq!(request(&mut unsound.clone(), &mut memory[1..], &[], output), -1);
+    assert_eq!(request(&mut unsound.clone(), memory, &[], &mut output[1..]), -1);
+    assert_eq!(request(&mut unsound.clone(), memory, &[], output), -2);
+    assert_eq!(g.send(&[0; 9]), -3);
+    assert_eq!(g.send(&[0; 267]), -3);
+    assert_eq!(g.send(&[0, 0, 255, 0, 14, 2, 0, 0, 0, 0]), -4);
+    assert_eq!(g.send(&[0, 5, 255, 0, 14, 2, 0, 0, 0, 0, 0]), -5);
+    assert_eq!(g.send(&[0, 5, 255, 0, 1, 9, 0, 0, 0, 1]), -6);
+    assert_eq!(g.send(&[0, 5, 255, 0, 4, 9, 0, 0, 0, 1]), -6);
+    g.written(0);
+    assert_eq!(g.send(&[0, 5, 255, 0, 1, 9, 0, 0, 0, 0]), -7);
+    assert_eq!(g.written(10), [0, 5, 255, 0, 129, 9, 0, 0, 0, 0]);
+}
+
+#[test]
+fn sound_states() {
+    let mut state = fresh_start(3);
+    assert!(sound(&state));
+    let entry = Breakpoint { used: true, lifted: false, address: 4094, remaining: 0, saved: [0, 0] };
+    state.processes[0].breakpoints[3] = entry;
+    assert!(!sound(&state), "a process with no host has none");
+    state.processes[0].host = 9;
+    assert!(sound(&state));
+    let changed = |change: fn(&mut Process)| {
+        let mut state = state.clone();
+        change(&mut state.processes[0]);
+        sound(&state)
+    };
+    assert!(!changed(|p| p.there = false));
+    assert!(!changed(|p| p.breakpoints[3].address = 4095));
+    assert!(!changed(|p| p.breakpoints[3].address = 4096));
+    assert!(!changed(|p| p.breakpoints[6] = p.breakpoints[3]));
+    assert!(changed(|p| p.breakpoints[3].lifted = true));
+    assert!(!changed(|p| {
+        p.breakpoints[3].lifted = true;
+        p.run = Run::Stopped;
+    }));
+    assert!(!changed(|p| {
+        p.breakpoints[3].lifted = true;
+        p.breakpoints[0] = Breakpoint { address: 2, ..p.breakpoints[3] };
+    }));
+    // A free entry's other fields play no part.
+    assert!(changed(|p| {
+        p.run = Run::Stopped;
+        p.breakpoints[0] = Breakpoint { used: false, lifted: true, ..p.breakpoints[3] };
+        p.breakpoints[1] = Breakpoint { address: 4099, ..p.breakpoints[0] };
+    }));
+}
+
+#[test]
+fn the_byte_form() {
+    let mut bytes = [9; STATE_BYTES];
+    assert_eq!(STATE_BYTES, 680);
+    assert_eq!(fresh_start_bytes(0b100, &mut bytes), 0);
+    assert_eq!(bytes.iter().position(|&b| b != 0), Some(170));
+    assert_eq!(fresh_start_bytes(0, &mut bytes[1..]), -1);
+    let mut memory = vec![0; MEMORY];
+    let mut output = vec![0; LONGEST];
+    memory[2 * SPACE + 256..][..2].copy_from_slice(&[18, 52]);
+    for m in [message(5, DEBUG, 2, 0, 0, &[]), message(5, BREAK, 2, 256, 515, &[])] {
+        assert_eq!(request_bytes(&mut bytes, &mut memory, &m, &mut output), 10);
+    }
+    assert_eq!(bytes[170..173], [1, 5, 0]);
+    assert_eq!(bytes[191..199], [1, 0, 0, 1, 3, 2, 18, 52]);
+    let words = vector_bytes(&words_with(256));
+    let (b, m, o) = (&mut bytes, &mut memory, &mut output);
+    assert_eq!(report_bytes(b, m, 2, BPT, 0, &words[1..], o), -1);
+    assert_eq!(report_bytes(b, m, 2, BPT, 0, &words, o), 0);
+    assert_eq!(b[173..191], words);
+    assert_eq!(b[191..199], [1, 1, 0, 1, 2, 2, 18, 52]);
+    assert_eq!(encode(&decode(b).unwrap()), *b);
+    for (at, byte) in [(0, 2), (170, 255), (2, 5), (191, 2), (192, 2), (679 - 7, 2)] {
+        let mut damaged = *b;
+        damaged[at] = byte;
+        assert_eq!(decode(&damaged), None);
+        let before = damaged;
+        assert_eq!(request_bytes(&mut damaged, m, &[], o), -2);
+        assert_eq!(report_bytes(&mut damaged, m, 2, 9, 0, &words, o), -2);
+        assert_eq!(request_bytes(&mut damaged, &mut [], &[], o), -1);
+        assert_eq!(damaged, before);
+    }
+    assert_eq!(decode(&b[1..]), None);
+    assert_eq!(request_bytes(&mut b[1..], m, &[], o), -2);
+}
+
+/// The input of the paper's bench program, whose whole output is
+/// `0 00 05 ff ..`, `8 00 06 ff 00 81 ..`, `3 -`.
+#[test]
+fn the_bench_programs_input() {
+    let mut g = Gateway::new(1 << 2);
+    assert_eq!(g.send(&[0, 5, 255, 0, 1, 2, 0, 0, 0, 0]), 10);
+    assert_eq!(g.written(10), [0, 5, 255, 0, 1, 2, 0, 0, 0, 0]);
+    assert_eq!(g.send(&[0, 6, 255, 0, 1, 2, 0, 0, 0, 0]), -8);
+    assert_eq!(g.written(10), [0, 6, 255, 0, 0x81, 2, 0, 0, 0, 0]);
+    assert_eq!(g.send(&[0, 6, 255]), -3);
+    g.written(0);
+}
