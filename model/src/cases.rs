@@ -329,7 +329,8 @@ fn the_order_of_a_requests_tests() {
 fn sound_states() {
     let mut state = fresh_start(3);
     assert!(sound(&state));
-    let entry = Breakpoint { used: true, lifted: false, address: 4094, remaining: 0, saved: [0, 0] };
+    let entry =
+        Breakpoint { used: true, lifted: false, address: 4094, remaining: 0, saved: [0, 0] };
     state.processes[0].breakpoints[3] = entry;
     assert!(!sound(&state), "a process with no host has none");
     state.processes[0].host = 9;

@@ -254,7 +254,7 @@ impl Process {
 
 /// "even and at most 4,094"
 fn takes_breakpoint(address: u16) -> bool {
-    address % 2 == 0 && address <= LAST_WORD
+    address & 1 == 0 && address <= LAST_WORD
 }
 
 // ---------------------------------------------------------------- memory
@@ -510,7 +510,12 @@ fn create(state: &mut State, memory: &mut [u8], host: u8) -> Result<Done, Refusa
 impl Process {
     /// What a request to this process does once tests 7, 8 and 9 are passed;
     /// the length of the reply's string.
-    fn obey(&mut self, space: &mut [u8], asked: &Asked, string: &mut [u8]) -> Result<usize, Refusal> {
+    fn obey(
+        &mut self,
+        space: &mut [u8],
+        asked: &Asked,
+        string: &mut [u8],
+    ) -> Result<usize, Refusal> {
         match asked.cmd {
             // "DEBUG: the asker debugs it; granted again to the same host."
             DEBUG => self.host = asked.host,
@@ -569,7 +574,12 @@ impl Process {
     }
 
     /// "CONTENTS (reply to 6) appends the ARG2 bytes."
-    fn examine(&mut self, space: &mut [u8], asked: &Asked, string: &mut [u8]) -> Result<usize, Refusal> {
+    fn examine(
+        &mut self,
+        space: &mut [u8],
+        asked: &Asked,
+        string: &mut [u8],
+    ) -> Result<usize, Refusal> {
         let count = usize::from(asked.arg2);
         if !within(asked.arg1, asked.arg2, SPACE) || count > LONGEST_STRING {
             return Err(OUTSIDE);

@@ -6,7 +6,11 @@
 use std::slice::{from_raw_parts, from_raw_parts_mut};
 
 #[no_mangle]
-pub unsafe extern "C" fn palustrode_fresh_start(there: u8, state: *mut u8, state_len: usize) -> i64 {
+pub unsafe extern "C" fn palustrode_fresh_start(
+    there: u8,
+    state: *mut u8,
+    state_len: usize,
+) -> i64 {
     model::fresh_start_bytes(there, from_raw_parts_mut(state, state_len))
 }
 

@@ -30,6 +30,7 @@ pub fn read_state(image: &[u8]) -> Gateway
 
 pub fn put_state(state: Gateway, image: &mut [u8])
     requires { ⌜ 680 ≤ length (now image) ⌝ }
+    ensures { λ _. ⌜ length (stateBytes state) ≡ 680 ⌝ }
     ensures { λ _. ⌜ now (image .exit) ≡ overlay (stateBytes state) (now (image .entry)) ⌝ }
 {
     let mut p = 0;

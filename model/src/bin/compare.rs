@@ -1,12 +1,16 @@
 //! Compares a library with the model, call by call, on random call lists.
 //!
-//! Arguments: the number of calls (200000 if not given) and a seed (1 if not
-//! given). The same arguments always give the same calls. The program ends with
-//! 1 at the first difference, and with 1 if a kind of answer that the paper
-//! makes possible was never met; otherwise with 0.
+//! Arguments: the number of calls (200000 if not given), a seed (1 if not
+//! given) and the word `each`, with which every call is printed before it is
+//! made (should the library not come back from one). The same seed always gives
+//! the same calls. The program ends with 1 at the first difference, and with 1
+//! if a kind of answer that the paper makes possible was never met; otherwise
+//! with 0.
 //!
 //! The library is given to the linker (`-L DIR -l static=embedding`); with the
-//! feature `standin` the model itself takes its place.
+//! feature `standin` the model itself takes its place. If the library was built
+//! by another compiler, or has a panic handler of its own, the linker needs
+//! `-C link-arg=-Wl,--allow-multiple-definition` besides.
 
 use model::*;
 use std::process::ExitCode;
@@ -145,26 +149,56 @@ fn call_library(call: &Call, side: &mut Side) -> i64 {
 /// Makes a call on both sides and compares the results, the state, the memory
 /// and the whole output buffer.
 fn compare_call(call: &Call, model: &mut Side, library: &mut Side) -> Result<i64, String> {
+    let before = model.clone();
     let answers = [call_model(call, model), call_library(call, library)];
-    judge(call, answers, model, library)
+    judge(call, answers, &before, model, library)
 }
 
-/// The same on changed state bytes, where the paper leaves one thing open.
-fn compare_call_on_damaged(call: &Call, given: &Side) -> Result<i64, String> {
-    let (mut model, mut library) = (given.clone(), given.clone());
+/// The same on copies of buffers that were changed for this call alone. On
+/// changed state bytes the paper leaves one thing open.
+fn compare_on_copies(call: &Call, before: &Side) -> Result<i64, String> {
+    let (mut model, mut library) = (before.clone(), before.clone());
     let answers = [call_model(call, &mut model), call_library(call, &mut library)];
     if answers[0] == answers[1] && answers[0] > 0 {
-        hide_what_is_left_open(call, &given.state, &mut model);
-        hide_what_is_left_open(call, &given.state, &mut library);
+        hide_what_is_left_open(call, &before.state, &mut model);
+        hide_what_is_left_open(call, &before.state, &mut library);
     }
-    judge(call, answers, &model, &library)
+    judge(call, answers, before, &model, &library)
 }
 
-fn judge(call: &Call, answers: [i64; 2], model: &Side, library: &Side) -> Result<i64, String> {
-    match difference(answers, model, library) {
+fn judge(
+    call: &Call,
+    answers: [i64; 2],
+    before: &Side,
+    model: &Side,
+    library: &Side,
+) -> Result<i64, String> {
+    let wrong = difference(answers, model, library)
+        .or_else(|| broken_rule(call, answers[0], before, model).map(str::to_string));
+    match wrong {
         None => Ok(answers[0]),
         Some(text) => Err(format!("{}\n{text}", describe(call, model))),
     }
+}
+
+/// What the paper says of every call alike, should both sides break it.
+fn broken_rule(call: &Call, answer: i64, before: &Side, after: &Side) -> Option<&'static str> {
+    let written = match (call, answer) {
+        (_, 0..) => answer as usize,
+        (Call::Request { .. }, -13..=-7) => HEAD,
+        _ => 0,
+    };
+    let refused = answer < 0;
+    if refused && (before.state != after.state || before.memory != after.memory) {
+        return Some("both: state and memory are not unchanged by a refusal");
+    }
+    if before.output[written..] != after.output[written..] {
+        return Some("both: buffer bytes past those written are touched");
+    }
+    if !refused && !decode(&after.state).is_some_and(|state| sound(&state)) {
+        return Some("both: the state is not sound after a granted call");
+    }
+    None
 }
 
 fn difference([a, b]: [i64; 2], model: &Side, library: &Side) -> Option<String> {
@@ -234,9 +268,8 @@ fn describe(call: &Call, side: &Side) -> String {
 const HOSTS: [u8; 3] = [5, 6, 7];
 
 /// Numbers at the edges of the paper's ranges.
-const EDGES: [u16; 18] = [
-    0, 1, 2, 16, 17, 18, 255, 256, 257, 4092, 4093, 4094, 4095, 4096, 4097, 32768, 65534, 65535,
-];
+const EDGES: [u16; 18] =
+    [0, 1, 2, 16, 17, 18, 255, 256, 257, 4092, 4093, 4094, 4095, 4096, 4097, 32768, 65534, 65535];
 
 /// What a list tends to: the weights of the fourteen op codes, and how many of
 /// sixteen calls are reports.
@@ -358,7 +391,7 @@ fn make_arguments(random: &mut Random, process: &Process, cmd: u8) -> (u16, u16,
     }
 }
 
-/// Half of the time one that a string can have.
+/// Mostly one that a string can have.
 fn some_count(random: &mut Random) -> u16 {
     match random.below(4) {
         0 => random.pick(&EDGES),
@@ -555,7 +588,8 @@ fn damage_state(random: &mut Random, state: &mut Vec<u8>) {
         0..=3 => {
             for _ in 0..=random.below(3) {
                 let at = random.below(state.len());
-                state[at] = if random.one_in(2) { random.byte() } else { state[at] ^ 1 << random.below(8) };
+                state[at] =
+                    if random.one_in(2) { random.byte() } else { state[at] ^ 1 << random.below(8) };
             }
         }
         // a wrong length
@@ -576,7 +610,8 @@ fn damage_state(random: &mut Random, state: &mut Vec<u8>) {
         // a wrong address
         9 => {
             own(random, state, record);
-            put_entry(state, p, e, 0, random.pick(&[1, 7, 4093, 4095, 4096, 4097, 4098, 8192, 65534, 65535]));
+            let wrong = [1, 7, 4093, 4095, 4096, 4097, 4098, 8192, 65534, 65535];
+            put_entry(state, p, e, 0, random.pick(&wrong));
         }
         // the same address twice, unless both are the same entry
         10 => {
@@ -596,7 +631,8 @@ fn damage_state(random: &mut Random, state: &mut Vec<u8>) {
         // run state and vector
         12..=14 => {
             state[record..record + 2].copy_from_slice(&[u8::from(!random.one_in(4)), 0]);
-            state[record + 2] = if random.one_in(2) { some_run(random) } else { Run::Stepping } as u8;
+            state[record + 2] =
+                if random.one_in(2) { some_run(random) } else { Run::Stepping } as u8;
             random.fill(&mut state[record + 3..record + ENTRIES_AT]);
             state[record + ENTRIES_AT..record + RECORD_BYTES].fill(0);
         }
@@ -656,8 +692,8 @@ const COLUMNS: usize = 16;
 /// 5, 10 and 11 ask for a run state (9); 4, 6, 7 and 8 have ranges (10); 8 alone
 /// fails 11, 9 alone 12, 12 alone 13. Reports are tested by 1, 2, 14, 7, 9; a
 /// TRAP may have any reason, and a kind over 3 never comes past 14. Every kind
-/// is silent for a process with no host, TTRAP in a sound state only, since no
-/// call from a fresh start leaves a process stepping with no host.
+/// is silent for a process with no host. No call from a fresh start leaves such
+/// a process stepping, but the state is sound, so a silent TTRAP is possible.
 const TABLE: [Row; ROWS] = [
     request_row("0 NOP", &[1, 2, 6]),
     request_row("1 DEBUG", &[1, 2, 6, 7, 8]),
@@ -839,7 +875,12 @@ fn range_passages(place: &Place, call: &Call) -> Vec<(&'static str, bool)> {
     ]
 }
 
-fn ending_passages(place: &Place, call: &Call, state: &State, memory: &[u8]) -> Vec<(&'static str, bool)> {
+fn ending_passages(
+    place: &Place,
+    call: &Call,
+    state: &State,
+    memory: &[u8],
+) -> Vec<(&'static str, bool)> {
     let is = |cmd| call.cmd() == Some(cmd);
     let Place { process, .. } = *place;
     let known = place.some(|b| place.begins_at(b));
@@ -870,18 +911,21 @@ struct Comparison {
     model: Side,
     library: Side,
     calls: u64,
+    print_each: bool,
     table: [[u64; COLUMNS]; ROWS],
     passages: Vec<(&'static str, u64)>,
 }
 
 impl Comparison {
-    fn new(seed: u64) -> Comparison {
-        let side = Side { state: vec![0; STATE_BYTES], memory: vec![0; MEMORY], output: Vec::new() };
+    fn new(seed: u64, print_each: bool) -> Comparison {
+        let side =
+            Side { state: vec![0; STATE_BYTES], memory: vec![0; MEMORY], output: Vec::new() };
         Comparison {
             random: Random(seed),
             model: side.clone(),
             library: side,
             calls: 0,
+            print_each,
             table: [[0; COLUMNS]; ROWS],
             passages: Vec::new(),
         }
@@ -937,13 +981,14 @@ impl Comparison {
         self.model.state = self.random.bytes(length);
         self.library.state.clone_from(&self.model.state);
         let state = &mut self.library.state;
-        let answers = [
-            fresh_start_bytes(there, &mut self.model.state),
-            unsafe { palustrode_fresh_start(there, state.as_mut_ptr(), state.len()) },
-        ];
+        let answers = [fresh_start_bytes(there, &mut self.model.state), unsafe {
+            palustrode_fresh_start(there, state.as_mut_ptr(), state.len())
+        }];
         match difference(answers, &self.model, &self.library) {
             None => Ok(()),
-            Some(text) => Err(format!("call: fresh start, processes {there:08b}, {length} bytes\n{text}")),
+            Some(text) => {
+                Err(format!("call: fresh start, processes {there:08b}, {length} bytes\n{text}"))
+            }
         }
     }
 
@@ -977,6 +1022,7 @@ impl Comparison {
         self.model.output = some_output(&mut self.random);
         self.library.output.clone_from(&self.model.output);
         let taken = passages(&state, &self.model.memory, &call);
+        self.announce(&call, &self.model);
         let answer = compare_call(&call, &mut self.model, &mut self.library)?;
         self.count(&call, answer);
         self.count_passages(taken, answer);
@@ -990,7 +1036,8 @@ impl Comparison {
         let state = decode(&given.state).unwrap_or_else(|| self.state());
         let call = make_call(&mut self.random, &state, mood);
         given.output = some_output(&mut self.random);
-        let answer = compare_call_on_damaged(&call, &given)?;
+        self.announce(&call, &given);
+        let answer = compare_on_copies(&call, &given)?;
         self.count(&call, answer);
         Ok(())
     }
@@ -1007,9 +1054,16 @@ impl Comparison {
         for _ in 0..=self.random.below(2) {
             spoil_buffer(&mut self.random, &mut call, &mut given);
         }
-        let answer = compare_call_on_damaged(&call, &given)?;
+        self.announce(&call, &given);
+        let answer = compare_on_copies(&call, &given)?;
         self.count(&call, answer);
         Ok(())
+    }
+
+    fn announce(&self, call: &Call, side: &Side) {
+        if self.print_each {
+            println!("{} {}", self.calls, describe(call, side));
+        }
     }
 
     fn count(&mut self, call: &Call, answer: i64) {
@@ -1036,7 +1090,8 @@ impl Comparison {
             print!("{:>16}", row.name);
             for (column, &n) in counts.iter().enumerate() {
                 let width = [7, 6, 5][column.min(2)];
-                let text = if n == 0 && !row.feasible(column) { ".".to_string() } else { n.to_string() };
+                let text =
+                    if n == 0 && !row.feasible(column) { ".".to_string() } else { n.to_string() };
                 print!(" {text:>width$}");
                 whole &= (n > 0) == row.feasible(column);
             }
@@ -1055,7 +1110,9 @@ impl Comparison {
 fn spoil_buffer(random: &mut Random, call: &mut Call, side: &mut Side) {
     match (random.below(3), call) {
         (0, _) => side.memory.resize(random.pick(&[0, 1, 4096, 32767, 32769, 65536]), 0),
-        (1, Call::Report { words, .. }) => words.resize(random.pick(&[0, 1, 16, 17, 19, 20, 36]), 0),
+        (1, Call::Report { words, .. }) => {
+            words.resize(random.pick(&[0, 1, 16, 17, 19, 20, 36]), 0)
+        }
         _ => side.output.truncate(random.pick(&[0, 1, 9, 10, 27, 28, 265])),
     }
 }
@@ -1067,10 +1124,11 @@ fn main() -> ExitCode {
         Some(text) => text.parse().ok(),
     };
     let (Some(limit), Some(seed)) = (number(200_000), number(1)) else {
-        eprintln!("arguments: [number of calls] [seed]");
+        eprintln!("arguments: [number of calls] [seed] [each]");
         return ExitCode::from(2);
     };
-    let mut comparison = Comparison::new(seed);
+    let print_each = arguments.next().is_some_and(|word| word == "each");
+    let mut comparison = Comparison::new(seed, print_each);
     if let Err(text) = comparison.run(limit) {
         println!("{text}\nseed {seed}, call number {}", comparison.calls);
         return ExitCode::from(1);

@@ -1,5 +1,5 @@
 -- `image::state_form::put_state` meets its contract. The loop's invariant: the processes passed are laid over the bytes. Assumes nothing.
-use mathlib.Core.Path.{_≡_, refl, ap, _∙_}
+use mathlib.Core.Path.{_≡_, refl, sym, ap, _∙_}
 use mathlib.Core.List.{List}
 use Prim.Native.Nat.{ℕ, _-_, _*_, _≤_, _<_}
 use native.Mathlib.Omega.{arith}
@@ -78,7 +78,11 @@ unfolding stateBytes
 returns c =
     let l = c .before in
     let a = l .before .before .args in
-    l .loop .inv .4 ∙ ap (λ (xs : List _). overlay (joined processBytes xs) (a .image .now)) (take-all (l .loop .p) (a .t1 .processes) (omega (arith, l .loop .inv .1)))
+    let all = take-all (l .loop .p) (a .t1 .processes) (omega (arith, l .loop .inv .1)) in
+    let end : l .loop .p ≡ 8 = omega arith in (
+      ap (λ (xs : List _). length (joined processBytes xs)) (sym all) ∙ l .loop .inv .3 ∙ omega (arith, end),
+      l .loop .inv .4 ∙ ap (λ (xs : List _). overlay (joined processBytes xs) (a .image .now)) all,
+    )
 
 pub put-state-spec : {M : Type 1} → statement M
 put-state-spec =

@@ -1,0 +1,54 @@
+-- `embedding::calls::palustrode_fresh_start` meets its contract, by the length of the buffer. Assumes nothing.
+use mathlib.Core.Path.{refl, ap, _∙_}
+use native.Mathlib.Omega.{arith}
+use borrow.Author.Needs.{needs}
+use borrow.Author.Tests.{eq-eqb, ne-eqb}
+use Rattle.lists.proofs.Buffer.{overlay-all}
+use Rattle.state.specs.Gateway.{freshStart}
+use Rattle.image.specs.Form.{stateBytes}
+use Rattle.embedding.specs.Called.{startOn, startResult}
+use Rattle.embedding.proofs.SignLaws.{minus-again}
+use Rattle.embedding.proofs.calls.palustrode_fresh_start.Statement.{statement}
+use Rattle.embedding.proofs.calls.palustrode_fresh_start.Tie as tie
+
+minus-requires : tie.Need-minus-requires
+minus-requires c κs = search needs
+
+returns : tie.Need-returns
+unfolding startOn startResult
+returns c = rw (c .minus .ensures, ne-eqb _ _ (c .before .if1 .taken)) (minus-again 1 (omega arith), refl)
+
+bits-requires : tie.Need-bits-requires
+bits-requires c κs = search needs
+
+fresh-start-requires : tie.Need-fresh-start-requires
+fresh-start-requires c κs = search needs
+
+put-state-requires : tie.Need-put-state-requires
+put-state-requires c κs = search needs
+
+same-length : tie.Need-same-length
+same-length c = search needs
+
+returns-2 : tie.Need-returns-2
+unfolding startOn startResult
+returns-2 c =
+    let w = c .before .before in
+    let f = w .before .before in
+    let b = f .before in
+    let i = b .before in
+    let s = c .before .before .before .before .before .before .before .before in
+    let size = i .if1 .left in
+    rw (eq-eqb _ _ size) (refl, w .put-state .ensures .1 ∙ overlay-all _ (s .args .state .now) (omega (arith, w .put-state .ensures .0, size)) ∙ ap stateBytes (f .fresh-start .ensures ∙ ap freshStart (b .bits .ensures)))
+
+pub palustrode-fresh-start-spec : {M : Type 1} → statement M
+palustrode-fresh-start-spec =
+    tie.close
+    (tie.spec
+    minus-requires
+    returns
+    bits-requires
+    fresh-start-requires
+    put-state-requires
+    same-length
+    returns-2)

@@ -1,0 +1,89 @@
+-- A call over a state that is kept as bytes.
+use mathlib.Core.Bool.{Bool, not, cond, _||_}
+use mathlib.Core.List.{List, [], _∷_}
+use Prim.Native.Nat.{ℕ, _<_, _/_, _%_}
+use lib.IntN.{ℤ, pos, _-ℤ_}
+use lib.ListN.{length}
+use lib.Dec.{eqb, ltb}
+use Rattle.lists.specs.Word.{vectorOf}
+use Rattle.message.specs.declared.outcome.Outcome.{Outcome}
+use Rattle.message.specs.declared.outcome.Outcome.the-variants.{Granted, Refused}
+use Rattle.state.specs.Gateway.{freshStart}
+use Rattle.rules.specs.Tests.{lent}
+use Rattle.rules.specs.Step.{Stepped, requested, noted}
+use Rattle.rules.specs.Isolation.{isGranted}
+use Rattle.image.specs.Form.{stateBytes, stateOf, stateFormed}
+
+-- what a call returns, and state, memory and output buffer after it
+pub record Called : Type 0 where
+  pub result : ℤ
+  pub state : List ℕ
+  pub memory : List ℕ
+  pub buffer : List ℕ
+
+-- minus this number
+abbrev pub minus : ℕ → ℤ
+minus n = pos 0 -ℤ pos n
+
+-- 'A call returns the length granted (0 or more) or minus the refusal's number.'
+unfoldable pub signed : Outcome → ℤ
+signed (Granted n) = pos n
+signed (Refused n) = minus n
+
+-- a granted length that a signed number holds
+abbrev pub Short : Outcome → Type 0
+Short (Granted n) = n < 65536
+Short (Refused n) = Unit {0}
+
+-- a call on the record that the bytes are the form of; a refused one leaves the bytes
+unfoldable pub finished : List ℕ → Stepped → Called
+finished image x = record {
+  result = signed (x .answer .outcome);
+  state = cond (isGranted (x .answer .outcome)) (stateBytes (x .after .gateway)) image;
+  memory = x .after .memory;
+  buffer = x .answer .buffer;
+}
+
+-- 'memory not 32,768 bytes, or reply or notice buffer under 266'
+abbrev pub lentShort : List ℕ → List ℕ → Bool
+lentShort memory buffer = not (eqb (length memory) 32768) || ltb (length buffer) 266
+
+-- 'what is no sound state is refused by 2 and nothing is written', after test 1
+unfoldable pub unformed : ℕ → List ℕ → List ℕ → List ℕ → Called
+unformed number image memory buffer = record { result = minus number; state = image; memory = memory; buffer = buffer }
+
+-- the tests 1 and 2 where the bytes are no state's
+unfoldable pub unformedNumber : List ℕ → List ℕ → ℕ
+unformedNumber memory buffer = cond (lentShort memory buffer) 1 2
+
+unfoldable pub requestOn : List ℕ → List ℕ → List ℕ → List ℕ → Called
+requestOn image memory message reply =
+    cond (stateFormed image) (finished image (requested message reply (lent (stateOf image) memory)))
+    (unformed (unformedNumber memory reply) image memory reply)
+
+-- the words are 18 bytes, low byte first; words of another length are a lent buffer of the wrong length, test 1
+unfoldable pub reportOn : List ℕ → List ℕ → ℕ → ℕ → ℕ → List ℕ → List ℕ → Called
+reportOn image memory p kind reason words notice =
+    cond (not (eqb (length words) 18)) (unformed 1 image memory notice)
+    (cond (stateFormed image) (finished image (noted p kind reason (vectorOf words) notice (lent (stateOf image) memory)))
+    (unformed (unformedNumber memory notice) image memory notice))
+
+-- process p is there where bit p is set
+unfoldable pub bitsOf : ℕ → List Bool
+bitsOf n =
+    eqb (n % 2) 1
+    ∷ eqb (n / 2 % 2) 1
+    ∷ eqb (n / 4 % 2) 1
+    ∷ eqb (n / 8 % 2) 1
+    ∷ eqb (n / 16 % 2) 1
+    ∷ eqb (n / 32 % 2) 1
+    ∷ eqb (n / 64 % 2) 1
+    ∷ eqb (n / 128 % 2) 1
+    ∷ []
+
+-- a fresh start, where the state's buffer has its length
+unfoldable pub startOn : ℕ → List ℕ → List ℕ
+startOn there image = cond (eqb (length image) 680) (stateBytes (freshStart (bitsOf there))) image
+
+unfoldable pub startResult : List ℕ → ℤ
+startResult image = cond (eqb (length image) 680) (pos 0) (minus 1)

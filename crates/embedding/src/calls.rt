@@ -1,0 +1,101 @@
+// The exported functions.
+use crate::result::finish;
+use crate::result::minus;
+use crate::result::unformed_number;
+use gateway::fresh_start;
+use gateway::report;
+use gateway::request;
+use image::put_state;
+use image::read_state;
+use image::state_formed;
+use words::vector_of;
+ghost use mathlib.Core.Path.{_≡_};
+ghost use Rattle.embedding.specs.Called.{requestOn, reportOn, bitsOf, startOn, startResult};
+
+fn bits(there: u8) -> [bool; 8]
+    ensures { λ r. ⌜ r ≡ bitsOf there ⌝ }
+{
+    [
+        there % 2 == 1,
+        there / 2 % 2 == 1,
+        there / 4 % 2 == 1,
+        there / 8 % 2 == 1,
+        there / 16 % 2 == 1,
+        there / 32 % 2 == 1,
+        there / 64 % 2 == 1,
+        there / 128 % 2 == 1,
+    ]
+}
+
+// A fresh start with the processes whose bits are set.
+#[no_mangle]
+pub extern "C" fn palustrode_fresh_start(there: u8, state: &mut [u8]) -> i64
+    ensures { λ r. ⌜ r ≡ startResult (now (state .entry)) ⌝ }
+    ensures { λ _. ⌜ now (state .exit) ≡ startOn there (now (state .entry)) ⌝ }
+{
+    if state.len() != 680 {
+        return minus(1);
+    }
+    put_state(fresh_start(bits(there)), state);
+    0
+}
+
+// A request.
+#[no_mangle]
+pub extern "C" fn palustrode_request(
+    state: &mut [u8],
+    memory: &mut [u8],
+    message: &[u8],
+    reply: &mut [u8],
+) -> i64
+    ensures { λ r. ⌜ r ≡ requestOn (now (state .entry)) (now (memory .entry)) (now (message .entry)) (now (reply .entry)) .result ⌝ }
+    ensures { λ _. ⌜ now (state .exit) ≡ requestOn (now (state .entry)) (now (memory .entry)) (now (message .entry)) (now (reply .entry)) .state ⌝ }
+    ensures { λ _. ⌜ now (memory .exit) ≡ requestOn (now (state .entry)) (now (memory .entry)) (now (message .entry)) (now (reply .entry)) .memory ⌝ }
+    ensures { λ _. ⌜ now (reply .exit) ≡ requestOn (now (state .entry)) (now (memory .entry)) (now (message .entry)) (now (reply .entry)) .buffer ⌝ }
+{
+    if !state_formed(state) {
+        return minus(unformed_number(memory, reply));
+    }
+    let answered = request(read_state(state), memory, message, reply);
+    let outcome = answered.outcome;
+    let next = answered.state;
+    finish(outcome, next, state)
+}
+
+// A machine report; the nine words are 18 bytes, low byte first.
+#[no_mangle]
+pub extern "C" fn palustrode_report(
+    state: &mut [u8],
+    memory: &mut [u8],
+    process: u8,
+    kind: u8,
+    reason: u16,
+    words: &[u8],
+    notice: &mut [u8],
+) -> i64
+    ensures { λ r. ⌜ r ≡ reportOn (now (state .entry)) (now (memory .entry)) process kind reason (now (words .entry)) (now (notice .entry)) .result ⌝ }
+    ensures { λ _. ⌜ now (state .exit) ≡ reportOn (now (state .entry)) (now (memory .entry)) process kind reason (now (words .entry)) (now (notice .entry)) .state ⌝ }
+    ensures { λ _. ⌜ now (memory .exit) ≡ reportOn (now (state .entry)) (now (memory .entry)) process kind reason (now (words .entry)) (now (notice .entry)) .memory ⌝ }
+    ensures { λ _. ⌜ now (notice .exit) ≡ reportOn (now (state .entry)) (now (memory .entry)) process kind reason (now (words .entry)) (now (notice .entry)) .buffer ⌝ }
+{
+    if words.len() != 18 {
+        return minus(1);
+    }
+    if !state_formed(state) {
+        return minus(unformed_number(memory, notice));
+    }
+    let mut vector = [0u8; 18];
+    bytes::copy(words, &mut vector);
+    let answered = report(
+        read_state(state),
+        memory,
+        process,
+        kind,
+        reason,
+        vector_of(vector),
+        notice,
+    );
+    let outcome = answered.outcome;
+    let next = answered.state;
+    finish(outcome, next, state)
+}
