@@ -1,3 +1,4 @@
 -- Laws that the proofs of this crate cite.
 pub mod ChunkLaws
 pub mod FormLaws
+pub mod InverseLaws

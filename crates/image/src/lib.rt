@@ -15,6 +15,7 @@ mod entry;
 mod head;
 mod process_form;
 mod state_form;
+pub mod theorems;
 
 pub use state_form::put_state;
 pub use state_form::read_state;
