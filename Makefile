@@ -1,12 +1,17 @@
-# make test   the gate: layout of the files, checks outside Rattle, then every proof, must-fail edit and program
+# make test   the gate: layout of the files, every proof, must-fail edit and program, then the library from outside
+# make model  the library against the model; CALLS=2000000 SEED=7 for a longer run
 # make run    answers the requests of examples/session.txt: each request, and below it the number and the reply
 
-.PHONY: test run
+.PHONY: test run model
 
 test:
-	@rt fmt --check
-	@sh checks/table
-	@rt ci
+	@sh checks/gate
+
+CALLS = 200000
+SEED = 1
+
+model:
+	@sh checks/embedding $(CALLS) $(SEED)
 
 run: target/bin/bench
 	@target/bin/bench <examples/session.txt | paste -d '\n' examples/session.txt -

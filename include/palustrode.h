@@ -1,0 +1,35 @@
+/* The debugging stub for firmware in C. docs/EMBEDDING.md says what each byte means. */
+#ifndef PALUSTRODE_H
+#define PALUSTRODE_H
+
+#include <stddef.h>
+#include <stdint.h>
+
+#define PALUSTRODE_STATE_BYTES 680
+#define PALUSTRODE_MEMORY_BYTES 32768
+#define PALUSTRODE_BUFFER_BYTES 266
+#define PALUSTRODE_WORDS_BYTES 18
+
+#ifdef __cplusplus
+extern "C" {
+#endif
+
+/* Each call returns the length granted, 0 or more, or minus the number of the refusal. */
+
+/* A fresh start: process p is there where bit p of `there` is set. 0, or -1 where the state has not its 680 bytes. */
+int64_t palustrode_fresh_start(uint8_t there, uint8_t *state, size_t state_length);
+
+/* A request: any message, and the buffer for its reply. A CAN'T of ten bytes is written where -13 to -7 is returned. */
+int64_t palustrode_request(uint8_t *state, size_t state_length, uint8_t *memory, size_t memory_length,
+                           const uint8_t *message, size_t message_length, uint8_t *reply, size_t reply_length);
+
+/* A machine report: kind 0 TRAP, 1 HALT, 2 BPT, 3 TTRAP; the nine words R0 to R5, SP, PC, PS as 18 bytes, low byte first. */
+int64_t palustrode_report(uint8_t *state, size_t state_length, uint8_t *memory, size_t memory_length, uint8_t process,
+                          uint8_t kind, uint16_t reason, const uint8_t *words, size_t words_length, uint8_t *notice,
+                          size_t notice_length);
+
+#ifdef __cplusplus
+}
+#endif
+
+#endif
