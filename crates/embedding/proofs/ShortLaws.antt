@@ -1,12 +1,13 @@
 -- No call grants more than a signed number holds. Assumes nothing.
 use mathlib.Core.Path.{_≡_}
 use mathlib.Core.Bool.{Bool, true, false, cond}
-use mathlib.Core.List.{List, [], _∷_}
-use Prim.Native.Nat.{ℕ, zero, suc, _+_, _*_, _≤_}
+use mathlib.Core.List.{List, []}
+use Prim.Native.Nat.{ℕ, _+_, _*_, _≤_}
 use native.Mathlib.Omega.{arith}
-use lib.ListN.{length, take, drop, getD}
+use lib.ListN.{length, drop, getD}
 use lib.Dec.{eqb}
 use Rattle.lists.specs.Word.{word, vectorOf}
+use Rattle.lists.proofs.Short.{take-short, drop-short}
 use Rattle.lists.proofs.Word.{length-lowFirst}
 use Rattle.lists.proofs.Elements.{length-elements}
 use Rattle.message.specs.declared.header.Header.{Header}
@@ -22,16 +23,6 @@ use Rattle.rules.specs.Step.{Stepped, localOf, grantedNamed, grantedCreate, gra
 use Rattle.rules.proofs.StepLaws.{by-test}
 use Rattle.embedding.specs.Called.{Short}
 use Rattle.service.proofs.OpLaws.{coded}
-
-take-short : (n : ℕ) (xs : List ℕ) → (length (take n xs) ≤ n) × (length (take n xs) ≤ length xs)
-take-short zero xs = (omega arith, omega arith)
-take-short (suc n) [] = (omega arith, omega arith)
-take-short (suc n) (x ∷ xs) = let r = take-short n xs in (omega (arith, r .0), omega (arith, r .1))
-
-drop-short : (n : ℕ) (xs : List ℕ) → length (drop n xs) ≤ length xs
-drop-short zero xs = omega arith
-drop-short (suc n) [] = omega arith
-drop-short (suc n) (x ∷ xs) = omega (arith, drop-short n xs)
 
 slot-short : (p : ℕ) (m : List ℕ) → length (slot p m) ≤ 4096
 unfolding slot

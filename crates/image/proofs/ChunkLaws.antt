@@ -114,12 +114,6 @@ joined-long w f xs k d h size one =
     ∙ ap (λ (l : List ℕ). length l) (joined-snoc f (take k xs) (getD xs k d))
     ∙ length-append (joined f (take k xs)) (f (getD xs k d)) ∙ omega (arith, size, one)
 
--- what is laid over a lent part behind what was laid over the buffer
-pub laid-part : (xs ys buffer whole last : List ℕ) (at : ℕ) → at ≡ length xs → whole ≡ overlay xs buffer
-    → last ≡ overlay ys (take (length whole - at) (drop at whole))
-    → take at whole ++ (last ++ drop (length whole - at) (drop at whole)) ≡ overlay (xs ++ ys) buffer
-laid-part xs ys buffer whole last at a w l = rw (l, a) (part-overlay xs ys buffer whole w)
-
 -- a part that reaches to the end
 pub tail-part : (at : ℕ) (m : List ℕ) → take (length m - at) (drop at m) ≡ drop at m
 tail-part at m = take-all (length m - at) (drop at m) (simp length-drop (omega arith))

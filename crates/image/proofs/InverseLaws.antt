@@ -2,7 +2,7 @@
 use mathlib.Core.Path.{_≡_, refl, sym, ap, _∙_}
 use mathlib.Core.Bool.{Bool, true, false, cond, _&&_}
 use mathlib.Core.List.{List, [], _∷_, _++_}
-use Prim.Native.Nat.{ℕ, zero, suc, _+_, _*_, _≤_, _<_}
+use Prim.Native.Nat.{ℕ, zero, suc, _+_, _*_, _<_}
 use native.Mathlib.Omega.{arith}
 use borrow.Author.Tests.{eqb-true, eq-eqb, leb-true, ltb-true, ltb-false}
 use lib.ListN.{length, take, drop, getD, length-drop, take-append-drop, List·getD-eq-default}
@@ -13,6 +13,7 @@ use Rattle.lists.specs.Elements.{elements}
 use Rattle.lists.specs.Word.{lowFirst, vectorOf}
 use Rattle.lists.proofs.Bool.{&&-left, &&-right, &&-both}
 use Rattle.lists.proofs.Elements.{take-elements}
+use Rattle.lists.proofs.Short.{take-short}
 use Rattle.lists.proofs.Word.{word-high-low, high-word, low-word, length-lowFirst}
 use Rattle.process.specs.declared.record.Run.{Run}
 use Rattle.process.specs.declared.record.Run.the-variants.{Running, Stepping, Stopped, AtBreak, Ended}
@@ -29,18 +30,12 @@ use Rattle.image.proofs.FormLaws.{entry-long, process-long}
 
 -- ---- bytes of a part
 
-take-within : (n : ℕ) (m : List ℕ) (i : ℕ) → n ≤ i → length (take n m) ≤ i
-take-within zero m i h = omega arith
-take-within (suc n) [] i h = omega arith
-take-within (suc n) (x ∷ m) zero h = absurd (omega (arith, h))
-take-within (suc n) (x ∷ m) (suc i) h = let r = take-within n m i (omega (arith, h)) in omega (arith, r)
-
 bytes-take : (n : ℕ) (m : List ℕ) → Bytes m → Bytes (take n m)
 bytes-take n m b i = go (ltb i n) refl
   where
     go : (t : Bool) → ltb i n ≡ t → getD (take n m) i 0 < 256
     go true e = rw (getD-take n m i 0 (ltb-true i n e)) (b i)
-    go false e = rw (List·getD-eq-default (take n m) 0 {n = i} (take-within n m i (ltb-false i n e))) (omega arith)
+    go false e = rw (List·getD-eq-default (take n m) 0 {n = i} (omega (arith, take-short n m .0, ltb-false i n e))) (omega arith)
 
 bytes-drop : (n : ℕ) (m : List ℕ) → Bytes m → Bytes (drop n m)
 bytes-drop n m b i = rw (getD-drop n m i 0) (b (n + i))

@@ -11,7 +11,7 @@ use lib.Seq.{length-take-le, take-suc, take-all}
 use Rattle.lists.specs.Buffer.{overlay}
 use Rattle.lists.specs.First.{first}
 use Rattle.lists.proofs.First.{first-≤}
-use Rattle.lists.proofs.Buffer.{overlay-snoc, length-overlay, part-overlay}
+use Rattle.lists.proofs.Buffer.{overlay-snoc, length-overlay, laid-part}
 use Rattle.lines.specs.Hex.{digit, pair, pairAt, spaced, spacedOrDash, decimal}
 use Rattle.lines.specs.Scan.{isNewline}
 
@@ -75,7 +75,7 @@ body-short (b ∷ bs) = omega (arith, length-spaced (b ∷ bs))
 module _ (front body out whole last : List ℕ) (at n : ℕ) (a : at ≡ length front) (w : whole ≡ overlay front out) (b : n ≡ length body)
     (l : last ≡ overlay body (take (length whole - at) (drop at whole))) (room : length front + length body < length out) where
   pub laid-middle : take at whole ++ (last ++ drop (length whole - at) (drop at whole)) ≡ overlay (front ++ body) out
-  laid-middle = rw (l, a) (part-overlay front body out whole w)
+  laid-middle = laid-part front body out whole last at a w l
 
   pub laid-length : length (take at whole ++ (last ++ drop (length whole - at) (drop at whole))) ≡ length out
   laid-length = ap (λ (x : List ℕ). length x) laid-middle ∙ length-overlay (front ++ body) out (rw (length-append front body) (omega (arith, room)))

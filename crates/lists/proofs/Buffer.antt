@@ -1,5 +1,5 @@
 -- Laws of a buffer that is written at its start. Assumes nothing.
-use mathlib.Core.Path.{_≡_, refl, sym, ap, _∙_}
+use mathlib.Core.Path.{_≡_, sym, ap, _∙_}
 use mathlib.Core.List.{List, [], _∷_, _++_, append-assoc, append-nil}
 use Prim.Native.Nat.{ℕ, suc, _+_, _-_, _≤_, _<_}
 use native.Mathlib.Numerals.{add-one}
@@ -117,3 +117,9 @@ unfolding overlay
 part-overlay xs ys buffer whole e =
     let part = paste-part (length xs) ys whole in
     (rw (take-length ys) at part) ∙ rw e (rw (take-length ys) at (paste-overlay xs ys buffer))
+
+-- the same, where what came back is known by an equation
+pub laid-part : (xs ys buffer whole last : List ℕ) (at : ℕ) → at ≡ length xs → whole ≡ overlay xs buffer
+    → last ≡ overlay ys (take (length whole - at) (drop at whole))
+    → take at whole ++ (last ++ drop (length whole - at) (drop at whole)) ≡ overlay (xs ++ ys) buffer
+laid-part xs ys buffer whole last at a w l = rw (l, a) (part-overlay xs ys buffer whole w)

@@ -6,4 +6,5 @@ pub mod Every
 pub mod First
 pub mod MapStep
 pub mod Part
+pub mod Short
 pub mod Word
