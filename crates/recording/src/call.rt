@@ -1,0 +1,242 @@
+// The calls of a recording, each with the line that it prints.
+use crate::command::named_in;
+use crate::number::Number;
+use crate::put::put;
+use crate::put::put_pairs;
+use crate::put::within;
+use crate::show::put_process;
+use gateway::fresh_start;
+use gateway::report;
+use gateway::request;
+use lines::Phase;
+use lines::Scan;
+use lines::put_answer;
+use message::Outcome;
+use state::Gateway;
+use state::start;
+ghost use mathlib.Core.Path.{_≡_};
+ghost use Prim.Native.Nat.{_+_, _*_, _≤_, _<_};
+ghost use lib.ListN.{length};
+
+// The state after a line, and how many bytes of text were put.
+pub struct Said {
+    pub state: Gateway,
+    pub len: usize,
+}
+
+// A line that is no call.
+pub(crate) fn unknown(state: Gateway, out: &mut [u8]) -> Said
+    requires { ⌜ 16384 ≤ length (now out) ⌝ }
+    ensures { λ r. ⌜ r .len ≤ length (now (out .entry)) ⌝ }
+{
+    let len = put(b"?\n", 0, out);
+    Said {
+        state: state,
+        len: len,
+    }
+}
+
+// The number of an outcome.
+fn number(outcome: Outcome) -> u8 {
+    match outcome {
+        Outcome::Granted(_) => 0,
+        Outcome::Refused(n) => n,
+    }
+}
+
+// How many bytes a request wrote: the reply, the CAN'T, or nothing.
+fn replied(outcome: Outcome) -> usize {
+    match outcome {
+        Outcome::Granted(n) => n,
+        Outcome::Refused(n) => if n < 7 { 0 } else { 10 },
+    }
+}
+
+// How many bytes a report wrote: the notice, or nothing.
+fn noticed(outcome: Outcome) -> usize {
+    match outcome {
+        Outcome::Granted(n) => n,
+        Outcome::Refused(_) => 0,
+    }
+}
+
+// A message is asked, and its answer put as a line.
+fn ask(state: Gateway, memory: &mut [u8], message: &[u8], out: &mut [u8]) -> Said
+    requires { ⌜ 16384 ≤ length (now out) ⌝ }
+    ensures { λ r. ⌜ r .len ≤ length (now (out .entry)) ⌝ }
+{
+    let mut reply = [0u8; 266];
+    let answered = request(state, memory, message, &mut reply);
+    let outcome = answered.outcome;
+    let next = answered.state;
+    let n = within(replied(outcome), &reply);
+    let len = put_answer(number(outcome), &reply[..n], out);
+    Said {
+        state: next,
+        len: len,
+    }
+}
+
+// request: the pairs were read as they came.
+pub(crate) fn say_request(
+    state: Gateway,
+    scan: Scan,
+    memory: &mut [u8],
+    message: &[u8],
+    out: &mut [u8],
+) -> Said
+    requires { ⌜ 16384 ≤ length (now out) ⌝ }
+    ensures { λ r. ⌜ r .len ≤ length (now (out .entry)) ⌝ }
+{
+    let phase = scan.phase;
+    let len = within(scan.len, message);
+    match phase {
+        Phase::Full => ask(state, memory, &message[..len], out),
+        _ => unknown(state, out),
+    }
+}
+
+// What the machine tells is heard, and its answer put as a line.
+fn tell(
+    state: Gateway,
+    memory: &mut [u8],
+    process: u8,
+    kind: u8,
+    reason: u16,
+    words: [u16; 9],
+    out: &mut [u8],
+) -> Said
+    requires { ⌜ 16384 ≤ length (now out) ⌝ }
+    ensures { λ r. ⌜ r .len ≤ length (now (out .entry)) ⌝ }
+{
+    let mut notice = [0u8; 266];
+    let answered = report(state, memory, process, kind, reason, words, &mut notice);
+    let outcome = answered.outcome;
+    let next = answered.state;
+    let n = within(noticed(outcome), &notice);
+    let len = put_answer(number(outcome), &notice[..n], out);
+    Said {
+        state: next,
+        len: len,
+    }
+}
+
+// report P KIND REASON W0 .. W8
+pub(crate) fn say_report(state: Gateway, memory: &mut [u8], line: &[u8], out: &mut [u8]) -> Said
+    requires { ⌜ 16384 ≤ length (now out) ⌝ }
+    ensures { λ r. ⌜ r .len ≤ length (now (out .entry)) ⌝ }
+{
+    let process = Number::start(6).then(line, 255);
+    let kind = process.then(line, 255);
+    let reason = kind.then(line, 65535);
+    let all = reason.then_words(line);
+    let last = all.last;
+    let words = all.words;
+    if !last.ends(line) {
+        return unknown(state, out);
+    }
+    tell(
+        state,
+        memory,
+        process.value as u8,
+        kind.value as u8,
+        reason.value as u16,
+        words,
+        out,
+    )
+}
+
+// All bytes are zero.
+fn clear(memory: &mut [u8]) {
+    let mut i = 0;
+    while i < memory.len() {
+        memory[i] = 0;
+        i += 1;
+    }
+}
+
+// start P P ..
+pub(crate) fn say_start(state: Gateway, memory: &mut [u8], line: &[u8], out: &mut [u8]) -> Said
+    requires { ⌜ 16384 ≤ length (now out) ⌝ }
+    ensures { λ r. ⌜ r .len ≤ length (now (out .entry)) ⌝ }
+{
+    let named = named_in(line, 5);
+    let there = named.there;
+    if !named.ok {
+        return unknown(state, out);
+    }
+    clear(memory);
+    let fresh = fresh_start(there);
+    Said {
+        state: fresh,
+        len: 0,
+    }
+}
+
+// Where a process's byte with this address lies in memory.
+fn place(p: usize, address: usize) -> usize
+    requires { ⌜ p < 8 ⌝ }
+    requires { ⌜ address ≤ 4096 ⌝ }
+    ensures { λ r. ⌜ r ≡ 4096 * p + address ⌝ }
+{
+    start(p) + address
+}
+
+// store P ADDRESS BYTE
+pub(crate) fn say_store(state: Gateway, memory: &mut [u8], line: &[u8], out: &mut [u8]) -> Said
+    requires { ⌜ length (now memory) ≡ 32768 ⌝ }
+    requires { ⌜ 16384 ≤ length (now out) ⌝ }
+    ensures { λ r. ⌜ r .len ≤ length (now (out .entry)) ⌝ }
+{
+    let process = Number::start(5).then(line, 7);
+    let address = process.then(line, 4095);
+    let byte = address.then(line, 255);
+    if !byte.ends(line) {
+        return unknown(state, out);
+    }
+    let at = place(process.value, address.value);
+    memory[at] = byte.value as u8;
+    let len = put(b"ok\n", 0, out);
+    Said {
+        state: state,
+        len: len,
+    }
+}
+
+// memory P ADDRESS COUNT
+pub(crate) fn say_memory(state: Gateway, memory: &[u8], line: &[u8], out: &mut [u8]) -> Said
+    requires { ⌜ length (now memory) ≡ 32768 ⌝ }
+    requires { ⌜ 16384 ≤ length (now out) ⌝ }
+    ensures { λ r. ⌜ r .len ≤ length (now (out .entry)) ⌝ }
+{
+    let process = Number::start(6).then(line, 7);
+    let address = process.then(line, 4096);
+    let count = address.then(line, 4096 - address.value);
+    if !count.ends(line) {
+        return unknown(state, out);
+    }
+    let from = place(process.value, address.value);
+    let to = from + count.value;
+    let len = put_pairs(&memory[from..to], out);
+    Said {
+        state: state,
+        len: len,
+    }
+}
+
+// process P
+pub(crate) fn say_process(state: Gateway, line: &[u8], out: &mut [u8]) -> Said
+    requires { ⌜ 16384 ≤ length (now out) ⌝ }
+    ensures { λ r. ⌜ r .len ≤ length (now (out .entry)) ⌝ }
+{
+    let process = Number::start(7).then(line, 7);
+    if !process.ends(line) {
+        return unknown(state, out);
+    }
+    let p = state.process(process.value);
+    let len = put_process(p, out);
+    Said {
+        state: state,
+        len: len,
+    }
+}
