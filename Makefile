@@ -1,8 +1,12 @@
 # make test   the gate: layout of the files, every proof, must-fail edit and program, then the library from outside
 # make model  the library against the model; CALLS=2000000 SEED=7 for a longer run
+# make bench  instructions a call, stack and code size of the library, beside the model
+# make fuzz   a coverage-guided fuzzer on library and model; SECONDS=600 for a longer run
 # make run    plays the recording examples/handover.txt: each call, and below it what came of it
 
-.PHONY: test run model
+SECONDS = 60
+
+.PHONY: test run model bench fuzz library
 
 test:
 	@sh checks/gate
@@ -12,6 +16,16 @@ SEED = 1
 
 model:
 	@sh checks/embedding $(CALLS) $(SEED)
+
+library:
+	@mkdir -p target
+	@rt staticlib embedding >target/embedding.log 2>&1 || { cat target/embedding.log; exit 1; }
+
+bench: library
+	@sh perf/run
+
+fuzz: library
+	@sh fuzz/run $(SECONDS)
 
 # A comment of the recording is printed as it is, a call behind a mark, and what came of it below.
 run: target/bin/replay

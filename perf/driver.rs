@@ -53,7 +53,11 @@ const AT: u16 = 256;
 
 enum Step {
     Request(Vec<u8>),
-    Report { kind: u8, words: [u16; WORDS], bytes: [u8; VECTOR] },
+    Report {
+        kind: u8,
+        words: [u16; WORDS],
+        bytes: [u8; VECTOR],
+    },
     /// No call: the process is set back to running by one store into the state.
     Run,
 }
