@@ -25,7 +25,7 @@ pub record Called : Type 0 where
 abbrev pub minus : ℕ → ℤ
 minus n = pos 0 -ℤ pos n
 
--- 'A call returns the length granted (0 or more) or minus the refusal's number.'
+-- the length granted, 0 or more, or minus the number of the refusal
 unfoldable pub signed : Outcome → ℤ
 signed (Granted n) = pos n
 signed (Refused n) = minus n
@@ -48,7 +48,7 @@ finished image x = record {
 abbrev pub lentShort : List ℕ → List ℕ → Bool
 lentShort memory buffer = not (eqb (length memory) 32768) || ltb (length buffer) 266
 
--- 'what is no sound state is refused by 2 and nothing is written', after test 1
+-- bytes that are no state's: refused by this number, and nothing is written
 unfoldable pub unformed : ℕ → List ℕ → List ℕ → List ℕ → Called
 unformed number image memory buffer = record { result = minus number; state = image; memory = memory; buffer = buffer }
 
