@@ -1,6 +1,9 @@
 -- `gateway::requests::change` meets its contract: that of serving, in the slot of the process. Assumes nothing.
 use native.Mathlib.Omega.{arith}
 use borrow.Author.Needs.{needs}
+use mathlib.Core.Path.{ap, _∙_}
+use Rattle.process.specs.declared.record.Process.{Process}
+use Rattle.state.specs.Gateway.{withProcess}
 use Rattle.state.proofs.SlotLaws.{startOf-is}
 use Rattle.rules.specs.Step.{grantedNamed, put}
 use Rattle.service.specs.declared.task.Task.the-variants.{Change}
@@ -71,7 +74,7 @@ returns c =
     rw (← whole) (
       v .serve .ensures .0,
       (
-        rw (c .with-process .ensures, v .serve .ensures .1 .0),
+        c .with-process .ensures ∙ ap (λ (q : Process). withProcess (a .h .pid) q (a .state)) (v .serve .ensures .1 .0),
         (
           rw (v .serve .ensures .1 .1 .0) (slot-back (a .h .pid) (t .start .result) (a .memory .now) (t .start .ensures) _),
           v .serve .ensures .1 .1 .1,
