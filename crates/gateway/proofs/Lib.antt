@@ -3,4 +3,5 @@ pub mod PartLaws
 pub mod StageLaws
 pub mod AskedLaws
 pub mod NoticeLaws
+pub mod LengthLaws
 pub mod DemandLaws

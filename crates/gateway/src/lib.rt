@@ -7,6 +7,8 @@ mod requests;
 pub mod theorems;
 
 pub use answered::Answered;
+pub use answered::notice_length;
+pub use answered::reply_length;
 pub use fresh::fresh_start;
 pub use reports::report;
 pub use requests::request;

@@ -1,7 +1,14 @@
-// What is proved of the gateway. This function does nothing: its contract is a theorem, so that the check of this crate includes it.
+// What is proved of the gateway. These functions do nothing: each one's contract is a theorem, so that the check of this
+// crate includes it.
 ghost use Rattle.gateway.specs.Demands.{Demands};
+ghost use Rattle.gateway.specs.Lengths.{Lengths};
 
 // Calls of `request` and `report`, one after another, are a run of the rules; so demand 1, the rights and demand 3 hold of them.
 pub fn demands()
     ensures { λ _. ⌜ Demands ⌝ }
+{}
+
+// `reply_length` and `notice_length` count what a call wrote: no byte behind it, and every byte before.
+pub fn lengths()
+    ensures { λ _. ⌜ Lengths ⌝ }
 {}

@@ -5,13 +5,18 @@ use Prim.Native.Nat.{ℕ, suc, _+_, _-_, _≤_, _<_}
 use native.Mathlib.Numerals.{add-one}
 use native.Mathlib.Omega.{arith}
 use lib.ListN.{length, take, drop, getD, set, length-append, length-drop, length-take, drop-of-length-le, List·getD-append}
-use lib.Seq.{length-take-le, drop-at, drop-paste, getD-take, getD-drop, append-snoc, drop-cons, set-append-seam, take-all, take-length, drop-length, take-append-seam, drop-append-add, drop-drop, sets, sets-eq, paste}
+use lib.Seq.{length-take-le, drop-at, drop-paste, getD-take, getD-drop, append-snoc, drop-cons, set-append-seam, take-all, take-length, drop-length, take-append-seam, drop-append-seam, drop-append-add, drop-drop, sets, sets-eq, paste}
 use Rattle.lists.specs.Buffer.{overlay}
 
 -- what was laid over a buffer is its front
 pub take-overlay : (xs buffer : List ℕ) → take (length xs) (overlay xs buffer) ≡ xs
 unfolding overlay
 take-overlay xs buffer = take-append-seam xs (drop (length xs) buffer)
+
+-- what is past it is as it was
+pub drop-overlay : (xs buffer : List ℕ) → drop (length xs) (overlay xs buffer) ≡ drop (length xs) buffer
+unfolding overlay
+drop-overlay xs buffer = drop-append-seam xs (drop (length xs) buffer)
 
 -- a buffer keeps its length
 pub length-overlay : (xs buffer : List ℕ) → length xs ≤ length buffer → length (overlay xs buffer) ≡ length buffer

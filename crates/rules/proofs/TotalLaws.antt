@@ -6,12 +6,11 @@ use mathlib.Core.Logic.{_⊎_, inl, inr}
 use Prim.Native.Nat.{ℕ, _+_, _≤_}
 use borrow.Author.Tests.{eqb-true, eq-eqb, leb-true}
 use lib.ListN.{length, drop}
-use lib.Seq.{drop-append-seam}
 use lib.Dec.{leb, ltb, eqb}
-use Rattle.lists.specs.Buffer.{overlay}
 use Rattle.lists.specs.Every.{every}
 use Rattle.lists.specs.Word.{lowFirst}
 use Rattle.lists.proofs.Bool.{&&-left, &&-right}
+use Rattle.lists.proofs.Buffer.{drop-overlay}
 use Rattle.message.specs.declared.header.Header.{Header}
 use Rattle.message.specs.declared.outcome.Outcome.the-variants.{Granted, Refused}
 use Rattle.message.specs.Outcome.{Test, firstFailing, numberOf}
@@ -116,17 +115,12 @@ request-granted s m buffer z = go (eqb (requestNumber s m buffer) 0) refl
     go true e = rw e (granted-is s m buffer)
     go false e = absurd (true≢false (sym (eq-eqb _ 0 (sym (request-is s m buffer) ∙ z)) ∙ e))
 
--- what is past an overlay is as it was
-past : (xs buffer : List ℕ) → drop (length xs) (overlay xs buffer) ≡ drop (length xs) buffer
-unfolding overlay
-past xs buffer = drop-append-seam xs (drop (length xs) buffer)
-
 replied-past : (h : Header) (string buffer : List ℕ) (s : State) (n : ℕ) → replied h string buffer s .answer .outcome ≡ Granted n
     → drop n (replied h string buffer s .answer .buffer) ≡ drop n buffer
 replied-past h string buffer s n e =
     let same : 10 + length string ≡ n = cc in
     let long : length (written h string) ≡ n = length-written h string ∙ same in
-    rw (← long) (past (written h string) buffer)
+    rw (← long) (drop-overlay (written h string) buffer)
 
 request-past : (s : State) (m buffer : List ℕ) (n : ℕ) → requested m buffer s .answer .outcome ≡ Granted n
     → drop n (requested m buffer s .answer .buffer) ≡ drop n buffer

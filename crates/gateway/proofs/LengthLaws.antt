@@ -1,0 +1,124 @@
+-- The lengths of an outcome count what a call wrote. Assumes nothing.
+use mathlib.Core.Path.{_≡_, refl, sym, _∙_}
+use mathlib.Core.Bool.{Bool, true, false, cond}
+use mathlib.Core.List.{List, []}
+use Prim.Native.Nat.{ℕ}
+use lib.ListN.{length, take, drop}
+use lib.Dec.{eqb, ltb}
+use Rattle.lists.specs.Buffer.{overlay}
+use Rattle.lists.specs.Word.{lowFirst}
+use Rattle.lists.proofs.Buffer.{take-overlay, drop-overlay}
+use Rattle.message.specs.declared.header.Header.{Header}
+use Rattle.message.specs.declared.outcome.Outcome.{Outcome}
+use Rattle.message.specs.declared.outcome.Outcome.the-variants.{Granted, Refused}
+use Rattle.message.specs.Layout.{written, headerOf, stringOf}
+use Rattle.message.specs.Answer.{cantOf, createdOf, noticeOf}
+use Rattle.message.proofs.LayoutLaws.{length-written}
+use Rattle.rules.specs.Rule.{ruleOf, names, creates}
+use Rattle.rules.specs.Tests.{State, recordOf, lowestAbsent, requestNumber, reportNumber}
+use Rattle.rules.specs.Step.{Answer, Stepped, localOf, put, replied, replyOf, answers, grantedNamed, grantedCreate, granted, refused, requested, told, notified, noted}
+use Rattle.rules.specs.Total.{cantOver}
+use Rattle.rules.proofs.TotalLaws.{total}
+use Rattle.process.specs.Report.{reported}
+use Rattle.gateway.specs.Lengths.{replyLength, noticeLength, front, Lengths}
+
+-- ---- behind what was written
+
+module _ (s : State) (m buffer : List ℕ) where
+  cant-behind : drop 10 (cantOver m buffer) ≡ drop 10 buffer
+  cant-behind = rw (total .cant-ten m) at (drop-overlay (written (cantOf (headerOf m)) []) buffer)
+
+  refusal-behind : (t : Bool) → drop (cond t 0 10) (cond t buffer (cantOver m buffer)) ≡ drop (cond t 0 10) buffer
+  refusal-behind true = refl
+  refusal-behind false = cant-behind
+
+  request-behind : (o : Outcome) → requested m buffer s .answer .outcome ≡ o → drop (replyLength o) (requested m buffer s .answer .buffer) ≡ drop (replyLength o) buffer
+  unfolding replyLength
+  request-behind (Granted n) e = total .request-past s m buffer n e
+  request-behind (Refused n) e = rw (total .request-silent s m buffer n e) (refusal-behind (ltb n 7))
+
+module _ (s : State) (p kind reason : ℕ) (words buffer : List ℕ) where
+  report-behind : (o : Outcome) → noted p kind reason words buffer s .answer .outcome ≡ o
+      → drop (noticeLength o) (noted p kind reason words buffer s .answer .buffer) ≡ drop (noticeLength o) buffer
+  unfolding noticeLength
+  report-behind (Granted n) e = total .report-past s p kind reason words buffer n e
+  report-behind (Refused n) e = rw (total .report-silent s p kind reason words buffer n e)
+
+-- ---- what was written, over any buffer
+
+written-front : (h : Header) (string buffer : List ℕ) → front replyLength (replyOf h string buffer) ≡ written h string
+unfolding replyLength
+written-front h string buffer = rw (← length-written h string) (take-overlay (written h string) buffer)
+
+notice-front : (h : Header) (string buffer : List ℕ) → front noticeLength (replyOf h string buffer) ≡ written h string
+unfolding noticeLength
+notice-front h string buffer = rw (← length-written h string) (take-overlay (written h string) buffer)
+
+-- the bytes of a refusal
+refusal-bytes : Bool → Header → List ℕ
+refusal-bytes t h = cond t [] (written (cantOf h) [])
+
+refused-front : (n : ℕ) (h : Header) (buffer : List ℕ) (s : State) → front replyLength (refused n h buffer s .answer) ≡ refusal-bytes (ltb n 7) h
+unfolding replyLength refused refusal-bytes
+refused-front n h buffer s = go (ltb n 7)
+  where
+    go : (t : Bool) → take (cond t 0 10) (cond t buffer (overlay (written (cantOf h) []) buffer)) ≡ cond t [] (written (cantOf h) [])
+    go true = refl
+    go false = rw (length-written (cantOf h) []) at (take-overlay (written (cantOf h) []) buffer)
+
+-- the bytes of a grant
+granted-bytes : Header → List ℕ → State → List ℕ
+granted-bytes h string s =
+    cond (names (h .cmd)) (written h (ruleOf (h .cmd) .shown h (localOf s (h .pid))))
+    (cond (creates (h .cmd)) (written (createdOf h (lowestAbsent s)) []) (written h []))
+
+granted-front : (h : Header) (string buffer : List ℕ) (s : State) → front replyLength (granted h string buffer s .answer) ≡ granted-bytes h string s
+unfolding granted grantedNamed grantedCreate granted-bytes
+granted-front h string buffer s = go (names (h .cmd)) (creates (h .cmd))
+  where
+    go : (t u : Bool) → front replyLength (cond t (grantedNamed h string buffer s) (cond u (grantedCreate h buffer s) (replied h [] buffer s)) .answer)
+        ≡ cond t (written h (ruleOf (h .cmd) .shown h (localOf s (h .pid)))) (cond u (written (createdOf h (lowestAbsent s)) []) (written h []))
+    go true u = written-front h _ buffer
+    go false true = written-front _ [] buffer
+    go false false = written-front h [] buffer
+
+same-request : (s : State) (m b c : List ℕ) → length b ≡ length c → requestNumber s m b ≡ requestNumber s m c
+unfolding requestNumber
+same-request s m b c e = rw e
+
+request-front : (s : State) (m b c : List ℕ) → length b ≡ length c → front replyLength (requested m b s .answer) ≡ front replyLength (requested m c s .answer)
+unfolding requested
+request-front s m b c e = rw (same-request s m b c e) (go (eqb (requestNumber s m c) 0))
+  where
+    go : (t : Bool) → front replyLength (cond t (granted (headerOf m) (stringOf m) b s) (refused (requestNumber s m c) (headerOf m) b s) .answer)
+        ≡ front replyLength (cond t (granted (headerOf m) (stringOf m) c s) (refused (requestNumber s m c) (headerOf m) c s) .answer)
+    go true = granted-front _ _ b s ∙ sym (granted-front _ _ c s)
+    go false = refused-front _ _ b s ∙ sym (refused-front _ _ c s)
+
+notified-front : (h : Header) (t : Bool) (string b c : List ℕ) (s : State)
+    → front noticeLength (cond t (replied h string b s) (answers (Granted 0) b s) .answer) ≡ front noticeLength (cond t (replied h string c s) (answers (Granted 0) c s) .answer)
+unfolding noticeLength
+notified-front h true string b c s = notice-front h string b ∙ sym (notice-front h string c)
+notified-front h false string b c s = refl
+
+same-report : (s : State) (p kind reason : ℕ) (b c : List ℕ) → length b ≡ length c → reportNumber s p kind reason b ≡ reportNumber s p kind reason c
+unfolding reportNumber
+same-report s p kind reason b c e = rw e
+
+report-front : (s : State) (p kind reason : ℕ) (words b c : List ℕ) → length b ≡ length c
+    → front noticeLength (noted p kind reason words b s .answer) ≡ front noticeLength (noted p kind reason words c s .answer)
+unfolding noted notified noticeLength
+report-front s p kind reason words b c e = rw (same-report s p kind reason b c e) (go (eqb (reportNumber s p kind reason c) 0))
+  where
+    go : (t : Bool) → front noticeLength (cond t (notified p kind reason words b (localOf s p) (put p (reported kind words (localOf s p)) s)) (answers (Refused (reportNumber s p kind reason c)) b s) .answer)
+        ≡ front noticeLength (cond t (notified p kind reason words c (localOf s p) (put p (reported kind words (localOf s p)) s)) (answers (Refused (reportNumber s p kind reason c)) c s) .answer)
+    go true = notified-front (noticeOf (recordOf s p .host) kind p reason) (told kind words (localOf s p)) (lowFirst words) b c _
+    go false = refl
+
+pub lengths : Lengths
+lengths = record {
+  request-behind = λ s m buffer. request-behind s m buffer (requested m buffer s .answer .outcome) refl;
+  report-behind = λ s p kind reason words buffer. report-behind s p kind reason words buffer (noted p kind reason words buffer s .answer .outcome) refl;
+  request-front = request-front;
+  report-front = report-front;
+}

@@ -1,0 +1,39 @@
+-- How much of its output buffer a call wrote.
+use mathlib.Core.Path.{_≡_}
+use mathlib.Core.Bool.{cond}
+use mathlib.Core.List.{List}
+use Prim.Native.Nat.{ℕ}
+use lib.ListN.{length, take, drop}
+use lib.Dec.{ltb}
+use Rattle.message.specs.declared.outcome.Outcome.{Outcome}
+use Rattle.message.specs.declared.outcome.Outcome.the-variants.{Granted, Refused}
+use Rattle.rules.specs.Tests.{State}
+use Rattle.rules.specs.Step.{Answer, requested, noted}
+
+-- of a request: the reply; from number 7 on the ten bytes of the CAN'T; else nothing
+unfoldable pub replyLength : Outcome → ℕ
+replyLength (Granted n) = n
+replyLength (Refused n) = cond (ltb n 7) 0 10
+
+-- of a report: the notice, or nothing
+unfoldable pub noticeLength : Outcome → ℕ
+noticeLength (Granted n) = n
+noticeLength (Refused n) = 0
+
+-- what stands in the buffer as far as a length of the outcome reaches
+abbrev pub front : (Outcome → ℕ) → Answer → List ℕ
+front count a = take (count (a .outcome)) (a .buffer)
+
+pub record Lengths : Type 0 where
+  -- behind that many bytes the buffer is what it was
+  pub request-behind : (s : State) (m buffer : List ℕ)
+      → drop (replyLength (requested m buffer s .answer .outcome)) (requested m buffer s .answer .buffer)
+      ≡ drop (replyLength (requested m buffer s .answer .outcome)) buffer
+  pub report-behind : (s : State) (p kind reason : ℕ) (words buffer : List ℕ)
+      → drop (noticeLength (noted p kind reason words buffer s .answer .outcome)) (noted p kind reason words buffer s .answer .buffer)
+      ≡ drop (noticeLength (noted p kind reason words buffer s .answer .outcome)) buffer
+  -- and that many bytes are the same whatever stood in the buffer
+  pub request-front : (s : State) (m b c : List ℕ) → length b ≡ length c
+      → front replyLength (requested m b s .answer) ≡ front replyLength (requested m c s .answer)
+  pub report-front : (s : State) (p kind reason : ℕ) (words b c : List ℕ) → length b ≡ length c
+      → front noticeLength (noted p kind reason words b s .answer) ≡ front noticeLength (noted p kind reason words c s .answer)
