@@ -1,4 +1,4 @@
 // The bench program. Its stored test is the session of document 01.
 fn main() {
-    console::run();
+    console::bench();
 }

@@ -1,4 +1,4 @@
 // The bench program once more: its stored test has the cases of document 01 that are run and not proved, and lines of every kind.
 fn main() {
-    console::run();
+    console::bench();
 }

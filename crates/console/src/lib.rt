@@ -1,8 +1,10 @@
-// A gateway with process 2 alone and memory all zero, spoken to in lines: each line of lower-case hex pairs parted by single blanks is a
-// request; its number and its reply are printed, or a dash where nothing is written. Any other line prints a question mark.
+// A gateway spoken to in lines on standard input and output, in one of two languages: that of the bench, where each line is a
+// request, and that of recordings. A line that is neither prints a question mark.
 //
 // What a person types is answered line by line; what comes through a pipe is read and written in blocks.
+mod language;
 mod line;
 mod session;
 
-pub use session::run;
+pub use session::bench;
+pub use session::replay;

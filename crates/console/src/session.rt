@@ -1,39 +1,40 @@
 // The lines of standard input, one after another.
-use crate::line::end_line;
-use crate::line::within;
+use crate::language::Language;
+use crate::line::before;
+use crate::line::keep;
 use gateway::fresh_start;
-use lines::Phase;
 use lines::Scan;
 use lines::line_end;
+use lines::within;
+use recording::Said;
+use recording::say_line;
+use recording::say_request;
 use state::Gateway;
+ghost use mathlib.Core.Path.{_≡_};
 ghost use Prim.Native.Nat.{_+_, _≤_};
 ghost use lib.ListN.{length};
 ghost use Rattle.io.specs.Counts.{Counts};
 
-// The state, the line read so far, and how many bytes of text are held back.
+// The language; the state; how much of a line was read, at most one byte more than is kept; the pairs of its request; and how many
+// bytes of text are held back.
 pub struct Session {
+    pub language: Language,
     pub state: Gateway,
+    pub len: usize,
     pub scan: Scan,
     pub held: usize,
 }
 
-// Process 2 alone is there, and nothing was read yet.
-fn begin() -> Session {
-    let state = fresh_start([false, false, true, false, false, false, false, false]);
+// Nothing was read yet.
+fn begin(language: Language) -> Session {
+    let state = fresh_start(language.there());
     let scan = Scan::new();
     Session {
+        language: language,
         state: state,
+        len: 0,
         scan: scan,
         held: 0,
-    }
-}
-
-// Whether a line was begun.
-fn begun(scan: Scan) -> bool {
-    let phase = scan.phase;
-    match phase {
-        Phase::Open => scan.len != 0,
-        _ => true,
     }
 }
 
@@ -45,30 +46,64 @@ fn flush(held: usize, out: &[u8]) {
 
 // How many bytes are held back, once those were written out behind which another line might not fit.
 fn make_room(held: usize, out: &[u8]) -> usize
-    requires { ⌜ 1024 ≤ length (now out) ⌝ }
-    ensures { λ r. ⌜ r + 1024 ≤ length (now (out .entry)) ⌝ }
+    requires { ⌜ 16384 ≤ length (now out) ⌝ }
+    ensures { λ r. ⌜ r + 16384 ≤ length (now (out .entry)) ⌝ }
 {
-    if held <= out.len() - 1024 {
+    if held <= out.len() - 16384 {
         return held;
     }
     flush(held, out);
     0
 }
 
-// The line that was read to its end is answered.
-fn end(session: Session, memory: &mut [u8], message: &[u8], out: &mut [u8]) -> Session
-    requires { ⌜ 1024 ≤ length (now out) ⌝ }
+// What the line that was read to its end says.
+fn say(session: Session, memory: &mut [u8], line: &[u8], message: &[u8], out: &mut [u8]) -> Said
+    requires { ⌜ length (now memory) ≡ 32768 ⌝ }
+    requires { ⌜ 16384 ≤ length (now out) ⌝ }
+    ensures { λ r. ⌜ r .len ≤ length (now (out .entry)) ⌝ }
 {
+    let language = session.language;
     let state = session.state;
     let scan = session.scan;
+    match language {
+        Language::Bench => say_request(state, scan, memory, message, out),
+        Language::Recording => say_line(state, session.len, scan, memory, line, message, out),
+    }
+}
+
+// The line that was read to its end is answered.
+fn end(session: Session, memory: &mut [u8], line: &[u8], message: &[u8], out: &mut [u8]) -> Session
+    requires { ⌜ length (now memory) ≡ 32768 ⌝ }
+    requires { ⌜ 16384 ≤ length (now out) ⌝ }
+{
+    let language = session.language;
     let held = make_room(session.held, out);
-    let said = end_line(scan, state, memory, message, &mut out[held..]);
+    let said = say(session, memory, line, message, &mut out[held..]);
     let next = said.state;
     let fresh = Scan::new();
     Session {
+        language: language,
         state: next,
+        len: 0,
         scan: fresh,
         held: held + said.len,
+    }
+}
+
+// A part of a line.
+fn read_part(session: Session, text: &[u8], line: &mut [u8], message: &mut [u8]) -> Session {
+    let language = session.language;
+    let state = session.state;
+    let scan = session.scan;
+    let len = session.len;
+    let skip = before(text, len, language.pairs_at());
+    let pairs = scan.part(&text[skip..], message);
+    Session {
+        language: language,
+        state: state,
+        len: keep(text, len, line),
+        scan: pairs,
+        held: session.held,
     }
 }
 
@@ -78,23 +113,18 @@ fn part(
     text: &[u8],
     ends: bool,
     memory: &mut [u8],
+    line: &mut [u8],
     message: &mut [u8],
     out: &mut [u8],
 ) -> Session
-    requires { ⌜ 1024 ≤ length (now out) ⌝ }
+    requires { ⌜ length (now memory) ≡ 32768 ⌝ }
+    requires { ⌜ 16384 ≤ length (now out) ⌝ }
 {
-    let state = session.state;
-    let scan = session.scan;
-    let read = scan.part(text, message);
-    let next = Session {
-        state: state,
-        scan: read,
-        held: session.held,
-    };
+    let next = read_part(session, text, line, message);
     if !ends {
         return next;
     }
-    end(next, memory, message, out)
+    end(next, memory, line, message, out)
 }
 
 // A block of text, which may begin and end within a line.
@@ -102,10 +132,12 @@ fn feed(
     session: Session,
     block: &[u8],
     memory: &mut [u8],
+    line: &mut [u8],
     message: &mut [u8],
     out: &mut [u8],
 ) -> Session
-    requires { ⌜ 1024 ≤ length (now out) ⌝ }
+    requires { ⌜ length (now memory) ≡ 32768 ⌝ }
+    requires { ⌜ 16384 ≤ length (now out) ⌝ }
 {
     let mut now = session;
     let mut at = 0;
@@ -116,6 +148,7 @@ fn feed(
             &block[at..stop],
             stop < block.len(),
             memory,
+            line,
             message,
             out,
         );
@@ -133,17 +166,25 @@ fn read(block: &mut [u8]) -> usize
 }
 
 // Blocks of standard input until it ends.
-fn converse(memory: &mut [u8], message: &mut [u8], block: &mut [u8], out: &mut [u8]) -> Session
-    requires { ⌜ 1024 ≤ length (now out) ⌝ }
+fn converse(
+    language: Language,
+    memory: &mut [u8],
+    line: &mut [u8],
+    message: &mut [u8],
+    block: &mut [u8],
+    out: &mut [u8],
+) -> Session
+    requires { ⌜ length (now memory) ≡ 32768 ⌝ }
+    requires { ⌜ 16384 ≤ length (now out) ⌝ }
 {
-    let mut session = begin();
+    let mut session = begin(language);
     let mut turns = 18446744073709551615u64;
     while 0 < turns {
         let n = read(block);
         if n == 0 {
             return session;
         }
-        session = feed(session, &block[..n], memory, message, out);
+        session = feed(session, &block[..n], memory, line, message, out);
         flush(session.held, out);
         session.held = 0;
         turns -= 1;
@@ -152,14 +193,32 @@ fn converse(memory: &mut [u8], message: &mut [u8], block: &mut [u8], out: &mut [
 }
 
 // All of standard input; a last line needs no newline.
-pub fn run() {
+fn run(language: Language) {
     let mut memory = [0u8; 32768];
+    let mut line = [0u8; 1024];
     let mut message = [0u8; 267];
     let mut block = io::large_buffer();
     let mut out = io::large_buffer();
-    let session = converse(&mut memory, &mut message, &mut block, &mut out);
-    if begun(session.scan) {
-        let last = end(session, &mut memory, &message, &mut out);
+    let session = converse(
+        language,
+        &mut memory,
+        &mut line,
+        &mut message,
+        &mut block,
+        &mut out,
+    );
+    if session.len != 0 {
+        let last = end(session, &mut memory, &line, &message, &mut out);
         flush(last.held, &out);
     }
+}
+
+// Each line is a request.
+pub fn bench() {
+    run(Language::Bench);
+}
+
+// Each line is a call of a recording.
+pub fn replay() {
+    run(Language::Recording);
 }

@@ -1,8 +1,10 @@
 // Text for people and pipes: hex pairs, and the line that answers a call. Lines may be of any length and come in parts.
+mod count;
 mod print;
 mod scan;
 pub mod theorems;
 
+pub use count::within;
 pub use print::line_end;
 pub use print::put_answer;
 pub use scan::Phase;

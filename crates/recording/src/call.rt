@@ -3,15 +3,16 @@ use crate::command::named_in;
 use crate::number::Number;
 use crate::put::put;
 use crate::put::put_pairs;
-use crate::put::within;
 use crate::show::put_process;
 use gateway::fresh_start;
+use gateway::notice_length;
+use gateway::reply_length;
 use gateway::report;
 use gateway::request;
 use lines::Phase;
 use lines::Scan;
 use lines::put_answer;
-use message::Outcome;
+use lines::within;
 use state::Gateway;
 use state::start;
 ghost use mathlib.Core.Path.{_≡_};
@@ -36,30 +37,6 @@ pub(crate) fn unknown(state: Gateway, out: &mut [u8]) -> Said
     }
 }
 
-// The number of an outcome.
-fn number(outcome: Outcome) -> u8 {
-    match outcome {
-        Outcome::Granted(_) => 0,
-        Outcome::Refused(n) => n,
-    }
-}
-
-// How many bytes a request wrote: the reply, the CAN'T, or nothing.
-fn replied(outcome: Outcome) -> usize {
-    match outcome {
-        Outcome::Granted(n) => n,
-        Outcome::Refused(n) => if n < 7 { 0 } else { 10 },
-    }
-}
-
-// How many bytes a report wrote: the notice, or nothing.
-fn noticed(outcome: Outcome) -> usize {
-    match outcome {
-        Outcome::Granted(n) => n,
-        Outcome::Refused(_) => 0,
-    }
-}
-
 // A message is asked, and its answer put as a line.
 fn ask(state: Gateway, memory: &mut [u8], message: &[u8], out: &mut [u8]) -> Said
     requires { ⌜ 16384 ≤ length (now out) ⌝ }
@@ -69,8 +46,8 @@ fn ask(state: Gateway, memory: &mut [u8], message: &[u8], out: &mut [u8]) -> Sai
     let answered = request(state, memory, message, &mut reply);
     let outcome = answered.outcome;
     let next = answered.state;
-    let n = within(replied(outcome), &reply);
-    let len = put_answer(number(outcome), &reply[..n], out);
+    let n = within(reply_length(outcome), &reply);
+    let len = put_answer(outcome.number(), &reply[..n], out);
     Said {
         state: next,
         len: len,
@@ -78,7 +55,7 @@ fn ask(state: Gateway, memory: &mut [u8], message: &[u8], out: &mut [u8]) -> Sai
 }
 
 // request: the pairs were read as they came.
-pub(crate) fn say_request(
+pub fn say_request(
     state: Gateway,
     scan: Scan,
     memory: &mut [u8],
@@ -113,8 +90,8 @@ fn tell(
     let answered = report(state, memory, process, kind, reason, words, &mut notice);
     let outcome = answered.outcome;
     let next = answered.state;
-    let n = within(noticed(outcome), &notice);
-    let len = put_answer(number(outcome), &notice[..n], out);
+    let n = within(notice_length(outcome), &notice);
+    let len = put_answer(outcome.number(), &notice[..n], out);
     Said {
         state: next,
         len: len,

@@ -1,12 +1,12 @@
-// A gateway spoken to in lines, one call a line: what a machine and its desks did is played again, and what came of it printed.
-// Any line that is no call prints a question mark and changes nothing.
-//
-// What a person types is answered line by line; what comes through a pipe is read and written in blocks.
+// The lines of a recording, one call a line: each is made, and what came of it printed. A line that is no call prints a question
+// mark and changes nothing.
 mod call;
 mod command;
+mod line;
 mod number;
 mod put;
-mod session;
 mod show;
 
-pub use session::run;
+pub use call::Said;
+pub use call::say_request;
+pub use line::say_line;

@@ -2,18 +2,6 @@
 ghost use mathlib.Core.Path.{_≡_};
 ghost use Prim.Native.Nat.{_+_, _*_, _≤_, _<_};
 ghost use lib.ListN.{length};
-ghost use Rattle.io.specs.Counts.{Counts};
-
-// So many of the bytes, or all where there are fewer.
-pub(crate) fn within(n: usize, bytes: &[u8]) -> usize
-    ensures { λ r. ⌜ Counts r (now (bytes .entry)) ⌝ }
-    ensures { λ r. ⌜ r ≤ n ⌝ }
-{
-    if n < bytes.len() {
-        return n;
-    }
-    bytes.len()
-}
 
 // Text from an index on; the index behind it.
 pub(crate) fn put(text: &[u8], at: usize, out: &mut [u8]) -> usize

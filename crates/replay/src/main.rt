@@ -1,4 +1,4 @@
 // The replay program. Its stored test is the handover: the seller debugs the vents, and the installer after him.
 fn main() {
-    recording::run();
+    console::replay();
 }

@@ -1,4 +1,4 @@
--- `console::session::converse` meets its contract. The loop's invariant: the buffers keep their lengths. Assumes nothing.
+-- `console::session::converse` is safe and ends: the buffers keep their lengths. Assumes nothing.
 use mathlib.Core.Path.{_≡_, refl}
 use native.Mathlib.Omega.{arith}
 use borrow.Author.Needs.{needs}
@@ -7,17 +7,16 @@ use Rattle.console.proofs.session.converse.Statement.{statement}
 use Rattle.console.proofs.session.converse.Tie as tie
 
 abbrev Inv-loop : tie.InvT-loop
-Inv-loop memory₀ message₀ block₀ out₀ session₀ turns₀ memory message block out session turns =
-    (length memory ≡ length memory₀) × (length message ≡ length message₀) × (length block ≡ length block₀) × (length out ≡ length out₀)
+Inv-loop memory₀ line₀ message₀ block₀ out₀ session₀ turns₀ memory line message block out session turns = (length memory ≡ length memory₀) × (length line ≡ length line₀) × (length message ≡ length message₀) × (length block ≡ length block₀) × (length out ≡ length out₀)
 
 abbrev μ-loop : tie.MeasureT-loop
-μ-loop memory₀ message₀ block₀ out₀ session₀ turns₀ memory message block out session turns = turns
+μ-loop memory₀ line₀ message₀ block₀ out₀ session₀ turns₀ memory line message block out session turns = turns
 
 begin-requires : tie.Need-begin-requires Inv-loop μ-loop
 begin-requires c κs = search needs
 
 loop-holds : tie.Need-loop-holds Inv-loop μ-loop
-loop-holds c = (refl, refl, refl, refl)
+loop-holds c = (refl, refl, refl, refl, refl)
 
 read-requires : tie.Need-read-requires Inv-loop μ-loop
 read-requires c κs = search needs
@@ -29,10 +28,13 @@ same-length-2 : tie.Need-same-length-2 Inv-loop μ-loop
 same-length-2 c = c .before .before .before .before .before .before .loop .inv .1
 
 same-length-3 : tie.Need-same-length-3 Inv-loop μ-loop
-same-length-3 c = omega arith
+same-length-3 c = c .before .before .before .before .before .before .loop .inv .2
 
 same-length-4 : tie.Need-same-length-4 Inv-loop μ-loop
-same-length-4 c = c .before .before .before .before .before .before .loop .inv .3
+same-length-4 c = omega arith
+
+same-length-5 : tie.Need-same-length-5 Inv-loop μ-loop
+same-length-5 c = c .before .before .before .before .before .before .loop .inv .4
 
 returns : tie.Need-returns Inv-loop μ-loop
 returns c = search needs
@@ -44,31 +46,34 @@ slice-aggregate-feed : tie.Need-slice-aggregate-feed Inv-loop μ-loop
 slice-aggregate-feed c = search needs
 
 feed-requires : tie.Need-feed-requires Inv-loop μ-loop
-feed-requires c κs = let l = c .before .before .before .before .before .before .before .before .before .before in omega (arith, l .loop .inv .3, l .before .before .before .before .before .before .pre)
+feed-requires c κs = let l = c .before .before .before .before .before .before .before .before .before .before .before in let s = l .before .before .before .before .before .before .before in (omega (arith, l .loop .inv .0, s .pre), omega (arith, l .loop .inv .4, s .pre))
 
 flush-requires : tie.Need-flush-requires Inv-loop μ-loop
 flush-requires c κs = search needs
 
 sub-turns : tie.Need-sub-turns Inv-loop μ-loop
-sub-turns c = omega arith
+sub-turns c = search needs
 
 loop-less : tie.Need-loop-less Inv-loop μ-loop
-loop-less c = omega arith
+loop-less c = search needs
 
 loop-again : tie.Need-loop-again Inv-loop μ-loop
-loop-again c = (omega arith, omega arith, omega arith, omega arith)
-
-same-length-5 : tie.Need-same-length-5 Inv-loop μ-loop
-same-length-5 c = c .before .loop .inv .0
+loop-again c = (omega arith, omega arith, omega arith, omega arith, omega arith)
 
 same-length-6 : tie.Need-same-length-6 Inv-loop μ-loop
-same-length-6 c = c .before .loop .inv .1
+same-length-6 c = c .before .loop .inv .0
 
 same-length-7 : tie.Need-same-length-7 Inv-loop μ-loop
-same-length-7 c = c .before .loop .inv .2
+same-length-7 c = c .before .loop .inv .1
 
 same-length-8 : tie.Need-same-length-8 Inv-loop μ-loop
-same-length-8 c = c .before .loop .inv .3
+same-length-8 c = c .before .loop .inv .2
+
+same-length-9 : tie.Need-same-length-9 Inv-loop μ-loop
+same-length-9 c = c .before .loop .inv .3
+
+same-length-10 : tie.Need-same-length-10 Inv-loop μ-loop
+same-length-10 c = c .before .loop .inv .4
 
 returns-2 : tie.Need-returns-2 Inv-loop μ-loop
 returns-2 c = search needs
@@ -86,6 +91,7 @@ converse-spec =
     same-length-2
     same-length-3
     same-length-4
+    same-length-5
     returns
     slice-reshare-prefix-feed
     slice-aggregate-feed
@@ -94,8 +100,9 @@ converse-spec =
     sub-turns
     loop-less
     loop-again
-    same-length-5
     same-length-6
     same-length-7
     same-length-8
+    same-length-9
+    same-length-10
     returns-2)

@@ -1,4 +1,4 @@
--- `console::session::feed` meets its contract. Assumes nothing.
+-- `console::session::feed` is safe and ends: the buffers keep their lengths. Assumes nothing.
 use mathlib.Core.Path.{_≡_, refl}
 use Prim.Native.Nat.{_+_, _-_, _≤_}
 use native.Mathlib.Omega.{arith}
@@ -9,43 +9,45 @@ use Rattle.console.proofs.session.feed.Statement.{statement}
 use Rattle.console.proofs.session.feed.Tie as tie
 
 abbrev Inv-loop : tie.InvT-loop
-Inv-loop block memory₀ message₀ out₀ now₀ at₀ memory message out now at =
-    (at ≤ length block + 1) × (length memory ≡ length memory₀) × (length message ≡ length message₀) × (length out ≡ length out₀)
+Inv-loop block memory₀ line₀ message₀ out₀ now₀ at₀ memory line message out now at = (at ≤ length block + 1) × (length memory ≡ length memory₀) × (length line ≡ length line₀) × (length message ≡ length message₀) × (length out ≡ length out₀)
 
 abbrev μ-loop : tie.MeasureT-loop
-μ-loop block memory₀ message₀ out₀ now₀ at₀ memory message out now at = length block + 1 - at
+μ-loop block memory₀ line₀ message₀ out₀ now₀ at₀ memory line message out now at = length block + 1 - at
+
+-- the line ends within the block, or with it
+ended : (e : tie.After-line-end Inv-loop μ-loop) → let l = e .before .before in
+    (l .loop .at ≤ e .line-end .result) × (e .line-end .result ≤ length (l .before .before .before .before .before .before .args .block .now))
+ended e =
+    let l = e .before .before in
+    let far = end-within (l .before .before .before .before .before .before .args .block .now) (l .loop .at) (omega arith) in
+    (omega (arith, e .line-end .ensures), omega (arith, e .line-end .ensures, far))
 
 loop-holds : tie.Need-loop-holds Inv-loop μ-loop
-loop-holds c = (omega arith, refl, refl, refl)
+loop-holds c = (omega arith, refl, refl, refl, refl)
 
 line-end-requires : tie.Need-line-end-requires Inv-loop μ-loop
 line-end-requires c κs = search needs
 
 sub-part : tie.Need-sub-part Inv-loop μ-loop
-sub-part c = let e = c in let l = e .before .before in let a = l .before .before .before .before .before .args in let far = end-within (a .block .now) (l .loop .at) (omega arith) in omega (arith, e .line-end .ensures, far)
+sub-part c = omega (arith, ended c)
 
 part-part-start : tie.Need-part-part-start Inv-loop μ-loop
-part-part-start c = let e = c in let l = e .before .before in let a = l .before .before .before .before .before .args in let far = end-within (a .block .now) (l .loop .at) (omega arith) in omega (arith, e .line-end .ensures, far)
+part-part-start c = omega (arith, ended c)
 
 part-part-end : tie.Need-part-part-end Inv-loop μ-loop
-part-part-end c = let e = c in let l = e .before .before in let a = l .before .before .before .before .before .args in let far = end-within (a .block .now) (l .loop .at) (omega arith) in omega (arith, e .line-end .ensures, far)
+part-part-end c = omega (arith, ended c)
 
 part-requires : tie.Need-part-requires Inv-loop μ-loop
-part-requires c κs = let l = c .before .before .before .before .before .before in let s = l .before .before .before .before .before in omega (arith, s .pre, l .loop .inv .3)
+part-requires c κs = let l = c .before .before .before .before .before .before .before in let s = l .before .before .before .before .before .before in (omega (arith, s .pre, l .loop .inv .1), omega (arith, s .pre, l .loop .inv .4))
 
 add-at : tie.Need-add-at Inv-loop μ-loop
-add-at c = let e = c .before .before .before .before .before .before .before .before .before .before .before in let l = e .before .before in let a = l .before .before .before .before .before .args in let far = end-within (a .block .now) (l .loop .at) (omega arith) in omega (arith, e .line-end .ensures, far)
+add-at c = let e = c .before .before .before .before .before .before .before .before .before .before .before .before .before .before in let a = e .before .before .before .before .before .before .before .before .args in omega (arith, ended e)
 
 loop-less : tie.Need-loop-less Inv-loop μ-loop
-loop-less c = let e = c .before .before .before .before .before .before .before .before .before .before .before in let l = e .before .before in let a = l .before .before .before .before .before .args in let far = end-within (a .block .now) (l .loop .at) (omega arith) in omega (arith, e .line-end .ensures, far)
+loop-less c = omega (arith, ended (c .before .before .before .before .before .before .before .before .before .before .before .before .before .before))
 
 loop-again : tie.Need-loop-again Inv-loop μ-loop
-loop-again c =
-    let e = c .before .before .before .before .before .before .before .before .before .before .before in
-    let l = e .before .before in
-    let a = l .before .before .before .before .before .args in
-    let far = end-within (a .block .now) (l .loop .at) (omega arith) in
-    (omega (arith, e .line-end .ensures, far), omega (arith, l .loop .inv .1), omega (arith, l .loop .inv .2), omega (arith, l .loop .inv .3))
+loop-again c = let e = c .before .before .before .before .before .before .before .before .before .before .before .before .before .before in let l = e .before .before in (omega (arith, ended e), omega (arith, l .loop .inv .1), omega (arith, l .loop .inv .2), omega (arith, l .loop .inv .3), omega (arith, l .loop .inv .4))
 
 same-length : tie.Need-same-length Inv-loop μ-loop
 same-length c = c .before .loop .inv .1
@@ -55,6 +57,9 @@ same-length-2 c = c .before .loop .inv .2
 
 same-length-3 : tie.Need-same-length-3 Inv-loop μ-loop
 same-length-3 c = c .before .loop .inv .3
+
+same-length-4 : tie.Need-same-length-4 Inv-loop μ-loop
+same-length-4 c = c .before .loop .inv .4
 
 returns : tie.Need-returns Inv-loop μ-loop
 returns c = search needs
@@ -77,4 +82,5 @@ feed-spec =
     same-length
     same-length-2
     same-length-3
+    same-length-4
     returns)

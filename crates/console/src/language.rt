@@ -1,0 +1,27 @@
+// The two languages.
+
+// What the lines are.
+pub enum Language {
+    // The pairs of a request each, to a gateway with process 2 alone.
+    Bench,
+    // Calls of a recording, to a gateway with no process before the first start.
+    Recording,
+}
+
+impl Language {
+    // The processes that are there at first.
+    pub(crate) fn there(self) -> [bool; 8] {
+        match self {
+            Language::Bench => [false, false, true, false, false, false, false, false],
+            Language::Recording => [false; 8],
+        }
+    }
+
+    // Where in a line the pairs of a request begin: in a recording behind the word and a blank.
+    pub(crate) fn pairs_at(self) -> usize {
+        match self {
+            Language::Bench => 0,
+            Language::Recording => 8,
+        }
+    }
+}
