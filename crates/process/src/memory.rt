@@ -38,7 +38,7 @@ impl Breakpoint {
     pub(crate) fn is_planted(self) -> bool
         ensures { λ r. ⌜ r ≡ isPlanted self ⌝ }
     {
-        if self.used { !self.lifted } else { false }
+        if self.lifted { false } else { self.used }
     }
 
     // The saved word is put back, if the breakpoint is planted.

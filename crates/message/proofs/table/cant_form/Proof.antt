@@ -1,4 +1,5 @@
 -- `message::table::cant_form` meets its contract: the request's form without its string, and none for NOP. Assumes nothing.
+use mathlib.Core.Path.{_≡_}
 use borrow.Author.Needs.{needs}
 use borrow.Author.Tests.{eq-eqb, ne-eqb}
 use Rattle.message.specs.Table.{cantForm}
@@ -7,7 +8,7 @@ use Rattle.message.proofs.table.cant_form.Tie as tie
 
 returns : tie.Need-returns
 unfolding cantForm
-returns c = rw (eq-eqb _ _ (c .if1 .taken))
+returns c = let nop : c .before .args .cmd ≡ 0 = c .if1 .taken in rw (eq-eqb _ _ nop)
 
 request-form-requires : tie.Need-request-form-requires
 request-form-requires c κs = search needs

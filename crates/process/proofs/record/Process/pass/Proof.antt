@@ -1,6 +1,9 @@
 -- `process::record::Process::pass` meets its contract: that of lifting, with the count fallen. Assumes nothing.
+use mathlib.Core.Path.{_≡_}
+use Prim.Native.Nat.{_-_}
 use borrow.Author.Needs.{needs}
 use lib.ListN.{length-map}
+use Rattle.process.specs.Record.{entry, withCount}
 use Rattle.process.specs.Report.{passed}
 use Rattle.process.proofs.PlantingLaws.{inside-entry}
 use Rattle.process.proofs.record.Process.pass.Statement.{statement}
@@ -39,7 +42,9 @@ returns c =
     let l = c .before .before in
     let e = l .before .before in
     let w = e .before in
-    rw (← w .with-count .ensures, ← e .with-entry .ensures) (l .lift-in .ensures)
+    let a = w .before .before .before .before .args in
+    let fallen : w .with-count .result ≡ withCount (entry (a .t1) (a .k) .count - 1) (entry (a .t1) (a .k)) = w .with-count .ensures in
+    rw (← fallen, ← e .with-entry .ensures) (l .lift-in .ensures)
 
 pub pass-spec : {M : Type 1} → statement M
 pass-spec =

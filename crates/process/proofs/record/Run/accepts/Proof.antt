@@ -1,4 +1,5 @@
 -- `process::record::Run::accepts` meets its contract, by the kinds. Assumes nothing.
+use mathlib.Core.Path.{_≡_}
 use borrow.Author.Tests.{eq-eqb, ne-eqb}
 use borrow.Author.Needs.{needs}
 use Rattle.process.specs.Report.{accepts}
@@ -13,11 +14,11 @@ moving-requires c κs = search needs
 
 returns : tie.Need-returns
 unfolding accepts
-returns c = rw (eq-eqb _ _ (c .before .if1 .taken)) (c .stepping .ensures)
+returns c = let ttrap : c .before .before .args .kind ≡ 3 = c .before .if1 .taken in rw (eq-eqb _ _ ttrap) (c .stepping .ensures)
 
 returns-2 : tie.Need-returns-2
 unfolding accepts
-returns-2 c = rw (ne-eqb _ _ (c .before .if1 .left)) (c .moving .ensures)
+returns-2 c = let other : c .before .before .args .kind ≡ 3 → ⊥ = c .before .if1 .left in rw (ne-eqb _ _ other) (c .moving .ensures)
 
 pub accepts-spec : {M : Type 1} → statement M
 accepts-spec = tie.close (tie.spec stepping-requires moving-requires returns returns-2)

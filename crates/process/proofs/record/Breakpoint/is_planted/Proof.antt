@@ -1,0 +1,18 @@
+-- `process::record::Breakpoint::is_planted` meets its contract, by whether the entry is lifted. Assumes nothing.
+use mathlib.Core.Path.{sym, ap, _∙_}
+use mathlib.Core.Bool.{Bool, not, _&&_, and-true, and-false}
+use Rattle.process.proofs.record.Breakpoint.is_planted.Statement.{statement}
+use Rattle.process.proofs.record.Breakpoint.is_planted.Tie as tie
+
+returns : tie.Need-returns
+returns c =
+    let b = c .before .args .self in
+    sym (ap (λ (t : Bool). b .used && not t) (c .if1 .taken) ∙ and-false (b .used))
+
+returns-2 : tie.Need-returns-2
+returns-2 c =
+    let b = c .before .args .self in
+    sym (ap (λ (t : Bool). b .used && not t) (c .if1 .left) ∙ and-true (b .used))
+
+pub is-planted-spec : {M : Type 1} → statement M
+is-planted-spec = tie.close (tie.spec returns returns-2)

@@ -1,0 +1,14 @@
+-- `words::low_byte` meets its contract. Assumes nothing.
+use mathlib.Core.Path.{refl}
+use borrow.Author.Needs.{needs}
+use Rattle.words.proofs.low_byte.Statement.{statement}
+use Rattle.words.proofs.low_byte.Tie as tie
+
+cast-result : tie.Need-cast-result
+cast-result c = search needs
+
+returns : tie.Need-returns
+returns c = refl
+
+pub low-byte-spec : {M : Type 1} → statement M
+low-byte-spec = tie.close (tie.spec cast-result returns)
