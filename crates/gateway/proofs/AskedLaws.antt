@@ -1,35 +1,32 @@
--- A request that was read, by its task: what it is granted, or how it is refused. Assumes nothing.
-use mathlib.Core.Path.{_≡_, refl, sym, _∙_}
-use mathlib.Core.Bool.{Bool, true, false, cond, true≢false}
+-- A request that was read, at the process that it goes to. Assumes nothing.
+use mathlib.Core.Path.{_≡_, refl, sym, ap, _∙_}
+use mathlib.Core.Bool.{Bool, true, false, not, cond, _&&_, _||_}
 use mathlib.Core.List.{List, [], _∷_}
-use Prim.Native.Nat.{ℕ, _≤_}
-use borrow.Author.Tests.{ne-eqb, le-ltb, leb-true}
+use Prim.Native.Nat.{ℕ, zero, suc, _≤_, _<_}
+use native.Mathlib.Omega.{arith}
+use borrow.Author.Tests.{eqb-true, ne-eqb, lt-ltb, le-ltb, ltb-true, leb-true}
 use lib.ListN.{length}
-use lib.Dec.{leb}
-use Rattle.lists.specs.Buffer.{overlay}
+use lib.Dec.{eqb, ltb, leb}
 use Rattle.lists.specs.Every.{every}
 use Rattle.lists.proofs.Bool.{&&-left, &&-right}
 use Rattle.message.specs.declared.header.Header.{Header}
-use Rattle.message.specs.declared.outcome.Outcome.the-variants.{Refused}
 use Rattle.message.specs.declared.outcome.Reading.the-variants.{Message}
-use Rattle.message.specs.Outcome.{Test, firstFailing}
+use Rattle.message.specs.Outcome.{Test, test, firstFailing}
 use Rattle.message.specs.Table.{requestForm}
-use Rattle.message.specs.Layout.{written, headerOf, stringOf}
-use Rattle.message.specs.Answer.{cantOf}
+use Rattle.message.specs.Layout.{headerOf, stringOf}
 use Rattle.message.specs.Exchange.{readNumber, reads}
 use Rattle.message.proofs.OutcomeLaws.{message-zero, message-header}
 use Rattle.message.proofs.AnswerLaws.{answers-granted}
-use Rattle.state.specs.declared.gateway.Gateway.{Gateway}
-use Rattle.rules.specs.Rule.{names, creates}
-use Rattle.rules.specs.Tests.{lent, lowestAbsent, askedTests}
-use Rattle.rules.specs.Step.{answers, replied, grantedNamed, grantedCreate, granted, refused}
-use Rattle.rules.proofs.StepLaws.{by-test}
+use Rattle.process.specs.Local.{Local}
+use Rattle.rules.specs.Rule.{ruleOf, names, creates}
+use Rattle.rules.specs.Tests.{State, recordOf, absent, lowestAbsent, ruleTests, askedTests}
+use Rattle.rules.specs.Step.{Stepped, localOf, put, grantedNamed, grantedCreate, granted, refused}
 use Rattle.rules.proofs.NumberLaws.{envelope, envelope-sent}
-use Rattle.service.specs.declared.task.Task.the-variants.{Change, Create, Nothing, Refuse}
-use Rattle.service.specs.Task.{taskOf}
+use Rattle.rules.proofs.StateLaws.{put-same}
+use Rattle.service.specs.Task.{processTests}
 use Rattle.service.specs.Reply.{Answerable}
+use Rattle.service.specs.At.{Left, namedOf, targetOf, awayAnswer, namedBy, namedAt, createdAt, requestAt}
 use Rattle.gateway.specs.Stage.{asked}
-use Rattle.service.proofs.TaskLaws.{says}
 
 -- ---- the fields of a message that was read
 
@@ -59,52 +56,79 @@ high-first (t ∷ ts) e = go (high-first ts (&&-right (leb 7 (t .number)) _ e)) 
     go rest true z = leb-true 7 (t .number) (&&-left (leb 7 (t .number)) _ e)
     go rest false z = rest z
 
-module _ (h : Header) (g : Gateway) where
-  asked-high : every high (askedTests h (lent g [])) ≡ true
-  unfolding askedTests high
-  asked-high =
-      by-test (λ (ts : List Test). every high ts ≡ true) (names (h .cmd)) (λ n. refl)
-      (λ n. by-test (λ (ts : List Test). every high ts ≡ true) (creates (h .cmd)) (λ c. refl) (λ c. refl))
+-- ---- which process it goes to
 
-  -- NOP is never refused
-  nop-passes : h .cmd ≡ 0 → firstFailing (askedTests h (lent g [])) ≡ 0
-  unfolding askedTests names firstFailing
-  nop-passes e = rw e refl
+-- what the number of a process that a request names says
+pub named-low : (h : Header) → namedOf h < 8 → (names (h .cmd) ≡ true) × (h .pid ≡ namedOf h)
+unfolding namedOf
+named-low h = go (names (h .cmd)) (ltb (h .pid) 8)
+  where
+    go : (a b : Bool) → cond (a && b) (h .pid) 8 < 8 → (a ≡ true) × (h .pid ≡ cond (a && b) (h .pid) 8)
+    go true true low = (refl, refl)
+    go true false low = absurd (omega (arith, low))
+    go false b low = absurd (omega (arith, low))
 
-  pub refused-not-nop : (n : ℕ) → Refuse n ≡ taskOf h g → h .cmd ≡ 0 → ⊥
-  refused-not-nop n e z = let d = says h g (Refuse n) e in d .fails (d .number ∙ nop-passes z)
+pub target-asks : (h : Header) (n : ℕ) → targetOf h n < 8 → creates (h .cmd) || names (h .cmd) ≡ true
+unfolding targetOf
+target-asks h n = go (creates (h .cmd)) refl
+  where
+    go : (t : Bool) → creates (h .cmd) ≡ t → cond t n (namedOf h) < 8 → t || names (h .cmd) ≡ true
+    go true e low = refl
+    go false e low = named-low h low .0
 
-  -- EXAMINE does something
-  examine-named : h .cmd ≡ 6 → names (h .cmd) ≡ true
-  unfolding names
-  examine-named e = rw e refl
+-- CREATE names none
+creates-unnamed : (cmd : ℕ) → creates cmd ≡ true → names cmd ≡ false
+unfolding names
+creates-unnamed cmd e = rw (eqb-true cmd 12 e) refl
 
-  pub idle-not-examine : Nothing ≡ taskOf h g → h .cmd ≡ 6 → ⊥
-  idle-not-examine e z = true≢false (sym (examine-named z) ∙ says h g Nothing e .unnamed)
+-- ---- at that process
 
-  -- ---- what is granted, and what is refused
+abbrev stepped : ℕ → Left → State → Stepped
+stepped p x s = record { answer = x .answer; after = put p (x .left) s }
 
-  module _ (memory string buffer : List ℕ) where
-    asked-lent : firstFailing (askedTests h (lent g memory)) ≡ firstFailing (askedTests h (lent g []))
-    unfolding askedTests lowestAbsent
-    asked-lent = refl
+module _ (h : Header) (string buffer : List ℕ) (s : State) where
+  -- by the number of the tests of the process that is named
+  module _ (p : ℕ) (n : names (h .cmd) ≡ true) (low : p < 8) (here : h .pid ≡ p) where
+    number : ℕ
+    number = firstFailing (processTests h (recordOf s p))
 
-    pub asked-change : (k : ℕ) → Change k ≡ taskOf h g → asked h string buffer (lent g memory) ≡ grantedNamed h string buffer (lent g memory)
-    unfolding asked granted
-    asked-change k e = let d = says h g (Change k) e in rw (asked-lent, d .passed, d .named)
+    number-asked : firstFailing (askedTests h s) ≡ number
+    unfolding askedTests number
+    number-asked = rw (n, here, lt-ltb p 8 low)
 
-    pub asked-create : (p : ℕ) → Create p ≡ taskOf h g → asked h string buffer (lent g memory) ≡ grantedCreate h buffer (lent g memory)
-    unfolding asked granted
-    asked-create p e = let d = says h g (Create p) e in rw (asked-lent, d .passed, d .unnamed, d .op)
+    number-high : (number ≡ 0 → ⊥) → 7 ≤ number
+    unfolding number high
+    number-high z = high-first (processTests h (recordOf s p)) refl z
 
-    pub asked-idle : Nothing ≡ taskOf h g → asked h string buffer (lent g memory) ≡ replied h [] buffer (lent g memory)
-    unfolding asked granted
-    asked-idle e = let d = says h g Nothing e in rw (asked-lent, d .passed, d .unnamed, d .uncreating)
+    by-number : (k : ℕ) → number ≡ k → asked h string buffer s ≡ stepped p (namedBy k h string buffer (localOf s p)) s
+    unfolding asked granted grantedNamed refused namedBy
+    by-number zero e = rw (number-asked, e, n, here)
+    by-number (suc k) e =
+        let long = number-high (λ z. omega (arith, sym e ∙ z)) in
+        rw (number-asked, e, ne-eqb (suc k) 0 (λ z. omega (arith, z)), le-ltb (suc k) 7 (rw e at long), put-same p s)
 
-    pub asked-refuse : (n : ℕ) → Refuse n ≡ taskOf h g
-        → asked h string buffer (lent g memory) ≡ answers (Refused n) (overlay (written (cantOf h) []) buffer) (lent g memory)
-    unfolding asked refused
-    asked-refuse n e =
-        let d = says h g (Refuse n) e in
-        let long = high-first (askedTests h (lent g [])) asked-high (λ z. d .fails (d .number ∙ z)) in
-        rw (asked-lent, ← d .number, ne-eqb n 0 (d .fails), le-ltb n 7 (rw (d .number) long))
+  pub asked-at : (p : ℕ) → p ≡ targetOf h (lowestAbsent s) → p < 8 → asked h string buffer s ≡ stepped p (requestAt p h string buffer (localOf s p)) s
+  unfolding targetOf requestAt asked granted grantedCreate askedTests firstFailing number
+  asked-at p e low = go (creates (h .cmd)) refl e
+    where
+      go : (t : Bool) → creates (h .cmd) ≡ t → p ≡ cond t (lowestAbsent s) (namedOf h)
+          → asked h string buffer s ≡ stepped p (cond t (createdAt p h buffer) (namedAt h string buffer (localOf s p))) s
+      go true c i = rw (creates-unnamed (h .cmd) c, c, ← i, lt-ltb p 8 low)
+      go false c i = let d = named-low h (rw i at low) in by-number p (d .0) low (d .1 ∙ sym i) _ refl
+
+  pub asked-away : 8 ≤ targetOf h (lowestAbsent s) → asked h string buffer s ≡ record { answer = awayAnswer h buffer; after = s }
+  unfolding targetOf namedOf awayAnswer asked granted refused askedTests firstFailing
+  asked-away = go (creates (h .cmd)) refl
+    where
+      go : (t : Bool) → creates (h .cmd) ≡ t → 8 ≤ cond t (lowestAbsent s) (namedOf h)
+          → asked h string buffer s ≡ record { answer = awayAnswer h buffer; after = s }
+      go true c far = rw (creates-unnamed (h .cmd) c, c, le-ltb _ _ far)
+      go false c far = other (names (h .cmd)) refl
+        where
+          other : (t : Bool) → names (h .cmd) ≡ t → asked h string buffer s ≡ record { answer = awayAnswer h buffer; after = s }
+          other true n = rw (c, n, gone (ltb (h .pid) 8) refl)
+            where
+              gone : (t : Bool) → ltb (h .pid) 8 ≡ t → t ≡ false
+              gone true i = absurd (omega (arith, ltb-true (h .pid) 8 i, rw (n, i) at far))
+              gone false i = refl
+          other false n = rw (c, n)

@@ -1,5 +1,4 @@
 -- The definitions that the contracts of this crate cite, beside those of the rules. Words in quotation marks are document 01's.
 pub mod Stage
-pub mod Notice
 pub mod Lengths
 pub mod Demands

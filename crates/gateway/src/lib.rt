@@ -2,6 +2,7 @@
 mod answered;
 mod fresh;
 mod lent;
+mod recipient;
 mod reports;
 mod requests;
 pub mod theorems;

@@ -1,19 +1,20 @@
 -- A state with another process in one place: what changes, what stays, and that it is still sound. Assumes nothing.
 use mathlib.Core.Path.{_≡_, refl, ap, _∙_}
 use mathlib.Core.Bool.{Bool, true, false}
+use mathlib.Core.List.{List}
 use Prim.Native.Nat.{ℕ, _<_}
 use native.Mathlib.Omega.{arith}
 use borrow.Author.Tests.{eqb-true, eqb-false}
 use lib.ListN.{length, length-set}
-use lib.Seq.{getD-set-same, getD-set-other}
+use lib.Seq.{getD-set-same, getD-set-other, set-getD}
 use lib.Dec.{eqb}
 use Rattle.process.specs.declared.record.Process.{Process}
 use Rattle.process.specs.Sound.{Sound}
 use Rattle.process.specs.Local.{Local, Proper}
 use Rattle.state.specs.Gateway.{nobody}
-use Rattle.state.specs.Slot.{slot}
+use Rattle.state.specs.Slot.{slot, withSlot}
 use Rattle.state.proofs.GatewayLaws.{state-sound, state-passes}
-use Rattle.state.proofs.SlotLaws.{length-slot, length-withSlot, slot-same, slot-other}
+use Rattle.state.proofs.SlotLaws.{length-slot, length-withSlot, withSlot-slot, slot-same, slot-other}
 use Rattle.rules.specs.Tests.{State, recordOf}
 use Rattle.rules.specs.Step.{localOf, put}
 use Rattle.rules.specs.Ready.{Ready}
@@ -33,6 +34,13 @@ pub record Changed (s t : State) (p : ℕ) (l : Local) : Type 0 where
 
 pub unchanged : (s : State) (p : ℕ) → Changed s s p (localOf s p)
 unchanged s p = record { here = refl; here-bytes = refl; else = λ q n. refl; else-bytes = λ q h n. refl }
+
+-- a process put back as it is
+pub put-same : (p : ℕ) (s : State) → put p (localOf s p) s ≡ s
+unfolding put
+put-same p s =
+    ap (λ (ps : List Process). record { gateway = record { processes = ps }; memory = withSlot p (slot p (s .memory)) (s .memory) }) (set-getD (s .gateway .processes) p nobody)
+    ∙ ap (λ (m : List ℕ). record { gateway = s .gateway; memory = m }) (withSlot-slot p (s .memory))
 
 module _ (s : State) (r : Ready s) (p : ℕ) (h : p < 8) (l : Local) (g : Proper l) where
   pub put-changed : Changed s (put p l s) p l

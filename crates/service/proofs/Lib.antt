@@ -1,5 +1,7 @@
--- Laws that the proofs of this crate, and of the one above it, cite.
-pub mod OpLaws
+-- Laws that the proofs of this crate, and of those above it, cite.
 pub mod TaskLaws
+pub mod OpLaws
 pub mod EffectLaws
 pub mod ReplyLaws
+pub mod NoticeLaws
+pub mod AtLaws

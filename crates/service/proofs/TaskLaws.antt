@@ -1,26 +1,23 @@
 -- What a task says of the request that it came from. Assumes nothing.
 use mathlib.Core.Path.{_≡_, refl, sym, subst}
-use mathlib.Core.Bool.{Bool, true, false, not}
-use mathlib.Core.List.{[], _∷_}
-use Prim.Native.Nat.{ℕ, zero, suc, _<_}
+use mathlib.Core.Bool.{Bool, true, false}
+use Prim.Native.Nat.{ℕ, zero, suc}
 use native.Mathlib.Omega.{arith}
-use borrow.Author.Tests.{eqb-true, ltb-true, ltb-false, not-false}
+use borrow.Author.Tests.{ltb-false}
 use lib.ListN.{List·getD-eq-default}
 use lib.Dec.{ltb}
 use Rattle.message.specs.declared.header.Header.{Header}
 use Rattle.message.specs.declared.table.Found.{Found}
 use Rattle.message.specs.declared.table.Found.the-variants.{Known, Unknown}
-use Rattle.message.specs.Outcome.{test, firstFailing}
+use Rattle.message.specs.Outcome.{firstFailing}
 use Rattle.message.specs.Table.{bare, row, ops, rowOf, requestForm}
-use Rattle.message.proofs.OutcomeLaws.{first-passes, rest-passes}
-use Rattle.state.specs.declared.gateway.Gateway.{Gateway}
-use Rattle.state.specs.Gateway.{processAt}
-use Rattle.rules.specs.Rule.{ruleOf, names, creates}
-use Rattle.rules.specs.Tests.{State, lent, absent, lowestAbsent, ruleTests, askedTests}
-use Rattle.rules.proofs.StepLaws.{by-test, present}
+use Rattle.message.proofs.OutcomeLaws.{rest-passes}
+use Rattle.process.specs.declared.record.Process.{Process}
+use Rattle.rules.specs.Rule.{ruleOf, names}
+use Rattle.rules.specs.Tests.{ruleTests}
 use Rattle.service.specs.declared.task.Task.{Task}
-use Rattle.service.specs.declared.task.Task.the-variants.{Change, Create, Nothing, Refuse}
-use Rattle.service.specs.Task.{taskBy, entryOf, namedTask, createTask, taskOf}
+use Rattle.service.specs.declared.task.Task.the-variants.{Change, Refuse}
+use Rattle.service.specs.Task.{taskBy, entryOf, processTests, taskOf}
 
 -- ---- which op codes name a process
 
@@ -48,73 +45,22 @@ by-number F (suc n) t f g = g (λ e. omega (arith, e))
 
 -- ---- what each task says
 
-pub record Changes (h : Header) (g : Gateway) (k : ℕ) : Type 0 where
-  pub named : names (h .cmd) ≡ true
-  pub low : h .pid < 8
-  pub rule : firstFailing (ruleTests (ruleOf (h .cmd)) h (processAt g (h .pid))) ≡ 0
-  pub entry : k ≡ entryOf (h .cmd) (h .arg1) (processAt g (h .pid))
-  pub passed : firstFailing (askedTests h (lent g [])) ≡ 0
+pub record Changes (h : Header) (p : Process) (k : ℕ) : Type 0 where
+  pub passed : firstFailing (processTests h p) ≡ 0
+  pub rule : firstFailing (ruleTests (ruleOf (h .cmd)) h p) ≡ 0
+  pub entry : k ≡ entryOf (h .cmd) (h .arg1) p
 
-pub record Creates (h : Header) (g : Gateway) (p : ℕ) : Type 0 where
-  pub unnamed : names (h .cmd) ≡ false
-  pub op : h .cmd ≡ 12
-  pub lowest : p ≡ lowestAbsent (lent g [])
-  pub low : p < 8
-  pub passed : firstFailing (askedTests h (lent g [])) ≡ 0
+abbrev pub Says : Header → Process → Task → Type 0
+Says h p (Change k) = Changes h p k
+Says h p (Refuse n) = (n ≡ firstFailing (processTests h p)) × (n ≡ 0 → ⊥)
 
-pub record Idles (h : Header) (g : Gateway) : Type 0 where
-  pub unnamed : names (h .cmd) ≡ false
-  pub uncreating : creates (h .cmd) ≡ false
-  pub passed : firstFailing (askedTests h (lent g [])) ≡ 0
+task-says : (h : Header) (p : Process) → Says h p (taskOf h p)
+unfolding taskOf
+task-says h p =
+    by-number (Says h p) (firstFailing (processTests h p)) (Change (entryOf (h .cmd) (h .arg1) p))
+    (λ e. record { passed = e; rule = rest-passes 6 _ _ e; entry = refl })
+    (λ z. (refl, z))
 
-pub record Refuses (h : Header) (g : Gateway) (n : ℕ) : Type 0 where
-  pub number : n ≡ firstFailing (askedTests h (lent g []))
-  pub fails : n ≡ 0 → ⊥
-
-abbrev pub Says : Header → Gateway → Task → Type 0
-Says h g (Change k) = Changes h g k
-Says h g (Create p) = Creates h g p
-Says h g Nothing = Idles h g
-Says h g (Refuse n) = Refuses h g n
-
-module _ (h : Header) (g : Gateway) where
-  s : State
-  s = lent g []
-
-  named-says : names (h .cmd) ≡ true → Says h g (namedTask h g)
-  unfolding namedTask askedTests s
-  named-says n =
-      by-number (Says h g) (firstFailing (test 7 (absent s (h .pid)) ∷ ruleTests (ruleOf (h .cmd)) h (processAt g (h .pid))))
-      (Change (entryOf (h .cmd) (h .arg1) (processAt g (h .pid))))
-      (λ e. record {
-        named = n;
-        low = present s (h .pid) (first-passes 6 _ _ e) .0;
-        rule = rest-passes 6 _ _ e;
-        entry = refl;
-        passed = rw n e;
-      })
-      (λ z. record { number = rw n; fails = z })
-
-  create-says : names (h .cmd) ≡ false → creates (h .cmd) ≡ true → Says h g (createTask g)
-  unfolding createTask askedTests s
-  create-says n c =
-      by-number (Says h g) (firstFailing (test 13 (not (ltb (lowestAbsent s) 8)) ∷ [])) (Create (lowestAbsent s))
-      (λ e. record {
-        unnamed = n;
-        op = eqb-true (h .cmd) 12 c;
-        lowest = refl;
-        low = ltb-true (lowestAbsent s) 8 (not-false _ (first-passes 12 _ _ e));
-        passed = rw (n, c) e;
-      })
-      (λ z. record { number = rw (n, c); fails = z })
-
-  task-says : Says h g (taskOf h g)
-  unfolding taskOf askedTests firstFailing s
-  task-says =
-      by-test (Says h g) (names (h .cmd)) named-says
-      (λ n. by-test (Says h g) (creates (h .cmd)) (create-says n)
-      (λ c. record { unnamed = n; uncreating = c; passed = rw (n, c) refl }))
-
-  -- a task says what it says of the request that it came from
-  pub says : (t : Task) → t ≡ taskOf h g → Says h g t
-  says t e = subst (Says h g) (sym e) task-says
+-- a task says what it says of the request that it came from
+pub says : (h : Header) (p : Process) (t : Task) → t ≡ taskOf h p → Says h p t
+says h p t e = subst (Says h p) (sym e) (task-says h p)

@@ -1,3 +1,4 @@
--- The definitions that the contracts of this crate, and of the one above it, cite, beside those of the rules.
+-- The definitions that the contracts of this crate, and of those above it, cite, beside those of the rules.
 pub mod Task
+pub mod At
 pub mod Reply

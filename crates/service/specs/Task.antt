@@ -1,20 +1,18 @@
--- What a request that was read is to do, by the tests 7 to 13, and what they found on the way.
+-- What a request to a process is to do, by the tests 7 to 12, and what they found on the way.
 use mathlib.Core.Bool.{not, cond}
-use mathlib.Core.List.{[], _∷_}
+use mathlib.Core.List.{List, [], _∷_}
 use Prim.Native.Nat.{ℕ, zero, suc}
-use lib.Dec.{eqb, ltb}
+use lib.Dec.{eqb}
 use Rattle.message.specs.declared.header.Header.{Header}
-use Rattle.message.specs.Outcome.{test, firstFailing}
+use Rattle.message.specs.Outcome.{Test, test, firstFailing}
 use Rattle.process.specs.declared.record.Process.{Process}
 use Rattle.process.specs.declared.find.Want.the-variants.{At}
 use Rattle.process.specs.Find.{find}
 use Rattle.process.specs.Request.{entryFor}
-use Rattle.state.specs.declared.gateway.Gateway.{Gateway}
-use Rattle.state.specs.Gateway.{processAt}
-use Rattle.rules.specs.Rule.{ruleOf, names, creates}
-use Rattle.rules.specs.Tests.{lent, absent, lowestAbsent, ruleTests}
+use Rattle.rules.specs.Rule.{ruleOf}
+use Rattle.rules.specs.Tests.{ruleTests}
 use Rattle.service.specs.declared.task.Task.{Task}
-use Rattle.service.specs.declared.task.Task.the-variants.{Change, Create, Nothing, Refuse}
+use Rattle.service.specs.declared.task.Task.the-variants.{Change, Refuse}
 
 -- the task where no test fails, else the refusal by this number
 unfoldable pub taskBy : ℕ → Task → Task
@@ -34,16 +32,10 @@ entryTask cmd a p =
 unfoldable pub ruleTask : Header → Process → Task
 ruleTask h p = taskBy (firstFailing (ruleTests (ruleOf (h .cmd)) h p)) (Change (entryOf (h .cmd) (h .arg1) p))
 
+-- the tests 7 to 12 of a process whose number is under 8
+abbrev pub processTests : Header → Process → List Test
+processTests h p = test 7 (not (p .there)) ∷ ruleTests (ruleOf (h .cmd)) h p
+
 -- by the tests 7 to 12
-unfoldable pub namedTask : Header → Gateway → Task
-namedTask h g =
-    taskBy (firstFailing (test 7 (absent (lent g []) (h .pid)) ∷ ruleTests (ruleOf (h .cmd)) h (processAt g (h .pid))))
-    (Change (entryOf (h .cmd) (h .arg1) (processAt g (h .pid))))
-
--- by test 13
-unfoldable pub createTask : Gateway → Task
-createTask g = taskBy (firstFailing (test 13 (not (ltb (lowestAbsent (lent g [])) 8)) ∷ [])) (Create (lowestAbsent (lent g [])))
-
--- by the tests 7 to 13; none reads memory
-unfoldable pub taskOf : Header → Gateway → Task
-taskOf h g = cond (names (h .cmd)) (namedTask h g) (cond (creates (h .cmd)) (createTask g) Nothing)
+unfoldable pub taskOf : Header → Process → Task
+taskOf h p = taskBy (firstFailing (processTests h p)) (Change (entryOf (h .cmd) (h .arg1) p))

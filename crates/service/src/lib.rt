@@ -1,11 +1,17 @@
-// A request to one process: what its tests find, what it does, and its reply.
+// A request to one process, or a report about it: what its tests find, what it does, and what is answered.
 mod effect;
 mod passed;
+mod recipient;
 mod reply;
+mod report;
+mod request;
 mod rule;
 mod task;
 
 pub use passed::Served;
-pub use passed::serve;
-pub use task::Task;
-pub use task::task_of;
+pub use recipient::creates;
+pub use recipient::named_of;
+pub use report::report_at;
+pub use report::report_away;
+pub use request::answer_at;
+pub use request::answer_away;

@@ -22,7 +22,7 @@ pub struct Served {
 }
 
 // The reply goes out, and the process changes.
-pub fn serve(
+pub(crate) fn serve(
     h: Header,
     k: usize,
     p: Process,

@@ -6,7 +6,7 @@ use mathlib.Core.Logic.{_⊎_, inl, inr}
 use Prim.Native.Nat.{ℕ, _+_, _*_, _≤_, _<_}
 use native.Mathlib.Omega.{arith}
 use borrow.Author.Tests.{eqb-true, ltb-true, ltb-false}
-use lib.ListN.{length}
+use lib.ListN.{length, take, drop, take-append-drop}
 use lib.Dec.{eqb, ltb}
 use Rattle.lists.specs.Every.{below}
 use Rattle.lists.proofs.Every.{below-at}
@@ -41,6 +41,12 @@ length-withSlot p bytes memory h size long = length-replaced (startOf p) 4096 me
 pub slot-same : (p : ℕ) (bytes memory : List ℕ) → p < 8 → length memory ≡ 32768 → length bytes ≡ 4096 → slot p (withSlot p bytes memory) ≡ bytes
 unfolding slot withSlot
 slot-same p bytes memory h size long = part-same (startOf p) 4096 memory (inside p memory h size) bytes long
+
+-- the bytes of a process put back are the memory
+pub withSlot-slot : (p : ℕ) (memory : List ℕ) → withSlot p (slot p memory) memory ≡ memory
+unfolding slot withSlot
+withSlot-slot p memory =
+    ap (λ (xs : List ℕ). take (startOf p) memory ++ xs) (take-append-drop 4096 (drop (startOf p) memory)) ∙ take-append-drop (startOf p) memory
 
 -- the bytes of two processes do not meet
 apart : (p q : ℕ) → p < 8 → q < 8 → (q ≡ p → ⊥) → (startOf q + 4096 ≤ startOf p) ⊎ (startOf p + 4096 ≤ startOf q)

@@ -1,0 +1,69 @@
+-- A machine report stage by stage: refused by what is lent or by its own fields, or heard at its process. Assumes nothing.
+use mathlib.Core.Path.{_≡_, refl, sym, _∙_}
+use mathlib.Core.Bool.{Bool, true, false, not, cond, _&&_}
+use mathlib.Core.List.{List}
+use Prim.Native.Nat.{ℕ, zero, suc, _<_}
+use native.Mathlib.Omega.{arith}
+use borrow.Author.Tests.{ne-eqb, ltb-true, not-false}
+use lib.Dec.{eqb, ltb}
+use Rattle.message.specs.declared.outcome.Outcome.the-variants.{Refused}
+use Rattle.message.specs.Outcome.{firstFailing}
+use Rattle.message.proofs.OutcomeLaws.{first-passes, rest-passes}
+use Rattle.process.specs.Report.{accepts, recorded, passes}
+use Rattle.rules.specs.Tests.{State, recordOf, noRoom, unsound, badReport, reportNumber}
+use Rattle.rules.specs.Step.{Answer, Stepped, answers, localOf, put, told, notified, noted}
+use Rattle.rules.proofs.NumberLaws.{orElse}
+use Rattle.rules.proofs.StateLaws.{put-same}
+use Rattle.service.specs.At.{Left, reportAway, heardNumber, noticeOr, reportBy, reportAt}
+use Rattle.gateway.specs.Stage.{lentNumber}
+
+staged : (a b c d e f : Bool)
+    → cond a 1 (cond b 2 (cond c 14 (cond (not (d && e)) 7 (cond f 9 0))))
+    ≡ orElse (cond a 1 (cond b 2 0)) (orElse (cond c 14 (cond (not d) 7 0)) (cond (not e) 7 (cond f 9 0)))
+staged true b c d e f = refl
+staged false true c d e f = refl
+staged false false true d e f = refl
+staged false false false false e f = refl
+staged false false false true false f = refl
+staged false false false true true f = refl
+
+-- the same state after either answer
+either : (t : Bool) (x y : Answer) (s : State)
+    → cond {A = Stepped} t (record { answer = x; after = s }) (record { answer = y; after = s }) ≡ record { answer = cond t x y; after = s }
+either true x y s = refl
+either false x y s = refl
+
+module _ (s : State) (p kind reason : ℕ) (words buffer : List ℕ) where
+  stages : reportNumber s p kind reason buffer ≡ orElse (lentNumber s buffer) (orElse (reportAway p kind reason) (heardNumber kind (recordOf s p)))
+  unfolding reportNumber lentNumber reportAway heardNumber firstFailing
+  stages = staged (noRoom s buffer) (unsound s) (badReport kind reason) (ltb p 8) (recordOf s p .there) (not (accepts kind (recordOf s p .run)))
+
+  refused-by : (n : ℕ) → reportNumber s p kind reason buffer ≡ n → (n ≡ 0 → ⊥) → noted p kind reason words buffer s ≡ answers (Refused n) buffer s
+  unfolding noted
+  refused-by n e z = rw (e, ne-eqb n 0 z)
+
+  pub report-lent : (n : ℕ) → n ≡ lentNumber s buffer → (n ≡ 0 → ⊥) → noted p kind reason words buffer s ≡ answers (Refused n) buffer s
+  report-lent n e z = refused-by n (stages ∙ rw (← e, ne-eqb n 0 z)) z
+
+  module _ (fit : lentNumber s buffer ≡ 0) where
+    pub report-away : (n : ℕ) → n ≡ reportAway p kind reason → (n ≡ 0 → ⊥) → noted p kind reason words buffer s ≡ answers (Refused n) buffer s
+    report-away n e z = refused-by n (stages ∙ rw (fit, ← e, ne-eqb n 0 z)) z
+
+    module _ (near : reportAway p kind reason ≡ 0) where
+      pub report-good : badReport kind reason ≡ false
+      unfolding reportAway
+      report-good = first-passes 13 _ _ near
+
+      pub report-low : p < 8
+      unfolding reportAway
+      report-low = ltb-true p 8 (not-false _ (first-passes 6 _ _ (rest-passes 13 _ _ near)))
+
+      by-number : (k : ℕ) → heardNumber kind (recordOf s p) ≡ k
+          → noted p kind reason words buffer s ≡ record { answer = reportBy k p kind reason words buffer (localOf s p) .answer; after = put p (reportBy k p kind reason words buffer (localOf s p) .left) s }
+      unfolding noted notified noticeOr reportBy told
+      by-number zero e = rw (stages, fit, near, e) (either (not (eqb (recordOf s p .host) 0) && not (passes kind (recorded words (localOf s p) .process))) _ _ _)
+      by-number (suc k) e = rw (stages, fit, near, e, ne-eqb (suc k) 0 (λ z. omega (arith, z)), put-same p s)
+
+      pub report-heard : noted p kind reason words buffer s ≡ record { answer = reportAt p kind reason words buffer (localOf s p) .answer; after = put p (reportAt p kind reason words buffer (localOf s p) .left) s }
+      unfolding reportAt
+      report-heard = by-number (heardNumber kind (recordOf s p)) refl

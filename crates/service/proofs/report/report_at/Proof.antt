@@ -1,0 +1,52 @@
+-- `service::report::report_at` meets its contract: refused, or what it does and the notice. Assumes nothing.
+use mathlib.Core.Path.{refl, sym, _∙_}
+use Rattle.process.specs.Local.{local}
+use Rattle.service.specs.At.{reportBy, reportAt}
+use Rattle.service.proofs.AtLaws.{report-refused}
+use borrow.Author.Needs.{needs}
+use Rattle.service.proofs.report.report_at.Statement.{statement}
+use Rattle.service.proofs.report.report_at.Tie as tie
+
+heard-number-requires : tie.Need-heard-number-requires
+heard-number-requires c κs = search needs
+
+returns : tie.Need-returns
+unfolding reportAt
+returns c =
+    let n = c .before in
+    let a = n .before .before .before .args in
+    rw (← n .heard-number .ensures, report-refused _ (c .if1 .taken) (a .process) (a .kind) (a .reason) (a .words) (a .notice .now) (local (a .p) (a .bytes .now)))
+    (refl, (refl, (refl, refl)))
+
+report-requires : tie.Need-report-requires
+report-requires c κs = search needs
+
+notify-requires : tie.Need-notify-requires
+notify-requires c κs = search needs
+
+same-length : tie.Need-same-length
+same-length c = search needs
+
+same-length-2 : tie.Need-same-length-2
+same-length-2 c = search needs
+
+returns-2 : tie.Need-returns-2
+unfolding reportAt reportBy
+returns-2 c =
+    let n = c .before .before in
+    let r = n .before .before .before .before .before in
+    let i = r .before .before in
+    rw (sym (i .before .heard-number .ensures) ∙ i .if1 .left, ← r .report .ensures .1 .0)
+    (n .notify .ensures .0, (r .report .ensures .0, (r .report .ensures .1 .1, n .notify .ensures .1)))
+
+pub report-at-spec : {M : Type 1} → statement M
+report-at-spec =
+    tie.close
+    (tie.spec
+    heard-number-requires
+    returns
+    report-requires
+    notify-requires
+    same-length
+    same-length-2
+    returns-2)
