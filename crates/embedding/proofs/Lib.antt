@@ -1,4 +1,5 @@
 -- Laws that the proofs of this crate cite.
 pub mod SignLaws
 pub mod ShortLaws
-pub mod FormedLaws
+pub mod LentLaws
+pub mod FinishLaws

@@ -12,7 +12,7 @@ use Rattle.state.specs.Gateway.{freshStart}
 use Rattle.rules.specs.Tests.{lent}
 use Rattle.rules.specs.Step.{Stepped, requested, noted}
 use Rattle.rules.specs.Isolation.{isGranted}
-use Rattle.image.specs.Form.{stateBytes, stateOf, stateFormed}
+use Rattle.image.specs.Form.{stateBytes, stateOf, stateFormed, stateSound}
 
 -- what a call returns, and state, memory and output buffer after it
 pub record Called : Type 0 where
@@ -55,6 +55,10 @@ unformed number image memory buffer = record { result = minus number; state = im
 -- the tests 1 and 2 where the bytes are no state's
 unfoldable pub unformedNumber : List ℕ → List ℕ → ℕ
 unformedNumber memory buffer = cond (lentShort memory buffer) 1 2
+
+-- the tests 1 and 2
+unfoldable pub lentOn : List ℕ → List ℕ → List ℕ → ℕ
+lentOn image memory buffer = cond (lentShort memory buffer) 1 (cond (stateSound image) 0 2)
 
 unfoldable pub requestOn : List ℕ → List ℕ → List ℕ → List ℕ → Called
 requestOn image memory message reply =

@@ -1,15 +1,17 @@
 // The exported functions.
-use crate::result::finish;
+use crate::answer::answer;
+use crate::answer::hear;
+use crate::lent::lent_number;
 use crate::result::minus;
-use crate::result::unformed_number;
 use gateway::fresh_start;
-use gateway::report;
-use gateway::request;
 use image::put_state;
-use image::read_state;
-use image::state_formed;
+use message::Reading;
+use message::read_request;
+use service::report_away;
 use words::vector_of;
 ghost use mathlib.Core.Path.{_≡_};
+ghost use lib.ListN.{length};
+ghost use Rattle.lists.specs.Word.{vectorOf};
 ghost use Rattle.embedding.specs.Called.{requestOn, reportOn, bitsOf, startOn, startResult};
 
 fn bits(there: u8) -> [bool; 8]
@@ -53,13 +55,25 @@ pub extern "C" fn palustrode_request(
     ensures { λ _. ⌜ now (memory .exit) ≡ requestOn (now (state .entry)) (now (memory .entry)) (now (message .entry)) (now (reply .entry)) .memory ⌝ }
     ensures { λ _. ⌜ now (reply .exit) ≡ requestOn (now (state .entry)) (now (memory .entry)) (now (message .entry)) (now (reply .entry)) .buffer ⌝ }
 {
-    if !state_formed(state) {
-        return minus(unformed_number(memory, reply));
+    let number = lent_number(state, memory, reply);
+    if number != 0 {
+        return minus(number);
     }
-    let answered = request(read_state(state), memory, message, reply);
-    let outcome = answered.outcome;
-    let next = answered.state;
-    finish(outcome, next, state)
+    let reading = read_request(message);
+    match reading {
+        Reading::Message(h) => answer(h, state, memory, message, reply),
+        Reading::Refused(n) => minus(n),
+    }
+}
+
+// The nine words of 18 bytes, low byte first.
+fn words_of(words: &[u8]) -> [u16; 9]
+    requires { ⌜ length (now words) ≡ 18 ⌝ }
+    ensures { λ r. ⌜ r ≡ vectorOf (now (words .entry)) ⌝ }
+{
+    let mut vector = [0u8; 18];
+    bytes::copy(words, &mut vector);
+    vector_of(vector)
 }
 
 // A machine report; the nine words are 18 bytes, low byte first.
@@ -81,21 +95,21 @@ pub extern "C" fn palustrode_report(
     if words.len() != 18 {
         return minus(1);
     }
-    if !state_formed(state) {
-        return minus(unformed_number(memory, notice));
+    let number = lent_number(state, memory, notice);
+    if number != 0 {
+        return minus(number);
     }
-    let mut vector = [0u8; 18];
-    bytes::copy(words, &mut vector);
-    let answered = report(
-        read_state(state),
+    let away = report_away(process, kind, reason);
+    if away != 0 {
+        return minus(away);
+    }
+    hear(
+        state,
         memory,
         process,
         kind,
         reason,
-        vector_of(vector),
+        words_of(words),
         notice,
-    );
-    let outcome = answered.outcome;
-    let next = answered.state;
-    finish(outcome, next, state)
+    )
 }

@@ -1,13 +1,14 @@
 // What a call returns.
-use image::put_state;
+use image::put_process_at;
 use message::Outcome;
-use state::Gateway;
+use process::Process;
 ghost use mathlib.Core.Path.{_≡_};
 ghost use mathlib.Core.Bool.{cond};
+ghost use Prim.Native.Nat.{_<_};
 ghost use lib.ListN.{length};
 ghost use Rattle.rules.specs.Isolation.{isGranted};
-ghost use Rattle.image.specs.Form.{stateBytes};
-ghost use Rattle.embedding.specs.Called.{minus, Short, signed, unformedNumber};
+ghost use Rattle.image.specs.Form.{withProcessBytes};
+ghost use Rattle.embedding.specs.Called.{minus, Short, signed};
 
 // Minus this number.
 pub(crate) fn minus(n: u8) -> i64
@@ -16,29 +17,28 @@ pub(crate) fn minus(n: u8) -> i64
     0 - n as i64
 }
 
-// 1 where memory or output buffer has the wrong length, else 2.
-pub(crate) fn unformed_number(memory: &[u8], buffer: &[u8]) -> u8
-    ensures { λ r. ⌜ r ≡ unformedNumber (now (memory .entry)) (now (buffer .entry)) ⌝ }
+// The length granted, or minus the number of the refusal.
+pub(crate) fn signed(outcome: Outcome) -> i64
+    requires { ⌜ Short outcome ⌝ }
+    ensures { λ r. ⌜ r ≡ signed outcome ⌝ }
 {
-    if memory.len() != 32768 {
-        return 1;
+    match outcome {
+        Outcome::Granted(n) => n as i64,
+        Outcome::Refused(n) => minus(n),
     }
-    if buffer.len() < 266 {
-        return 1;
-    }
-    2
 }
 
-// The length granted, and the state after the call goes back into its bytes; or minus the number of the refusal.
-pub(crate) fn finish(outcome: Outcome, next: Gateway, state: &mut [u8]) -> i64
+// The same, and where it is granted the record of process p goes back into its bytes.
+pub(crate) fn finish(outcome: Outcome, next: Process, p: usize, image: &mut [u8]) -> i64
     requires { ⌜ Short outcome ⌝ }
-    requires { ⌜ length (now state) ≡ 680 ⌝ }
+    requires { ⌜ p < 8 ⌝ }
+    requires { ⌜ length (now image) ≡ 680 ⌝ }
     ensures { λ r. ⌜ r ≡ signed outcome ⌝ }
-    ensures { λ _. ⌜ now (state .exit) ≡ cond (isGranted outcome) (stateBytes next) (now (state .entry)) ⌝ }
+    ensures { λ _. ⌜ now (image .exit) ≡ cond (isGranted outcome) (withProcessBytes p next (now (image .entry))) (now (image .entry)) ⌝ }
 {
     match outcome {
         Outcome::Granted(n) => {
-            put_state(next, state);
+            put_process_at(next, p, image);
             n as i64
         }
         Outcome::Refused(n) => minus(n),

@@ -2,14 +2,15 @@
 use mathlib.Core.Path.{_≡_, refl, sym, ap, _∙_}
 use mathlib.Core.Bool.{Bool, true, false, _&&_}
 use mathlib.Core.List.{List, [], _∷_, _++_, append-assoc, append-nil}
-use Prim.Native.Nat.{ℕ, zero, suc, _+_, _-_, _*_, _≤_, _<_}
+use Prim.Native.Nat.{ℕ, zero, suc, _+_, _-_, _*_, _<_}
 use native.Mathlib.Numerals.{add-one}
 use native.Mathlib.Omega.{arith}
-use lib.ListN.{length, take, drop, getD, set, length-append, length-drop, drop-of-length-le}
-use lib.Seq.{take-all, take-suc, drop-cons, drop-drop, set-append-seam}
+use lib.ListN.{length, take, drop, getD, replicate, length-append, length-drop}
+use lib.Seq.{take-all, take-suc, drop-drop}
 use Rattle.lists.specs.Buffer.{overlay}
 use Rattle.lists.proofs.Buffer.{part-overlay}
-use Rattle.lists.proofs.Bool.{&&-left, &&-right, &&-both}
+use Rattle.lists.specs.Every.{every}
+use Rattle.lists.proofs.Bool.{&&-left, &&-right, &&-both, &&-pairs}
 use Rattle.image.specs.Chunk.{chunks, everyChunk, joined}
 
 module _ {A : Type 0} (w : ℕ) (f : List ℕ → A) where
@@ -18,23 +19,29 @@ module _ {A : Type 0} (w : ℕ) (f : List ℕ → A) where
   length-chunks zero m = refl
   length-chunks (suc n) m = ap suc (length-chunks n (drop w m))
 
-  -- one piece more
-  pub chunks-snoc : (k : ℕ) (m : List ℕ) → chunks w f (suc k) m ≡ chunks w f k m ++ (f (take w (drop (w * k) m)) ∷ [])
+  -- piece k
+  pub getD-chunks : (n k : ℕ) (m : List ℕ) (d : A) → k < n → getD (chunks w f n m) k d ≡ f (take w (drop (w * k) m))
   unfolding chunks
-  chunks-snoc zero m = let z : w * 0 ≡ 0 = omega arith in rw z refl
-  chunks-snoc (suc k) m =
-      let further : drop (w * k) (drop w m) ≡ drop (w * suc k) m = drop-drop (w * k) w m ∙ ap (λ (n : ℕ). drop n m) (mul-suc w k) in
-      ap (λ (l : List A). f (take w m) ∷ l) (chunks-snoc k (drop w m) ∙ ap (λ (l : List ℕ). chunks w f k (drop w m) ++ (f (take w l) ∷ [])) further)
+  getD-chunks zero k m d h = absurd (omega arith)
+  getD-chunks (suc n) zero m d h = let z : w * 0 ≡ 0 = omega arith in rw z refl
+  getD-chunks (suc n) (suc k) m d h =
+      getD-chunks n k (drop w m) d (omega arith) ∙ ap (λ (l : List ℕ). f (take w l)) (drop-drop (w * k) w m ∙ ap (λ (n : ℕ). drop n m) (further k))
     where
-      mul-suc : (a b : ℕ) → a + a * b ≡ a * suc b
-      mul-suc a b = omega arith
+      further : (k : ℕ) → w + w * k ≡ w * suc k
+      further k = omega arith
 
--- ---- filling an array
+  -- pieces that all are read as one and the same
+  pub chunks-same : (t : List ℕ → Bool) (x : A) → ((c : List ℕ) → t c ≡ true → f c ≡ x) → (n : ℕ) (m : List ℕ) → everyChunk w t n m ≡ true → chunks w f n m ≡ replicate n x
+  unfolding chunks everyChunk
+  chunks-same t x same zero m e = refl
+  chunks-same t x same (suc n) m e =
+      rw (same (take w m) (&&-left (t (take w m)) _ e), chunks-same t x same n (drop w m) (&&-right (t (take w m)) (everyChunk w t n (drop w m)) e))
 
--- one element more of an array that is filled from its start
-pub fill-step : {A : Type 0} (xs ys : List A) (k : ℕ) (x d : A) → length xs ≡ k → k < length ys → set (xs ++ drop k ys) k x ≡ (xs ++ (x ∷ [])) ++ drop (k + 1) ys
-fill-step xs ys k x d e h =
-    rw (drop-cons ys k d h, ← e, set-append-seam xs (getD ys (length xs) d) (drop (suc (length xs)) ys) x, add-one (length xs)) (sym (append-assoc xs (x ∷ []) (drop (suc (length xs)) ys)))
+  -- a test of what is read
+  pub every-read : (t : A → Bool) (n : ℕ) (m : List ℕ) → everyChunk w (λ (c : List ℕ). t (f c)) n m ≡ every t (chunks w f n m)
+  unfolding chunks everyChunk
+  every-read t zero m = refl
+  every-read t (suc n) m = ap (λ (b : Bool). t (f (take w m)) && b) (every-read t n (drop w m))
 
 -- ---- tests
 
@@ -62,6 +69,21 @@ module _ (w : ℕ) (t : List ℕ → Bool) where
       false-right true i = i
       false-right false i = refl
 
+  -- a weaker test
+  pub every-weaker : (s : List ℕ → Bool) → ((c : List ℕ) → t c ≡ true → s c ≡ true) → (n : ℕ) (m : List ℕ) → everyChunk w t n m ≡ true → everyChunk w s n m ≡ true
+  unfolding everyChunk
+  every-weaker s weaker zero m e = refl
+  every-weaker s weaker (suc n) m e =
+      &&-both (s (take w m)) (everyChunk w s n (drop w m)) (weaker (take w m) (&&-left (t (take w m)) _ e))
+      (every-weaker s weaker n (drop w m) (&&-right (t (take w m)) (everyChunk w t n (drop w m)) e))
+
+  -- two tests in one
+  pub every-both : (s u : List ℕ → Bool) → ((c : List ℕ) → u c ≡ s c && t c) → (n : ℕ) (m : List ℕ) → everyChunk w u n m ≡ everyChunk w s n m && everyChunk w t n m
+  unfolding everyChunk
+  every-both s u both zero m = refl
+  every-both s u both (suc n) m =
+      rw (both (take w m), every-both s u both n (drop w m)) (&&-pairs (s (take w m)) (t (take w m)) (everyChunk w s n (drop w m)) (everyChunk w t n (drop w m)))
+
 -- ---- writing
 
 module _ {A : Type 0} (f : A → List ℕ) where
@@ -80,19 +102,6 @@ module _ {A : Type 0} (f : A → List ℕ) where
 
 piece : (w k : ℕ) (m : List ℕ) → take (w * k + w - w * k) (drop (w * k) m) ≡ take w (drop (w * k) m)
 piece w k m = let e : w * k + w - w * k ≡ w = omega arith in rw e
-
-pub chunk-fill : {A : Type 0} (w : ℕ) (f : List ℕ → A) (m : List ℕ) (old now : List A) (k : ℕ) (r d : A) → k < length old
-    → now ≡ chunks w f k m ++ drop k old → r ≡ f (take (w * k + w - w * k) (drop (w * k) m))
-    → set now k r ≡ chunks w f (k + 1) m ++ drop (k + 1) old
-chunk-fill w f m old now k r d h e i =
-    let more = chunks-snoc w f k m in
-    rw (e, i, piece w k m, fill-step (chunks w f k m) old k (f (take w (drop (w * k) m))) d (length-chunks w f k m) h, ← more, ← add-one k)
-
-pub chunk-full : {A : Type 0} (w : ℕ) (f : List ℕ → A) (m : List ℕ) (old now : List A) (n k : ℕ) → k ≡ n → length old ≡ n
-    → now ≡ chunks w f k m ++ drop k old → now ≡ chunks w f n m
-chunk-full w f m old now n k e size i =
-    let past : length old ≤ n = omega (arith, size) in
-    i ∙ rw e (ap (λ (l : List _). chunks w f n m ++ l) (drop-of-length-le old past) ∙ append-nil (chunks w f n m))
 
 pub test-piece : (w k : ℕ) (t : List ℕ → Bool) (m : List ℕ) (b : Bool) → t (take (w * k + w - w * k) (drop (w * k) m)) ≡ b → t (take w (drop (w * k) m)) ≡ b
 test-piece w k t m b e = rw (piece w k m) at e

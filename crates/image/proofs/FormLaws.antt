@@ -1,15 +1,17 @@
 -- The lengths of the written forms. Assumes nothing.
 use mathlib.Core.Path.{_≡_, refl, ap, _∙_}
-use mathlib.Core.List.{_++_, append-assoc}
-use Prim.Native.Nat.{ℕ, _+_}
+use mathlib.Core.List.{List, [], _∷_, _++_, append-assoc}
+use Prim.Native.Nat.{ℕ, _+_, _*_, _/_, _%_, _<_}
 use native.Mathlib.Omega.{arith}
-use lib.ListN.{length, length-append}
+use lib.ListN.{length, take, drop, getD, length-append}
+use lib.Seq.{getD-drop, drop-drop}
+use Rattle.lists.specs.Buffer.{Bytes}
 use Rattle.lists.specs.Word.{lowFirst}
 use Rattle.process.specs.declared.record.Breakpoint.{Breakpoint}
 use Rattle.process.specs.declared.record.Process.{Process}
 use Rattle.process.specs.Record.{free}
-use Rattle.image.specs.Chunk.{joined}
-use Rattle.image.specs.Form.{entryBytes, headBytes, processBytes}
+use Rattle.image.specs.Chunk.{chunks, joined}
+use Rattle.image.specs.Form.{entryBytes, headBytes, processBytes, half, long, entryIn, entryOf}
 use Rattle.image.proofs.ChunkLaws.{length-joined}
 
 pub entry-long : (b : Breakpoint) → length (entryBytes b) ≡ 8
@@ -26,3 +28,50 @@ process-long p v b =
 pub process-parts : (p : Process) → (headBytes p ++ lowFirst (p .vector)) ++ joined entryBytes (p .breaks) ≡ processBytes p
 unfolding processBytes
 process-parts p = append-assoc (headBytes p) (lowFirst (p .vector)) (joined entryBytes (p .breaks))
+
+-- ---- eight bytes as a number
+
+module _ (a b c d e f g h : ℕ) (a-byte : a < 256) (b-byte : b < 256) (c-byte : c < 256) (d-byte : d < 256) (e-byte : e < 256) (f-byte : f < 256) (g-byte : g < 256) (h-byte : h < 256) where
+  abbrev number : ℕ
+  number = a + b * 256 + c * 65536 + d * 16777216 + (e + f * 256 + g * 65536 + h * 16777216) * 4294967296
+
+  used-bit : number % 2 ≡ a % 2
+  used-bit = omega arith
+
+  lifted-bit : number / 256 % 2 ≡ b % 2
+  lifted-bit = omega arith
+
+  address-word : number / 65536 % 65536 ≡ d * 256 + c
+  address-word = omega arith
+
+  count-word : number / 4294967296 % 65536 ≡ f * 256 + e
+  count-word = omega arith
+
+  low-part : number / 281474976710656 % 256 ≡ g
+  low-part = omega arith
+
+  high-part : number / 72057594037927936 % 256 ≡ h
+  high-part = omega arith
+
+-- the entry in the number of eight bytes is the entry of the bytes
+pub entry-in-long : (m : List ℕ) → Bytes m → entryIn (long m) ≡ entryOf m
+unfolding entryIn entryOf
+entry-in-long m z =
+    let behind : half (drop 4 m) ≡ getD m 4 0 + getD m 5 0 * 256 + getD m 6 0 * 65536 + getD m 7 0 * 16777216 = rw (getD-drop 4 m 0 0, getD-drop 4 m 1 0, getD-drop 4 m 2 0, getD-drop 4 m 3 0) in
+    rw (
+      behind,
+      used-bit _ _ _ _ _ _ _ _ (z 0) (z 1) (z 2) (z 3) (z 4) (z 5) (z 6) (z 7),
+      lifted-bit _ _ _ _ _ _ _ _ (z 0) (z 1) (z 2) (z 3) (z 4) (z 5) (z 6) (z 7),
+      address-word _ _ _ _ _ _ _ _ (z 0) (z 1) (z 2) (z 3) (z 4) (z 5) (z 6) (z 7),
+      count-word _ _ _ _ _ _ _ _ (z 0) (z 1) (z 2) (z 3) (z 4) (z 5) (z 6) (z 7),
+      low-part _ _ _ _ _ _ _ _ (z 0) (z 1) (z 2) (z 3) (z 4) (z 5) (z 6) (z 7),
+      high-part _ _ _ _ _ _ _ _ (z 0) (z 1) (z 2) (z 3) (z 4) (z 5) (z 6) (z 7),
+    )
+
+-- eight entries, one behind the other
+pub eight-entries : (m : List ℕ) (a b c d e f g h : Breakpoint)
+    → a ≡ entryOf (take 8 (drop 0 m)) → b ≡ entryOf (take 8 (drop 8 m)) → c ≡ entryOf (take 8 (drop 16 m)) → d ≡ entryOf (take 8 (drop 24 m))
+    → e ≡ entryOf (take 8 (drop 32 m)) → f ≡ entryOf (take 8 (drop 40 m)) → g ≡ entryOf (take 8 (drop 48 m)) → h ≡ entryOf (take 8 (drop 56 m))
+    → a ∷ b ∷ c ∷ d ∷ e ∷ f ∷ g ∷ h ∷ [] ≡ chunks 8 entryOf 8 m
+unfolding chunks
+eight-entries m a b c d e f g h pa pb pc pd pe pf pg ph = rw (pa, pb, pc, pd, pe, pf, pg, ph, drop-drop 8 8 m, drop-drop 8 16 m, drop-drop 8 24 m, drop-drop 8 32 m, drop-drop 8 40 m, drop-drop 8 48 m)

@@ -1,12 +1,12 @@
 -- The byte form and the record are each other's inverse. Assumes nothing.
 use mathlib.Core.Path.{_≡_, refl, sym, ap, _∙_}
 use mathlib.Core.Bool.{Bool, true, false, cond, _&&_}
-use mathlib.Core.List.{List, [], _∷_, _++_}
+use mathlib.Core.List.{List, [], _∷_, _++_, append-assoc}
 use Prim.Native.Nat.{ℕ, zero, suc, _+_, _*_, _<_}
 use native.Mathlib.Omega.{arith}
 use borrow.Author.Tests.{eqb-true, eq-eqb, leb-true, ltb-true, ltb-false}
-use lib.ListN.{length, take, drop, getD, length-drop, take-append-drop, List·getD-eq-default}
-use lib.Seq.{take-at, drop-at, take-all, length-take-le, getD-take, getD-drop, drop-drop}
+use lib.ListN.{length, take, drop, getD, set, length-drop, take-append-drop, List·getD-eq-default}
+use lib.Seq.{take-at, drop-at, take-all, length-take-le, getD-take, getD-drop, drop-drop, take-add}
 use lib.Dec.{eqb, leb, ltb}
 use Rattle.lists.specs.Buffer.{Bytes}
 use Rattle.lists.specs.Elements.{elements}
@@ -21,9 +21,9 @@ use Rattle.process.specs.declared.record.Breakpoint.{Breakpoint}
 use Rattle.process.specs.declared.record.Process.{Process}
 use Rattle.process.specs.Record.{free}
 use Rattle.state.specs.declared.gateway.Gateway.{Gateway}
-use Rattle.state.specs.Gateway.{nobody}
+use Rattle.state.specs.Gateway.{nobody, withProcess}
 use Rattle.image.specs.Chunk.{chunks, everyChunk, joined}
-use Rattle.image.specs.Form.{runNumber, entryBytes, processBytes, stateBytes, runOf, entryOf, processOf, stateOf, entryFormed, headFormed, processFormed, stateFormed}
+use Rattle.image.specs.Form.{flagOf, runNumber, entryBytes, processBytes, stateBytes, withProcessBytes, runOf, entryOf, processOf, stateOf, entryFormed, headFormed, processFormed, stateFormed}
 use Rattle.image.specs.Theorems.{Sized, Inverse}
 use Rattle.image.proofs.ChunkLaws.{length-joined}
 use Rattle.image.proofs.FormLaws.{entry-long, process-long}
@@ -72,9 +72,26 @@ module _ {A : Type 0} (w : ℕ) (f : List ℕ → A) (g : A → List ℕ) where
       let rest = joined-chunks t forth n (drop w m) (simp length-drop (omega (arith, size))) (bytes-drop w m b) (&&-right (t (take w m)) (everyChunk w t n (drop w m)) e) in
       rw (one, rest) (take-append-drop w m)
 
+  -- and with another in place of one
+  pub joined-with : (t : List ℕ → Bool) → ((c : List ℕ) → length c ≡ w → Bytes c → t c ≡ true → g (f c) ≡ c)
+      → (n : ℕ) (m : List ℕ) → length m ≡ w * n → Bytes m → everyChunk w t n m ≡ true → (k : ℕ) (x : A) → k < n
+      → joined g (set (chunks w f n m) k x) ≡ take (w * k) m ++ (g x ++ drop w (drop (w * k) m))
+  unfolding chunks joined everyChunk
+  joined-with t forth zero m size b e k x h = absurd (omega arith)
+  joined-with t forth (suc n) m size b e zero x h =
+      let none : w * 0 ≡ 0 = omega arith in
+      let rest = joined-chunks t forth n (drop w m) (simp length-drop (omega (arith, size))) (bytes-drop w m b) (&&-right (t (take w m)) (everyChunk w t n (drop w m)) e) in
+      rw (none, rest)
+  joined-with t forth (suc n) m size b e (suc k) x h =
+      let front : length (take w m) ≡ w = length-take-le w m (omega (arith, size)) in
+      let one = forth (take w m) front (bytes-take w m b) (&&-left (t (take w m)) _ e) in
+      let rest = joined-with t forth n (drop w m) (simp length-drop (omega (arith, size))) (bytes-drop w m b) (&&-right (t (take w m)) (everyChunk w t n (drop w m)) e) k x (omega arith) in
+      let more : w * suc k ≡ w + w * k = omega arith in
+      rw (one, rest, more, take-add w (w * k) m, drop-drop (w * k) w m) (sym (append-assoc (take w m) (take (w * k) (drop w m)) (g x ++ drop w (drop (w + w * k) m))))
+
 -- ---- flags, run states and words
 
-flag-back : (t : Bool) → eqb (cond t 1 0) 1 ≡ t
+flag-back : (t : Bool) → flagOf (cond t 1 0) ≡ t
 flag-back true = refl
 flag-back false = refl
 
@@ -82,7 +99,7 @@ flag-formed : (t : Bool) → leb (cond t 1 0) 1 ≡ true
 flag-formed true = refl
 flag-formed false = refl
 
-flag-forth : (x : ℕ) → leb x 1 ≡ true → cond (eqb x 1) 1 0 ≡ x
+flag-forth : (x : ℕ) → leb x 1 ≡ true → cond (flagOf x) 1 0 ≡ x
 flag-forth zero e = refl
 flag-forth (suc zero) e = refl
 flag-forth (suc (suc x)) e = absurd (omega (arith, leb-true (suc (suc x)) 1 e))
@@ -221,5 +238,11 @@ state-forth m b e =
     let long = eqb-true (length m) 680 (&&-left (eqb (length m) 680) _ e) in
     joined-chunks 85 processOf processBytes processFormed process-forth 8 m long b (&&-right (eqb (length m) 680) (everyChunk 85 processFormed 8 m) e)
 
+state-with : (m : List ℕ) → Bytes m → stateFormed m ≡ true → (p : ℕ) (q : Process) → p < 8 → stateBytes (withProcess p q (stateOf m)) ≡ withProcessBytes p q m
+unfolding stateFormed stateBytes stateOf withProcessBytes
+state-with m b e p q h =
+    let long = eqb-true (length m) 680 (&&-left (eqb (length m) 680) _ e) in
+    joined-with 85 processOf processBytes processFormed process-forth 8 m long b (&&-right (eqb (length m) 680) (everyChunk 85 processFormed 8 m) e) p q h
+
 pub inverse : Inverse
-inverse = record { written-is-read = state-back; written-is-formed = state-formed; read-is-written = state-forth }
+inverse = record { written-is-read = state-back; written-is-formed = state-formed; read-is-written = state-forth; put-is-with = state-with }

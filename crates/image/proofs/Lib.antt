@@ -2,3 +2,5 @@
 pub mod ChunkLaws
 pub mod FormLaws
 pub mod InverseLaws
+pub mod PlaceLaws
+pub mod SoundLaws

@@ -1,15 +1,18 @@
 -- The 680 bytes of a state: 85 for each process, and of these 8 for each of its entries.
-use mathlib.Core.Bool.{Bool, cond, _&&_}
+use mathlib.Core.Bool.{Bool, cond, not, _&&_, _||_}
 use mathlib.Core.List.{List, [], _∷_, _++_}
-use Prim.Native.Nat.{ℕ}
+use Prim.Native.Nat.{ℕ, _+_, _*_, _/_, _%_}
 use lib.ListN.{length, take, drop, getD}
 use lib.Dec.{eqb, leb}
+use Rattle.lists.specs.First.{first}
 use Rattle.lists.specs.Word.{high, low, word, lowFirst, vectorOf}
 use Rattle.process.specs.declared.record.Run.{Run}
 use Rattle.process.specs.declared.record.Run.the-variants.{Running, Stepping, Stopped, AtBreak, Ended}
 use Rattle.process.specs.declared.record.Breakpoint.{Breakpoint}
 use Rattle.process.specs.declared.record.Process.{Process}
+use Rattle.process.specs.Sound.{soundTest as soundProcess}
 use Rattle.state.specs.declared.gateway.Gateway.{Gateway}
+use Rattle.state.specs.Gateway.{soundTest}
 use Rattle.image.specs.Chunk.{chunks, everyChunk, joined}
 
 -- ---- writing
@@ -49,15 +52,23 @@ processBytes p = headBytes p ++ (lowFirst (p .vector) ++ joined entryBytes (p .b
 unfoldable pub stateBytes : Gateway → List ℕ
 stateBytes g = joined processBytes (g .processes)
 
+-- the bytes of a state with those of another record of process p
+unfoldable pub withProcessBytes : ℕ → Process → List ℕ → List ℕ
+withProcessBytes p q m = take (85 * p) m ++ (processBytes q ++ drop 85 (drop (85 * p) m))
+
 -- ---- reading
 
 unfoldable pub runOf : ℕ → Run
 runOf n = cond (eqb n 1) Stepping (cond (eqb n 2) Stopped (cond (eqb n 3) AtBreak (cond (eqb n 4) Ended Running)))
 
+-- a flag is read by its lowest bit; that its byte is 0 or 1 is tested
+abbrev pub flagOf : ℕ → Bool
+flagOf n = eqb (n % 2) 1
+
 unfoldable pub entryOf : List ℕ → Breakpoint
 entryOf m = record {
-  used = eqb (getD m 0 0) 1;
-  lifted = eqb (getD m 1 0) 1;
+  used = flagOf (getD m 0 0);
+  lifted = flagOf (getD m 1 0);
   address = word (getD m 3 0) (getD m 2 0);
   count = word (getD m 5 0) (getD m 4 0);
   low = getD m 6 0;
@@ -66,7 +77,7 @@ entryOf m = record {
 
 unfoldable pub processOf : List ℕ → Process
 processOf m = record {
-  there = eqb (getD m 0 0) 1;
+  there = flagOf (getD m 0 0);
   host = getD m 1 0;
   run = runOf (getD m 2 0);
   vector = vectorOf (take 18 (drop 3 m));
@@ -75,6 +86,25 @@ processOf m = record {
 
 unfoldable pub stateOf : List ℕ → Gateway
 stateOf m = record { processes = chunks 85 processOf 8 m }
+
+-- four bytes as a number
+abbrev pub half : List ℕ → ℕ
+half m = getD m 0 0 + getD m 1 0 * 256 + getD m 2 0 * 65536 + getD m 3 0 * 16777216
+
+-- eight bytes as a number
+abbrev pub long : List ℕ → ℕ
+long m = half m + half (drop 4 m) * 4294967296
+
+-- the entry whose eight bytes are this number
+unfoldable pub entryIn : ℕ → Breakpoint
+entryIn w = record {
+  used = flagOf w;
+  lifted = flagOf (w / 256);
+  address = w / 65536 % 65536;
+  count = w / 4294967296 % 65536;
+  low = w / 281474976710656 % 256;
+  high = w / 72057594037927936 % 256;
+}
 
 -- ---- bytes that are a state's
 
@@ -92,3 +122,31 @@ processFormed m = headFormed m && everyChunk 8 entryFormed 8 (drop 21 m)
 -- 680 bytes, and each flag and run state is one
 unfoldable pub stateFormed : List ℕ → Bool
 stateFormed m = eqb (length m) 680 && everyChunk 85 processFormed 8 m
+
+-- ---- and of a sound state
+
+-- the process is there, or has no host
+unfoldable pub headHosted : List ℕ → Bool
+headHosted m = flagOf (getD m 0 0) || eqb (getD m 1 0) 0
+
+-- the eight bytes of an entry are 0
+unfoldable pub entryZero : List ℕ → Bool
+entryZero m = eqb (long m) 0
+
+-- the flags of the entries are 0 or 1, and the record is sound
+unfoldable pub entriesSound : List ℕ → Bool
+entriesSound m = everyChunk 8 entryFormed 8 (drop 21 m) && soundProcess (processOf m)
+
+-- the bytes of a process are those of a sound record
+unfoldable pub processSound : List ℕ → Bool
+processSound m = processFormed m && soundProcess (processOf m)
+
+-- the bytes are those of a sound state
+unfoldable pub stateSound : List ℕ → Bool
+stateSound m = stateFormed m && soundTest (stateOf m)
+
+-- ---- the processes that are there
+
+-- the lowest number of a process that is not there, or 8
+abbrev pub lowestAbsentIn : List ℕ → ℕ
+lowestAbsentIn m = first (λ (q : Process). not (q .there)) (stateOf m .processes)

@@ -5,11 +5,10 @@ use mathlib.Core.List.{List}
 use Prim.Native.Nat.{ℕ, _<_}
 use lib.ListN.{length}
 use Rattle.lists.specs.Buffer.{Bytes}
-use Rattle.process.specs.declared.record.Breakpoint.{Breakpoint}
-use Rattle.process.specs.Record.{entry}
+use Rattle.process.specs.declared.record.Process.{Process}
 use Rattle.state.specs.declared.gateway.Gateway.{Gateway}
-use Rattle.state.specs.Gateway.{processAt}
-use Rattle.image.specs.Form.{stateBytes, stateOf, stateFormed}
+use Rattle.state.specs.Gateway.{processAt, withProcess}
+use Rattle.image.specs.Form.{stateBytes, withProcessBytes, stateOf, stateFormed}
 
 -- the arrays of a state have the sizes of the code's types
 pub record Sized (g : Gateway) : Type 0 where
@@ -23,3 +22,6 @@ pub record Inverse : Type 0 where
   pub written-is-formed : (g : Gateway) → Sized g → stateFormed (stateBytes g) ≡ true
   -- and only they are
   pub read-is-written : (m : List ℕ) → Bytes m → stateFormed m ≡ true → stateBytes (stateOf m) ≡ m
+  -- a record that is put into the bytes of a state is put into the state
+  pub put-is-with : (m : List ℕ) → Bytes m → stateFormed m ≡ true → (p : ℕ) (q : Process) → p < 8
+      → stateBytes (withProcess p q (stateOf m)) ≡ withProcessBytes p q m

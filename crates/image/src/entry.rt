@@ -2,13 +2,13 @@
 use process::Breakpoint;
 use words::high_byte;
 use words::low_byte;
-use words::word_of;
 ghost use mathlib.Core.Path.{_≡_};
-ghost use Prim.Native.Nat.{_≤_};
-ghost use lib.ListN.{length};
+ghost use Prim.Native.Nat.{_≤_, _<_};
+ghost use lib.ListN.{length, getD};
 ghost use Rattle.lists.specs.Buffer.{overlay};
 ghost use Rattle.image.specs.Chunk.{chunks, everyChunk, joined};
-ghost use Rattle.image.specs.Form.{flag, entryBytes, entryOf, entryFormed};
+ghost use Rattle.process.specs.Record.{free};
+ghost use Rattle.image.specs.Form.{flag, half, long, entryBytes, entryIn, entryOf, entryFormed, entryZero};
 
 pub(crate) fn flag(t: bool) -> u8
     ensures { λ r. ⌜ r ≡ flag t ⌝ }
@@ -16,32 +16,58 @@ pub(crate) fn flag(t: bool) -> u8
     if t { 1 } else { 0 }
 }
 
+// Four bytes as a number, low byte first.
+fn half(bytes: &[u8]) -> u32
+    requires { ⌜ 4 ≤ length (now bytes) ⌝ }
+    ensures { λ r. ⌜ r ≡ half (now (bytes .entry)) ⌝ }
+{
+    bytes[0] as u32 + bytes[1] as u32 * 256 + bytes[2] as u32 * 65536 + bytes[3] as u32 * 16777216
+}
+
+// Eight bytes as a number: one load of the machine.
+fn long(bytes: &[u8]) -> u64
+    requires { ⌜ 8 ≤ length (now bytes) ⌝ }
+    ensures { λ r. ⌜ r ≡ long (now (bytes .entry)) ⌝ }
+{
+    let low = half(bytes);
+    let high = half(&bytes[4..]);
+    low as u64 + high as u64 * 4294967296
+}
+
+fn entry_in(w: u64) -> Breakpoint
+    ensures { λ r. ⌜ r ≡ entryIn w ⌝ }
+{
+    Breakpoint {
+        used: w % 2 == 1,
+        lifted: w / 256 % 2 == 1,
+        address: (w / 65536 % 65536) as u16,
+        count: (w / 4294967296 % 65536) as u16,
+        low: (w / 281474976710656 % 256) as u8,
+        high: (w / 72057594037927936 % 256) as u8,
+    }
+}
+
 pub(crate) fn read_entry(bytes: &[u8]) -> Breakpoint
     requires { ⌜ 8 ≤ length (now bytes) ⌝ }
     ensures { λ r. ⌜ r ≡ entryOf (now (bytes .entry)) ⌝ }
 {
-    Breakpoint {
-        used: bytes[0] == 1,
-        lifted: bytes[1] == 1,
-        address: word_of(bytes[3], bytes[2]),
-        count: word_of(bytes[5], bytes[4]),
-        low: bytes[6],
-        high: bytes[7],
-    }
+    entry_in(long(bytes))
 }
 
-pub(crate) fn put_entry(b: Breakpoint, bytes: &mut [u8])
+// Entry k, from its fields where they lie.
+fn put_entry(entries: [Breakpoint; 8], k: usize, bytes: &mut [u8])
+    requires { ⌜ k < 8 ⌝ }
     requires { ⌜ 8 ≤ length (now bytes) ⌝ }
-    ensures { λ _. ⌜ now (bytes .exit) ≡ overlay (entryBytes b) (now (bytes .entry)) ⌝ }
+    ensures { λ _. ⌜ now (bytes .exit) ≡ overlay (entryBytes (getD entries k free)) (now (bytes .entry)) ⌝ }
 {
-    bytes[0] = flag(b.used);
-    bytes[1] = flag(b.lifted);
-    bytes[2] = low_byte(b.address);
-    bytes[3] = high_byte(b.address);
-    bytes[4] = low_byte(b.count);
-    bytes[5] = high_byte(b.count);
-    bytes[6] = b.low;
-    bytes[7] = b.high;
+    bytes[0] = flag(entries[k].used);
+    bytes[1] = flag(entries[k].lifted);
+    bytes[2] = low_byte(entries[k].address);
+    bytes[3] = high_byte(entries[k].address);
+    bytes[4] = low_byte(entries[k].count);
+    bytes[5] = high_byte(entries[k].count);
+    bytes[6] = entries[k].low;
+    bytes[7] = entries[k].high;
 }
 
 // Both flags are 0 or 1.
@@ -57,16 +83,16 @@ pub(crate) fn read_entries(bytes: &[u8]) -> [Breakpoint; 8]
     requires { ⌜ 64 ≤ length (now bytes) ⌝ }
     ensures { λ r. ⌜ r ≡ chunks 8 entryOf 8 (now (bytes .entry)) ⌝ }
 {
-    let first = read_entry(bytes);
-    let mut entries = [first; 8];
-    let mut k = 0;
-    while k < 8 {
-        let at = 8 * k;
-        let end = at + 8;
-        entries[k] = read_entry(&bytes[at..end]);
-        k += 1;
-    }
-    entries
+    [
+        read_entry(&bytes[0..8]),
+        read_entry(&bytes[8..16]),
+        read_entry(&bytes[16..24]),
+        read_entry(&bytes[24..32]),
+        read_entry(&bytes[32..40]),
+        read_entry(&bytes[40..48]),
+        read_entry(&bytes[48..56]),
+        read_entry(&bytes[56..64]),
+    ]
 }
 
 pub(crate) fn put_entries(entries: [Breakpoint; 8], bytes: &mut [u8])
@@ -75,9 +101,8 @@ pub(crate) fn put_entries(entries: [Breakpoint; 8], bytes: &mut [u8])
 {
     let mut k = 0;
     while k < 8 {
-        let b = entries[k];
         let at = 8 * k;
-        put_entry(b, &mut bytes[at..]);
+        put_entry(entries, k, &mut bytes[at..]);
         k += 1;
     }
 }
@@ -91,6 +116,23 @@ pub(crate) fn entries_formed(bytes: &[u8]) -> bool
         let at = 8 * k;
         let end = at + 8;
         if !entry_formed(&bytes[at..end]) {
+            return false;
+        }
+        k += 1;
+    }
+    true
+}
+
+// All eight entries are zero bytes.
+pub(crate) fn entries_zero(bytes: &[u8]) -> bool
+    requires { ⌜ 64 ≤ length (now bytes) ⌝ }
+    ensures { λ r. ⌜ r ≡ everyChunk 8 entryZero 8 (now (bytes .entry)) ⌝ }
+{
+    let mut k = 0;
+    while k < 8 {
+        let at = 8 * k;
+        let end = at + 8;
+        if long(&bytes[at..end]) != 0 {
             return false;
         }
         k += 1;

@@ -13,10 +13,14 @@
 //             6, 7     the saved word, as it stood in memory
 mod entry;
 mod head;
+mod place;
 mod process_form;
+mod sound;
 mod state_form;
 pub mod theorems;
 
+pub use place::lowest_absent;
+pub use place::put_process_at;
+pub use place::read_process_at;
+pub use sound::state_sound;
 pub use state_form::put_state;
-pub use state_form::read_state;
-pub use state_form::state_formed;

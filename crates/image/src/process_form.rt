@@ -1,5 +1,4 @@
 // The 85 bytes of a process.
-use crate::entry::entries_formed;
 use crate::entry::flag;
 use crate::entry::put_entries;
 use crate::entry::read_entries;
@@ -7,25 +6,41 @@ use crate::head::run_number;
 use crate::head::run_of;
 use process::Process;
 use words::vector_bytes;
-use words::vector_of;
+use words::word_of;
 ghost use mathlib.Core.Path.{_≡_};
 ghost use Prim.Native.Nat.{_≤_};
 ghost use lib.ListN.{length};
 ghost use Rattle.lists.specs.Buffer.{overlay};
-ghost use Rattle.lists.specs.Word.{lowFirst};
-ghost use Rattle.image.specs.Form.{headBytes, processBytes, processOf, headFormed, processFormed};
+ghost use Rattle.lists.specs.Word.{lowFirst, vectorOf};
+ghost use Rattle.image.specs.Form.{headBytes, processBytes, processOf, headFormed};
+
+// The nine words.
+fn read_vector(bytes: &[u8]) -> [u16; 9]
+    requires { ⌜ 18 ≤ length (now bytes) ⌝ }
+    ensures { λ r. ⌜ r ≡ vectorOf (now (bytes .entry)) ⌝ }
+{
+    [
+        word_of(bytes[1], bytes[0]),
+        word_of(bytes[3], bytes[2]),
+        word_of(bytes[5], bytes[4]),
+        word_of(bytes[7], bytes[6]),
+        word_of(bytes[9], bytes[8]),
+        word_of(bytes[11], bytes[10]),
+        word_of(bytes[13], bytes[12]),
+        word_of(bytes[15], bytes[14]),
+        word_of(bytes[17], bytes[16]),
+    ]
+}
 
 pub(crate) fn read_process(image: &[u8]) -> Process
     requires { ⌜ 85 ≤ length (now image) ⌝ }
     ensures { λ r. ⌜ r ≡ processOf (now (image .entry)) ⌝ }
 {
-    let mut words = [0u8; 18];
-    bytes::copy(&image[3..21], &mut words);
-    let vector = vector_of(words);
+    let vector = read_vector(&image[3..21]);
     let breaks = read_entries(&image[21..]);
     let run = run_of(image[2]);
     Process {
-        there: image[0] == 1,
+        there: image[0] % 2 == 1,
         host: image[1],
         run: run,
         vector: vector,
@@ -66,19 +81,9 @@ pub(crate) fn put_process(p: Process, image: &mut [u8])
 }
 
 // The flag is 0 or 1, and the run state one of the five.
-fn head_formed(image: &[u8]) -> bool
+pub(crate) fn head_formed(image: &[u8]) -> bool
     requires { ⌜ 3 ≤ length (now image) ⌝ }
     ensures { λ r. ⌜ r ≡ headFormed (now (image .entry)) ⌝ }
 {
     image[0] <= 1 && image[2] <= 4
-}
-
-pub(crate) fn process_formed(image: &[u8]) -> bool
-    requires { ⌜ 85 ≤ length (now image) ⌝ }
-    ensures { λ r. ⌜ r ≡ processFormed (now (image .entry)) ⌝ }
-{
-    if !head_formed(image) {
-        return false;
-    }
-    entries_formed(&image[21..])
 }

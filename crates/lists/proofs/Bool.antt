@@ -1,6 +1,6 @@
 -- Laws of tests that are joined. Assumes nothing.
 use mathlib.Core.Path.{_≡_, refl, sym}
-use mathlib.Core.Bool.{Bool, true, false, not, _&&_, _||_}
+use mathlib.Core.Bool.{Bool, true, false, _&&_, _||_}
 
 -- both of two tests that hold together
 pub &&-left : (a b : Bool) → a && b ≡ true → a ≡ true
@@ -28,3 +28,16 @@ pub ||-right : (a b : Bool) → a || b ≡ false → b ≡ false
 ||-right false b e = e
 ||-right true true e = e
 ||-right true false e = refl
+
+-- two tests that hold of the same are one
+pub same-truth : (a b : Bool) → (a ≡ true → b ≡ true) → (b ≡ true → a ≡ true) → a ≡ b
+same-truth true b f g = sym (f refl)
+same-truth false true f g = g refl
+same-truth false false f g = refl
+
+-- two pairs of tests, paired the other way
+pub &&-pairs : (a b c d : Bool) → (a && b) && (c && d) ≡ (a && c) && (b && d)
+&&-pairs true true c d = refl
+&&-pairs true false true d = refl
+&&-pairs true false false d = refl
+&&-pairs false b c d = refl

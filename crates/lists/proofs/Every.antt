@@ -9,13 +9,18 @@ use native.Mathlib.Numerals.{add-one}
 use native.Mathlib.Omega.{arith}
 use lib.ListN.{length, getD}
 use Rattle.lists.specs.Every.{every, below}
-use Rattle.lists.proofs.Bool.{&&-left, &&-right}
+use Rattle.lists.proofs.Bool.{&&-left, &&-right, &&-both, same-truth}
 
 -- the rule of a table, from one test that is computed over all of it
 pub every-getD : {A : Type 0} (p : A → Bool) (xs : List A) (d : A) (k : ℕ) → every p xs ≡ true → k < length xs → p (getD xs k d) ≡ true
 every-getD p [] d k e h = absurd (not-suc-le-zero h)
 every-getD p (x ∷ xs) d zero e h = &&-left (p x) (every p xs) e
 every-getD p (x ∷ xs) d (suc k) e h = every-getD p xs d k (&&-right (p x) (every p xs) e) (omega arith)
+
+-- and the test, from the rule
+pub every-all : {A : Type 0} (p : A → Bool) (xs : List A) (d : A) → ((k : ℕ) → k < length xs → p (getD xs k d) ≡ true) → every p xs ≡ true
+every-all p [] d h = refl
+every-all p (x ∷ xs) d h = &&-both (p x) (every p xs) (h 0 (omega arith)) (every-all p xs d (λ k l. h (suc k) (omega arith)))
 
 -- what a test of every number below n says of each of them
 pub below-at : (f : ℕ → Bool) (n k : ℕ) → k < n → below f n ≡ true → f k ≡ true
@@ -38,3 +43,10 @@ below-fails f n k h e = go (below f n) refl
     go : (t : Bool) → below f n ≡ t → t ≡ false
     go true q = sym (below-at f n k h q) ∙ e
     go false q = refl
+
+-- a test of every element, by their indices
+pub every-below : {A : Type 0} (p : A → Bool) (xs : List A) (d : A) → every p xs ≡ below (λ (k : ℕ). p (getD xs k d)) (length xs)
+every-below p xs d =
+    same-truth (every p xs) (below (λ (k : ℕ). p (getD xs k d)) (length xs))
+    (λ e. below-all (λ (k : ℕ). p (getD xs k d)) (length xs) (λ k h. every-getD p xs d k e h))
+    (λ e. every-all p xs d (λ k h. below-at (λ (i : ℕ). p (getD xs i d)) (length xs) k h e))

@@ -1,27 +1,24 @@
 -- `embedding::result::finish` meets its contract, by the outcome. Assumes nothing.
 use mathlib.Core.Path.{_≡_, refl, _∙_, subst}
-use native.Mathlib.Omega.{arith}
-use borrow.Author.Needs.{needs}
-use Rattle.lists.proofs.Buffer.{overlay-all}
 use Rattle.rules.specs.Isolation.{isGranted}
-use Rattle.image.specs.Form.{stateBytes}
 use Rattle.embedding.specs.Called.{Short, signed}
 use Rattle.embedding.proofs.SignLaws.{signed-small, small-fits}
 use mir.Syntax.{w64}
 use mir.Val.{toZ, ofZ}
+use borrow.Author.Needs.{needs}
 use Rattle.embedding.proofs.result.finish.Statement.{statement}
 use Rattle.embedding.proofs.result.finish.Tie as tie
 
 enum-known-outcome : tie.Need-enum-known-outcome
 enum-known-outcome c = search needs
 
-put-state-requires : tie.Need-put-state-requires
-put-state-requires c κs = search needs
+put-process-at-requires : tie.Need-put-process-at-requires
+put-process-at-requires c κs = search needs
 
 cast-result : tie.Need-cast-result
 cast-result c =
     let o = c .before .before .before .before .before in
-    let s = c .before .before .before .before .before .before .before .before in
+    let s = o .before .before .before in
     small-fits _ (subst Short (o .outcome .given .1) (s .pre .0))
 
 enum-known-outcome-2 : tie.Need-enum-known-outcome-2
@@ -38,10 +35,8 @@ unfolding signed isGranted
 returns c =
     let w = c .before .before in
     let o = c .before .before .before .before .before in
-    let s = c .before .before .before .before .before .before .before .before in
-    let a = s .args in
-    let size = s .pre .1 in
-    rw (o .outcome .given .1) (signed-small _ (subst Short (o .outcome .given .1) (s .pre .0)), w .put-state .ensures .1 ∙ overlay-all (stateBytes (a .next)) (a .state .now) (omega (arith, w .put-state .ensures .0, size)))
+    let s = o .before .before .before in
+    rw (o .outcome .given .1) (signed-small _ (subst Short (o .outcome .given .1) (s .pre .0)), w .put-process-at .ensures)
 
 returns-2 : tie.Need-returns-2
 unfolding signed isGranted
@@ -55,7 +50,7 @@ finish-spec =
     tie.close
     (tie.spec
     enum-known-outcome
-    put-state-requires
+    put-process-at-requires
     cast-result
     enum-known-outcome-2
     minus-requires

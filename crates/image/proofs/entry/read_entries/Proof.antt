@@ -1,94 +1,152 @@
--- `image::entry::read_entries` meets its contract. The loop's invariant: the entries passed are read. Assumes nothing.
-use mathlib.Core.Path.{_≡_, refl}
-use mathlib.Core.List.{_++_}
-use Prim.Native.Nat.{_+_, _-_, _*_, _≤_}
+-- `image::entry::read_entries` meets its contract, entry by entry. Assumes nothing.
 use native.Mathlib.Omega.{arith}
+use Rattle.image.proofs.FormLaws.{eight-entries}
 use borrow.Author.Needs.{needs}
-use lib.ListN.{length, drop, length-drop}
-use lib.Seq.{length-take-le}
-use Rattle.process.specs.Record.{free}
-use Rattle.image.specs.Form.{entryOf}
-use Rattle.image.specs.Chunk.{chunks}
-use Rattle.image.proofs.ChunkLaws.{chunk-fill, chunk-full}
 use Rattle.image.proofs.entry.read_entries.Statement.{statement}
 use Rattle.image.proofs.entry.read_entries.Tie as tie
 
-abbrev Inv-loop : tie.InvT-loop
-Inv-loop bytes entries₀ k₀ entries k = (k ≤ 8) × (length entries₀ ≡ 8) × (entries ≡ chunks 8 entryOf k bytes ++ drop k entries₀)
+sub-read-entry : tie.Need-sub-read-entry
+sub-read-entry c = search needs
 
-abbrev μ-loop : tie.MeasureT-loop
-μ-loop bytes entries₀ k₀ entries k = 8 - k
-
-read-entry-requires : tie.Need-read-entry-requires Inv-loop μ-loop
-read-entry-requires c κs = omega (arith, c .before .pre)
-
-loop-holds : tie.Need-loop-holds Inv-loop μ-loop
-unfolding chunks
-loop-holds c = (omega arith, refl, refl)
-
-mul-at : tie.Need-mul-at Inv-loop μ-loop
-mul-at c = omega arith
-
-add-end : tie.Need-add-end Inv-loop μ-loop
-add-end c = omega arith
-
-sub-read-entry : tie.Need-sub-read-entry Inv-loop μ-loop
-sub-read-entry c = omega arith
-
-part-read-entry-start : tie.Need-part-read-entry-start Inv-loop μ-loop
+part-read-entry-start : tie.Need-part-read-entry-start
 part-read-entry-start c = search needs
 
-part-read-entry-end : tie.Need-part-read-entry-end Inv-loop μ-loop
-part-read-entry-end c = omega arith
+part-read-entry-end : tie.Need-part-read-entry-end
+part-read-entry-end c = search needs
 
-read-entry-requires-2 : tie.Need-read-entry-requires-2 Inv-loop μ-loop
-read-entry-requires-2 c κs =
-    let l = c .before .before in
-    let s = l .before .before .before in
-    let e : 8 * l .loop .k + 8 - 8 * l .loop .k ≡ 8 = omega arith in
-    rw e (omega (arith, length-take-le 8 (drop (8 * l .loop .k) (s .args .bytes .now)) (simp length-drop (omega (arith, s .pre)))))
+read-entry-requires : tie.Need-read-entry-requires
+read-entry-requires c κs = search needs
 
-mul-entries : tie.Need-mul-entries Inv-loop μ-loop
-mul-entries c = search needs
+sub-read-entry-2 : tie.Need-sub-read-entry-2
+sub-read-entry-2 c = search needs
 
-array-set-from-entries : tie.Need-array-set-from-entries Inv-loop μ-loop
-array-set-from-entries c = omega arith
+part-read-entry-start-2 : tie.Need-part-read-entry-start-2
+part-read-entry-start-2 c = search needs
 
-add-k : tie.Need-add-k Inv-loop μ-loop
-add-k c = omega arith
+part-read-entry-end-2 : tie.Need-part-read-entry-end-2
+part-read-entry-end-2 c = search needs
 
-loop-less : tie.Need-loop-less Inv-loop μ-loop
-loop-less c = omega arith
+read-entry-requires-2 : tie.Need-read-entry-requires-2
+read-entry-requires-2 c κs = search needs
 
-loop-again : tie.Need-loop-again Inv-loop μ-loop
-loop-again c =
-    let l = c .before .before .before in
-    let a = l .before .before .before .args in
-    (omega arith, l .loop .inv .1, chunk-fill 8 entryOf (a .bytes .now) _ (l .loop .entries) (l .loop .k) (c .read-entry2 .result) free (omega arith) (l .loop .inv .2) (c .read-entry2 .ensures))
+sub-read-entry-3 : tie.Need-sub-read-entry-3
+sub-read-entry-3 c = search needs
 
-returns : tie.Need-returns Inv-loop μ-loop
+part-read-entry-start-3 : tie.Need-part-read-entry-start-3
+part-read-entry-start-3 c = search needs
+
+part-read-entry-end-3 : tie.Need-part-read-entry-end-3
+part-read-entry-end-3 c = search needs
+
+read-entry-requires-3 : tie.Need-read-entry-requires-3
+read-entry-requires-3 c κs = search needs
+
+sub-read-entry-4 : tie.Need-sub-read-entry-4
+sub-read-entry-4 c = search needs
+
+part-read-entry-start-4 : tie.Need-part-read-entry-start-4
+part-read-entry-start-4 c = search needs
+
+part-read-entry-end-4 : tie.Need-part-read-entry-end-4
+part-read-entry-end-4 c = search needs
+
+read-entry-requires-4 : tie.Need-read-entry-requires-4
+read-entry-requires-4 c κs = search needs
+
+sub-read-entry-5 : tie.Need-sub-read-entry-5
+sub-read-entry-5 c = search needs
+
+part-read-entry-start-5 : tie.Need-part-read-entry-start-5
+part-read-entry-start-5 c = search needs
+
+part-read-entry-end-5 : tie.Need-part-read-entry-end-5
+part-read-entry-end-5 c = search needs
+
+read-entry-requires-5 : tie.Need-read-entry-requires-5
+read-entry-requires-5 c κs = search needs
+
+sub-read-entry-6 : tie.Need-sub-read-entry-6
+sub-read-entry-6 c = search needs
+
+part-read-entry-start-6 : tie.Need-part-read-entry-start-6
+part-read-entry-start-6 c = search needs
+
+part-read-entry-end-6 : tie.Need-part-read-entry-end-6
+part-read-entry-end-6 c = search needs
+
+read-entry-requires-6 : tie.Need-read-entry-requires-6
+read-entry-requires-6 c κs = search needs
+
+sub-read-entry-7 : tie.Need-sub-read-entry-7
+sub-read-entry-7 c = search needs
+
+part-read-entry-start-7 : tie.Need-part-read-entry-start-7
+part-read-entry-start-7 c = search needs
+
+part-read-entry-end-7 : tie.Need-part-read-entry-end-7
+part-read-entry-end-7 c = search needs
+
+read-entry-requires-7 : tie.Need-read-entry-requires-7
+read-entry-requires-7 c κs = search needs
+
+sub-read-entry-8 : tie.Need-sub-read-entry-8
+sub-read-entry-8 c = search needs
+
+part-read-entry-start-8 : tie.Need-part-read-entry-start-8
+part-read-entry-start-8 c = search needs
+
+part-read-entry-end-8 : tie.Need-part-read-entry-end-8
+part-read-entry-end-8 c = let s = c .before .before .before .before .before .before .before .before .before .before .before .before .before .before .before in omega (arith, s .pre)
+
+read-entry-requires-8 : tie.Need-read-entry-requires-8
+read-entry-requires-8 c κs = search needs
+
+returns : tie.Need-returns
 returns c =
-    let l = c .before in
-    let a = l .before .before .before .args in
-    chunk-full 8 entryOf (a .bytes .now) _ (l .loop .entries) 8 (l .loop .k) (omega arith) (l .loop .inv .1) (l .loop .inv .2)
+    let e8 = c in
+    let e7 = e8 .before .before in
+    let e6 = e7 .before .before in
+    let e5 = e6 .before .before in
+    let e4 = e5 .before .before in
+    let e3 = e4 .before .before in
+    let e2 = e3 .before .before in
+    let e1 = e2 .before .before in
+    eight-entries (e1 .before .before .before .args .bytes .now) _ _ _ _ _ _ _ _ (e1 .read-entry .ensures) (e2 .read-entry2 .ensures) (e3 .read-entry3 .ensures) (e4 .read-entry4 .ensures) (e5 .read-entry5 .ensures) (e6 .read-entry6 .ensures) (e7 .read-entry7 .ensures) (e8 .read-entry8 .ensures)
 
 pub read-entries-spec : {M : Type 1} → statement M
 read-entries-spec =
     tie.close
     (tie.spec
-    Inv-loop
-    μ-loop
-    read-entry-requires
-    loop-holds
-    mul-at
-    add-end
     sub-read-entry
     part-read-entry-start
     part-read-entry-end
+    read-entry-requires
+    sub-read-entry-2
+    part-read-entry-start-2
+    part-read-entry-end-2
     read-entry-requires-2
-    mul-entries
-    array-set-from-entries
-    add-k
-    loop-less
-    loop-again
+    sub-read-entry-3
+    part-read-entry-start-3
+    part-read-entry-end-3
+    read-entry-requires-3
+    sub-read-entry-4
+    part-read-entry-start-4
+    part-read-entry-end-4
+    read-entry-requires-4
+    sub-read-entry-5
+    part-read-entry-start-5
+    part-read-entry-end-5
+    read-entry-requires-5
+    sub-read-entry-6
+    part-read-entry-start-6
+    part-read-entry-end-6
+    read-entry-requires-6
+    sub-read-entry-7
+    part-read-entry-start-7
+    part-read-entry-end-7
+    read-entry-requires-7
+    sub-read-entry-8
+    part-read-entry-start-8
+    part-read-entry-end-8
+    read-entry-requires-8
     returns)

@@ -1,27 +1,28 @@
--- `image::state_form::state_formed` meets its contract. The loop's invariant: the processes passed are formed. Assumes nothing.
+-- `image::sound::state_sound` meets its contract. The loop's invariant: the processes passed are formed and sound. Assumes nothing.
 use mathlib.Core.Path.{_≡_, refl, sym, _∙_}
 use mathlib.Core.Bool.{true, false}
 use Prim.Native.Nat.{_+_, _-_, _*_, _≤_}
 use native.Mathlib.Omega.{arith}
 use native.Mathlib.Numerals.{add-one}
-use borrow.Author.Tests.{eq-eqb, ne-eqb, not-true, not-false}
+use borrow.Author.Tests.{ne-eqb, not-true, not-false}
 use borrow.Author.Needs.{needs}
 use lib.ListN.{length, drop, length-drop}
 use lib.Seq.{length-take-le}
-use Rattle.image.specs.Form.{processFormed, stateFormed}
+use Rattle.image.specs.Form.{processSound, stateFormed, stateSound}
 use Rattle.image.specs.Chunk.{everyChunk}
 use Rattle.image.proofs.ChunkLaws.{test-piece, every-snoc, every-fails}
-use Rattle.image.proofs.state_form.state_formed.Statement.{statement}
-use Rattle.image.proofs.state_form.state_formed.Tie as tie
+use Rattle.image.proofs.SoundLaws.{each-sound}
+use Rattle.image.proofs.sound.state_sound.Statement.{statement}
+use Rattle.image.proofs.sound.state_sound.Tie as tie
 
 abbrev Inv-loop : tie.InvT-loop
-Inv-loop image p₀ p = (p ≤ 8) × (length image ≡ 680) × (everyChunk 85 processFormed p image ≡ true)
+Inv-loop image p₀ p = (p ≤ 8) × (length image ≡ 680) × (everyChunk 85 processSound p image ≡ true)
 
 abbrev μ-loop : tie.MeasureT-loop
 μ-loop image p₀ p = 8 - p
 
 returns : tie.Need-returns Inv-loop μ-loop
-unfolding stateFormed
+unfolding stateSound stateFormed
 returns c = rw (ne-eqb _ _ (c .if1 .taken))
 
 loop-holds : tie.Need-loop-holds Inv-loop μ-loop
@@ -34,30 +35,30 @@ mul-at c = omega arith
 add-end : tie.Need-add-end Inv-loop μ-loop
 add-end c = omega arith
 
-sub-process-formed : tie.Need-sub-process-formed Inv-loop μ-loop
-sub-process-formed c = omega arith
+sub-process-sound : tie.Need-sub-process-sound Inv-loop μ-loop
+sub-process-sound c = omega arith
 
-part-process-formed-start : tie.Need-part-process-formed-start Inv-loop μ-loop
-part-process-formed-start c = search needs
+part-process-sound-start : tie.Need-part-process-sound-start Inv-loop μ-loop
+part-process-sound-start c = search needs
 
-part-process-formed-end : tie.Need-part-process-formed-end Inv-loop μ-loop
-part-process-formed-end c = let l = c .before in omega (arith, l .loop .inv .1)
+part-process-sound-end : tie.Need-part-process-sound-end Inv-loop μ-loop
+part-process-sound-end c = let l = c .before in omega (arith, l .loop .inv .1)
 
-process-formed-requires : tie.Need-process-formed-requires Inv-loop μ-loop
-process-formed-requires c κs =
+process-sound-requires : tie.Need-process-sound-requires Inv-loop μ-loop
+process-sound-requires c κs =
     let l = c .before .before in
     let m = l .before .before .before .args .image .now in
     let e : 85 * l .loop .p + 85 - 85 * l .loop .p ≡ 85 = omega arith in
     rw e (omega (arith, length-take-le 85 (drop (85 * l .loop .p) m) (simp length-drop (omega (arith, l .loop .inv .1)))))
 
 returns-2 : tie.Need-returns-2 Inv-loop μ-loop
-unfolding stateFormed
 returns-2 c =
     let f = c .before in
     let l = f .before .before .before in
     let m = l .before .before .before .args .image .now in
-    rw (eq-eqb _ _ (l .loop .inv .1))
-    (sym (every-fails 85 processFormed 8 (l .loop .p) m (omega arith) (test-piece 85 (l .loop .p) processFormed m false (sym (f .process-formed .ensures) ∙ not-true _ (c .if2 .taken)))))
+    sym
+    (each-sound m (l .loop .inv .1)
+    ∙ (every-fails 85 processSound 8 (l .loop .p) m (omega arith) (test-piece 85 (l .loop .p) processSound m false (sym (f .process-sound .ensures) ∙ not-true _ (c .if2 .taken)))))
 
 add-p : tie.Need-add-p Inv-loop μ-loop
 add-p c = omega arith
@@ -70,17 +71,17 @@ loop-again c =
     let f = c .before in
     let l = f .before .before .before in
     let m = l .before .before .before .args .image .now in
-    (omega arith, l .loop .inv .1, rw (add-one (l .loop .p)) (every-snoc 85 processFormed (l .loop .p) m (l .loop .inv .2) (test-piece 85 (l .loop .p) processFormed m true (sym (f .process-formed .ensures) ∙ not-false _ (c .if2 .left)))))
+    (omega arith, l .loop .inv .1, rw (add-one (l .loop .p)) (every-snoc 85 processSound (l .loop .p) m (l .loop .inv .2) (test-piece 85 (l .loop .p) processSound m true (sym (f .process-sound .ensures) ∙ not-false _ (c .if2 .left)))))
 
 returns-3 : tie.Need-returns-3 Inv-loop μ-loop
-unfolding stateFormed
 returns-3 c =
     let l = c .before in
+    let m = l .before .before .before .args .image .now in
     let end : l .loop .p ≡ 8 = omega arith in
-    rw (eq-eqb _ _ (l .loop .inv .1)) (sym (rw end at (l .loop .inv .2)))
+    sym (each-sound m (l .loop .inv .1) ∙ (rw end at (l .loop .inv .2)))
 
-pub state-formed-spec : {M : Type 1} → statement M
-state-formed-spec =
+pub state-sound-spec : {M : Type 1} → statement M
+state-sound-spec =
     tie.close
     (tie.spec
     Inv-loop
@@ -89,10 +90,10 @@ state-formed-spec =
     loop-holds
     mul-at
     add-end
-    sub-process-formed
-    part-process-formed-start
-    part-process-formed-end
-    process-formed-requires
+    sub-process-sound
+    part-process-sound-start
+    part-process-sound-end
+    process-sound-requires
     returns-2
     add-p
     loop-less

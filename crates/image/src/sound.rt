@@ -1,0 +1,61 @@
+// Whether bytes are the form of a sound state. A process that has no breakpoints has eight zero entries: then its head tells, and no record
+// is read.
+use crate::entry::entries_formed;
+use crate::entry::entries_zero;
+use crate::process_form::head_formed;
+use crate::process_form::read_process;
+ghost use mathlib.Core.Path.{_≡_};
+ghost use Prim.Native.Nat.{_≤_};
+ghost use lib.ListN.{length};
+ghost use Rattle.image.specs.Form.{headHosted, entriesSound, processSound, stateSound};
+
+// The process is there, or has no host.
+fn head_hosted(image: &[u8]) -> bool
+    requires { ⌜ 3 ≤ length (now image) ⌝ }
+    ensures { λ r. ⌜ r ≡ headHosted (now (image .entry)) ⌝ }
+{
+    image[0] % 2 == 1 || image[1] == 0
+}
+
+// By the record.
+fn entries_sound(image: &[u8]) -> bool
+    requires { ⌜ 85 ≤ length (now image) ⌝ }
+    ensures { λ r. ⌜ r ≡ entriesSound (now (image .entry)) ⌝ }
+{
+    if !entries_formed(&image[21..]) {
+        return false;
+    }
+    read_process(image).sound()
+}
+
+fn process_sound(image: &[u8]) -> bool
+    requires { ⌜ 85 ≤ length (now image) ⌝ }
+    ensures { λ r. ⌜ r ≡ processSound (now (image .entry)) ⌝ }
+{
+    if !head_formed(image) {
+        return false;
+    }
+    if entries_zero(&image[21..]) {
+        return head_hosted(image);
+    }
+    entries_sound(image)
+}
+
+// Whether these bytes are the form of a sound state.
+pub fn state_sound(image: &[u8]) -> bool
+    ensures { λ r. ⌜ r ≡ stateSound (now (image .entry)) ⌝ }
+{
+    if image.len() != 680 {
+        return false;
+    }
+    let mut p = 0;
+    while p < 8 {
+        let at = 85 * p;
+        let end = at + 85;
+        if !process_sound(&image[at..end]) {
+            return false;
+        }
+        p += 1;
+    }
+    true
+}
