@@ -2,3 +2,4 @@
 pub mod ScanLaws
 pub mod PrintLaws
 pub mod PairLaws
+pub mod PutLaws

@@ -23,6 +23,10 @@ pairs [] = []
 pairs (b ∷ []) = pair b
 pairs (b ∷ c ∷ bs) = pair b ++ (32 ∷ pairs (c ∷ bs))
 
+-- the same as a line with its newline
+unfoldable pub pairsLine : List ℕ → List ℕ
+pairsLine bs = pairs bs ++ (10 ∷ [])
+
 -- a byte behind a blank, from an index of a buffer on
 unfoldable pub pairAt : ℕ → ℕ → List ℕ → List ℕ
 pairAt b at out = set (set (set out at 32) (at + 1) (digit (b / 16))) (at + 2) (digit (b % 16))

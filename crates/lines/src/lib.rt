@@ -2,10 +2,14 @@
 mod count;
 mod print;
 mod scan;
+mod text;
 pub mod theorems;
 
 pub use count::within;
 pub use print::line_end;
 pub use print::put_answer;
+pub use print::put_pairs;
 pub use scan::Phase;
 pub use scan::Scan;
+pub use text::put;
+pub use text::put_mark;

@@ -4,7 +4,7 @@ ghost use Prim.Native.Nat.{_+_, _*_, _≤_, _<_};
 ghost use lib.ListN.{length, drop};
 ghost use Rattle.lists.specs.Buffer.{overlay};
 ghost use Rattle.lists.specs.First.{first};
-ghost use Rattle.lines.specs.Hex.{digit, decimal, pairAt, spaced, spacedOrDash, answerLine};
+ghost use Rattle.lines.specs.Hex.{digit, decimal, pair, pairAt, pairs, spaced, spacedOrDash, answerLine, pairsLine};
 ghost use Rattle.lines.specs.Scan.{isNewline};
 
 // The index of the first newline from this one on, or where the text ends.
@@ -93,6 +93,41 @@ pub fn put_answer(number: u8, bytes: &[u8], out: &mut [u8]) -> usize
 {
     let at = put_decimal(number, out);
     let end = at + put_bytes(bytes, &mut out[at..]);
+    out[end] = 10;
+    end + 1
+}
+
+// The two digits of a byte.
+fn put_first(b: u8, out: &mut [u8])
+    requires { ⌜ 2 ≤ length (now out) ⌝ }
+    ensures { λ _. ⌜ now (out .exit) ≡ overlay (pair b) (now (out .entry)) ⌝ }
+{
+    out[0] = digit(b / 16);
+    out[1] = digit(b % 16);
+}
+
+// The pairs of one or more bytes, parted by single blanks.
+fn put_parted(bytes: &[u8], out: &mut [u8])
+    requires { ⌜ (1 ≤ length (now bytes)) × (3 * length (now bytes) ≤ length (now out)) ⌝ }
+    ensures { λ _. ⌜ now (out .exit) ≡ overlay (pairs (now (bytes .entry))) (now (out .entry)) ⌝ }
+{
+    put_first(bytes[0], out);
+    put_spaced(&bytes[1..], &mut out[2..]);
+}
+
+// The bytes as pairs parted by single blanks, as a line; the length of the line.
+pub fn put_pairs(bytes: &[u8], out: &mut [u8]) -> usize
+    requires { ⌜ 3 * length (now bytes) + 1 ≤ length (now out) ⌝ }
+    ensures { λ r. ⌜ r ≡ length (pairsLine (now (bytes .entry))) ⌝ }
+    ensures { λ r. ⌜ r ≤ length (now (out .entry)) ⌝ }
+    ensures { λ _. ⌜ now (out .exit) ≡ overlay (pairsLine (now (bytes .entry))) (now (out .entry)) ⌝ }
+{
+    if bytes.len() == 0 {
+        out[0] = 10;
+        return 1;
+    }
+    put_parted(bytes, out);
+    let end = 3 * bytes.len() - 1;
     out[end] = 10;
     end + 1
 }
