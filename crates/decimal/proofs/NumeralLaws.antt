@@ -67,6 +67,19 @@ digitOf-digit : (d : ℕ) → d < 10 → digitOf (48 + d) ≡ d
 unfolding digitOf
 digitOf-digit d h = rw (le-ltb (48 + d) 48 (omega arith), le-ltb 57 (48 + d) (omega (arith, h))) (omega arith)
 
+module _ (c : ℕ) where
+  pub digitOf-below : c < 48 → 10 ≡ digitOf c
+  unfolding digitOf
+  digitOf-below h = rw (lt-ltb c 48 h)
+
+  pub digitOf-above : 48 ≤ c → 57 < c → 10 ≡ digitOf c
+  unfolding digitOf
+  digitOf-above l h = rw (le-ltb c 48 l, lt-ltb 57 c h)
+
+  pub digitOf-among : 48 ≤ c → c ≤ 57 → c - 48 ≡ digitOf c
+  unfolding digitOf
+  digitOf-among l h = rw (le-ltb c 48 l, le-ltb 57 c h)
+
 -- a digit is the character of its value
 pub digit-back : (c : ℕ) → (digitOf c ≡ 10 → ⊥) → (digitOf c < 10) × (48 + digitOf c ≡ c)
 unfolding digitOf

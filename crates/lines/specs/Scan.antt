@@ -1,8 +1,9 @@
 -- Reading a line of hex pairs, character by character, so that a line may come in parts and be of any length.
+use mathlib.Core.Path.{_≡_}
 use mathlib.Core.Bool.{Bool, cond}
 use mathlib.Core.List.{List, [], _∷_, _++_}
 use Prim.Native.Nat.{ℕ, _+_, _*_, _%_}
-use lib.ListN.{set}
+use lib.ListN.{length, set}
 use lib.Dec.{ltb, eqb}
 use Rattle.lines.specs.declared.scan.Phase.{Phase}
 use Rattle.lines.specs.declared.scan.Phase.the-variants.{Open, Half, Full, Bad}
@@ -39,6 +40,10 @@ bytesOf p (c ∷ cs) = made p c ++ bytesOf (next p c) cs
 unfoldable pub kept : ℕ → List ℕ → List ℕ → List ℕ
 kept at [] buffer = buffer
 kept at (b ∷ bs) buffer = kept (at + 1) bs (set buffer at b)
+
+-- text was put into a buffer from an index on: the index behind it, and the buffer then
+abbrev pub Put : ℕ → List ℕ → List ℕ → ℕ → List ℕ → Type 0
+Put at text buffer next last = (next ≡ at + length text) × (last ≡ kept at text buffer)
 
 -- how many of the buffer are then filled: no more than it has
 unfoldable pub filled : ℕ → ℕ → List ℕ → ℕ

@@ -127,7 +127,7 @@ pub fn put_pairs(bytes: &[u8], out: &mut [u8]) -> usize
         return 1;
     }
     put_parted(bytes, out);
-    let end = 3 * bytes.len() - 1;
-    out[end] = 10;
-    end + 1
+    let last = 3 * bytes.len() - 1;
+    out[last] = 10;
+    last + 1
 }

@@ -3,13 +3,12 @@ ghost use mathlib.Core.Path.{_≡_};
 ghost use mathlib.Core.List.{[], _∷_};
 ghost use Prim.Native.Nat.{_+_, _≤_, _<_};
 ghost use lib.ListN.{length};
-ghost use Rattle.lines.specs.Scan.{kept};
+ghost use Rattle.lines.specs.Scan.{kept, Put};
 
 // Text from an index on; the index behind it.
 pub fn put(text: &[u8], at: usize, out: &mut [u8]) -> usize
     requires { ⌜ at + length (now text) ≤ length (now out) ⌝ }
-    ensures { λ r. ⌜ r ≡ at + length (now (text .entry)) ⌝ }
-    ensures { λ _. ⌜ now (out .exit) ≡ kept at (now (text .entry)) (now (out .entry)) ⌝ }
+    ensures { λ r. ⌜ Put at (now (text .entry)) (now (out .entry)) r (now (out .exit)) ⌝ }
 {
     let mut i = 0;
     while i < text.len() {

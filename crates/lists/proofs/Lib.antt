@@ -4,6 +4,7 @@ pub mod Buffer
 pub mod Elements
 pub mod Every
 pub mod First
+pub mod Joined
 pub mod MapStep
 pub mod Part
 pub mod Short

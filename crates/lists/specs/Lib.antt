@@ -3,4 +3,5 @@ pub mod Buffer
 pub mod Elements
 pub mod Every
 pub mod First
+pub mod Joined
 pub mod Word

@@ -26,11 +26,11 @@ returns c =
 put-parted-requires : tie.Need-put-parted-requires
 put-parted-requires c κs = search needs
 
-mul-end : tie.Need-mul-end
-mul-end c = search needs
+mul-last : tie.Need-mul-last
+mul-last c = search needs
 
-sub-end : tie.Need-sub-end
-sub-end c = search needs
+sub-last : tie.Need-sub-last
+sub-last c = search needs
 
 slice-write-out-2 : tie.Need-slice-write-out-2
 slice-write-out-2 c = search needs
@@ -62,8 +62,8 @@ put-pairs-spec =
     same-length
     returns
     put-parted-requires
-    mul-end
-    sub-end
+    mul-last
+    sub-last
     slice-write-out-2
     add-result
     same-length-2

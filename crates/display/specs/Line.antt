@@ -1,0 +1,43 @@
+-- The line that shows a process.
+use mathlib.Core.Bool.{Bool, cond}
+use mathlib.Core.List.{List, [], _∷_, _++_}
+use Prim.Native.Nat.{ℕ}
+use Rattle.lists.specs.Word.{word}
+use Rattle.lists.specs.Joined.{joined}
+use Rattle.process.specs.declared.record.Run.{Run}
+use Rattle.process.specs.declared.record.Run.the-variants.{Running, Stepping, Stopped, AtBreak, Ended}
+use Rattle.process.specs.declared.record.Breakpoint.{Breakpoint}
+use Rattle.process.specs.declared.record.Process.{Process}
+use Rattle.decimal.specs.Numeral.{numeral, field}
+
+-- a flag as 0 or 1
+unfoldable pub flag : Bool → ℕ
+flag t = cond t 1 0
+
+-- 'running, stepping, stopped, at a breakpoint, ended'
+unfoldable pub runNumber : Run → ℕ
+runNumber Running = 0
+runNumber Stepping = 1
+runNumber Stopped = 2
+runNumber AtBreak = 3
+runNumber Ended = 4
+
+-- a word behind a blank
+abbrev pub wordText : ℕ → List ℕ
+wordText w = field 32 w
+
+-- an entry behind a blank: used, address, count, saved word, lifted, parted by colons
+unfoldable pub entryText : Breakpoint → List ℕ
+entryText b = (((field 32 (flag (b .used)) ++ field 58 (b .address)) ++ field 58 (b .count)) ++ field 58 (word (b .high) (b .low))) ++ field 58 (flag (b .lifted))
+
+-- whether it is there, its host, its run state
+unfoldable pub headText : Bool → ℕ → Run → List ℕ
+headText there host run = (numeral (flag there) ++ field 32 host) ++ field 32 (runNumber run)
+
+-- then the nine words, then the eight entries
+unfoldable pub recordText : Process → List ℕ
+recordText p = (headText (p .there) (p .host) (p .run) ++ joined wordText (p .vector)) ++ joined entryText (p .breaks)
+
+-- the same as a line with its newline
+unfoldable pub processLine : Process → List ℕ
+processLine p = recordText p ++ (10 ∷ [])

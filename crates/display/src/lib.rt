@@ -1,0 +1,5 @@
+// A process record as a line of numbers.
+mod entry;
+mod record;
+
+pub use record::put_process;
