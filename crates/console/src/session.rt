@@ -6,6 +6,7 @@ use gateway::fresh_start;
 use lines::Scan;
 use lines::line_end;
 use lines::within;
+use recording::Roll;
 use recording::Said;
 use recording::say_line;
 use recording::say_request;
@@ -15,13 +16,14 @@ ghost use Prim.Native.Nat.{_+_, _≤_};
 ghost use lib.ListN.{length};
 ghost use Rattle.io.specs.Counts.{Counts};
 
-// The language; the state; how much of a line was read, at most one byte more than is kept; the pairs of its request; and how many
-// bytes of text are held back.
+// The language; the state; how much of a line was read, at most one byte more than is kept; the pairs of its request; the processes that it
+// names if it is a start; and how many bytes of text are held back.
 pub struct Session {
     pub language: Language,
     pub state: Gateway,
     pub len: usize,
     pub scan: Scan,
+    pub roll: Roll,
     pub held: usize,
 }
 
@@ -29,11 +31,13 @@ pub struct Session {
 fn begin(language: Language) -> Session {
     let state = fresh_start(language.there());
     let scan = Scan::new();
+    let roll = Roll::new();
     Session {
         language: language,
         state: state,
         len: 0,
         scan: scan,
+        roll: roll,
         held: 0,
     }
 }
@@ -65,9 +69,10 @@ fn say(session: Session, memory: &mut [u8], line: &[u8], message: &[u8], out: &m
     let language = session.language;
     let state = session.state;
     let scan = session.scan;
+    let roll = session.roll;
     match language {
         Language::Bench => say_request(state, scan, memory, message, out),
-        Language::Recording => say_line(state, session.len, scan, memory, line, message, out),
+        Language::Recording => say_line(state, session.len, scan, roll, memory, line, message, out),
     }
 }
 
@@ -79,14 +84,17 @@ fn end(session: Session, memory: &mut [u8], line: &[u8], message: &[u8], out: &m
     let language = session.language;
     let held = make_room(session.held, out);
     let said = say(session, memory, line, message, &mut out[held..]);
+    let behind = held + said.len;
     let next = said.state;
-    let fresh = Scan::new();
+    let scan = Scan::new();
+    let roll = Roll::new();
     Session {
         language: language,
         state: next,
         len: 0,
-        scan: fresh,
-        held: held + said.len,
+        scan: scan,
+        roll: roll,
+        held: behind,
     }
 }
 
@@ -96,13 +104,17 @@ fn read_part(session: Session, text: &[u8], line: &mut [u8], message: &mut [u8])
     let state = session.state;
     let scan = session.scan;
     let len = session.len;
+    let roll = session.roll;
     let skip = before(text, len, language.pairs_at());
     let pairs = scan.part(&text[skip..], message);
+    let word = before(text, len, 5);
+    let named = roll.part(&text[word..]);
     Session {
         language: language,
         state: state,
         len: keep(text, len, line),
         scan: pairs,
+        roll: named,
         held: session.held,
     }
 }

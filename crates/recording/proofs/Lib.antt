@@ -1,2 +1,4 @@
 -- Laws that the proofs of this crate cite.
-pub mod DecimalLaws
+pub mod WordsLaws
+pub mod RollLaws
+pub mod MeaningLaws

@@ -1,9 +1,8 @@
 // The calls of a recording, each with the line that it prints.
-use crate::command::named_in;
-use crate::number::Number;
-use crate::put::put;
-use crate::put::put_pairs;
-use crate::show::put_process;
+use crate::number::read_report;
+use crate::roll::Roll;
+use decimal::Number;
+use display::put_process;
 use gateway::fresh_start;
 use gateway::notice_length;
 use gateway::reply_length;
@@ -11,13 +10,18 @@ use gateway::report;
 use gateway::request;
 use lines::Phase;
 use lines::Scan;
+use lines::put;
 use lines::put_answer;
+use lines::put_pairs;
 use lines::within;
 use state::Gateway;
 use state::start;
 ghost use mathlib.Core.Path.{_≡_};
 ghost use Prim.Native.Nat.{_+_, _*_, _≤_, _<_};
-ghost use lib.ListN.{length};
+ghost use lib.ListN.{length, replicate};
+ghost use Rattle.rules.specs.Tests.{lent};
+ghost use Rattle.rules.specs.Step.{requested, noted};
+ghost use Rattle.recording.specs.Meaning.{Prints, question, storeText, storeMemory, memoryText, processText, startText, startState, startMemory, reportState, reportMemory};
 
 // The state after a line, and how many bytes of text were put.
 pub struct Said {
@@ -29,6 +33,8 @@ pub struct Said {
 pub(crate) fn unknown(state: Gateway, out: &mut [u8]) -> Said
     requires { ⌜ 16384 ≤ length (now out) ⌝ }
     ensures { λ r. ⌜ r .len ≤ length (now (out .entry)) ⌝ }
+    ensures { λ r. ⌜ r .state ≡ state ⌝ }
+    ensures { λ r. ⌜ Prints (question) (r .len) (now (out .entry)) (now (out .exit)) ⌝ }
 {
     let len = put(b"?\n", 0, out);
     Said {
@@ -41,6 +47,8 @@ pub(crate) fn unknown(state: Gateway, out: &mut [u8]) -> Said
 fn ask(state: Gateway, memory: &mut [u8], message: &[u8], out: &mut [u8]) -> Said
     requires { ⌜ 16384 ≤ length (now out) ⌝ }
     ensures { λ r. ⌜ r .len ≤ length (now (out .entry)) ⌝ }
+    ensures { λ r. ⌜ r .state ≡ requested (now (message .entry)) (replicate 266 0) (lent state (now (memory .entry))) .after .gateway ⌝ }
+    ensures { λ _. ⌜ now (memory .exit) ≡ requested (now (message .entry)) (replicate 266 0) (lent state (now (memory .entry))) .after .memory ⌝ }
 {
     let mut reply = [0u8; 266];
     let answered = request(state, memory, message, &mut reply);
@@ -85,6 +93,8 @@ fn tell(
 ) -> Said
     requires { ⌜ 16384 ≤ length (now out) ⌝ }
     ensures { λ r. ⌜ r .len ≤ length (now (out .entry)) ⌝ }
+    ensures { λ r. ⌜ r .state ≡ noted process kind reason words (replicate 266 0) (lent state (now (memory .entry))) .after .gateway ⌝ }
+    ensures { λ _. ⌜ now (memory .exit) ≡ noted process kind reason words (replicate 266 0) (lent state (now (memory .entry))) .after .memory ⌝ }
 {
     let mut notice = [0u8; 266];
     let answered = report(state, memory, process, kind, reason, words, &mut notice);
@@ -102,29 +112,29 @@ fn tell(
 pub(crate) fn say_report(state: Gateway, memory: &mut [u8], line: &[u8], out: &mut [u8]) -> Said
     requires { ⌜ 16384 ≤ length (now out) ⌝ }
     ensures { λ r. ⌜ r .len ≤ length (now (out .entry)) ⌝ }
+    ensures { λ r. ⌜ r .state ≡ reportState (now (line .entry)) state (now (memory .entry)) ⌝ }
+    ensures { λ _. ⌜ now (memory .exit) ≡ reportMemory (now (line .entry)) state (now (memory .entry)) ⌝ }
 {
-    let process = Number::start(6).then(line, 255);
-    let kind = process.then(line, 255);
-    let reason = kind.then(line, 65535);
-    let all = reason.then_words(line);
-    let last = all.last;
-    let words = all.words;
-    if !last.ends(line) {
+    let read = read_report(line);
+    let words = read.words;
+    if !read.ok {
         return unknown(state, out);
     }
     tell(
         state,
         memory,
-        process.value as u8,
-        kind.value as u8,
-        reason.value as u16,
+        read.process,
+        read.kind,
+        read.reason,
         words,
         out,
     )
 }
 
 // All bytes are zero.
-fn clear(memory: &mut [u8]) {
+fn clear(memory: &mut [u8])
+    ensures { λ _. ⌜ now (memory .exit) ≡ replicate (length (now (memory .entry))) 0 ⌝ }
+{
     let mut i = 0;
     while i < memory.len() {
         memory[i] = 0;
@@ -132,14 +142,16 @@ fn clear(memory: &mut [u8]) {
     }
 }
 
-// start P P ..
-pub(crate) fn say_start(state: Gateway, memory: &mut [u8], line: &[u8], out: &mut [u8]) -> Said
+// start P P ..: what it names was read as it came.
+pub(crate) fn say_named(state: Gateway, roll: Roll, memory: &mut [u8], out: &mut [u8]) -> Said
     requires { ⌜ 16384 ≤ length (now out) ⌝ }
     ensures { λ r. ⌜ r .len ≤ length (now (out .entry)) ⌝ }
+    ensures { λ r. ⌜ r .state ≡ startState roll state ⌝ }
+    ensures { λ _. ⌜ now (memory .exit) ≡ startMemory roll (now (memory .entry)) ⌝ }
+    ensures { λ r. ⌜ Prints (startText roll) (r .len) (now (out .entry)) (now (out .exit)) ⌝ }
 {
-    let named = named_in(line, 5);
-    let there = named.there;
-    if !named.ok {
+    let there = roll.there;
+    if !roll.is_complete() {
         return unknown(state, out);
     }
     clear(memory);
@@ -164,6 +176,9 @@ pub(crate) fn say_store(state: Gateway, memory: &mut [u8], line: &[u8], out: &mu
     requires { ⌜ length (now memory) ≡ 32768 ⌝ }
     requires { ⌜ 16384 ≤ length (now out) ⌝ }
     ensures { λ r. ⌜ r .len ≤ length (now (out .entry)) ⌝ }
+    ensures { λ r. ⌜ r .state ≡ state ⌝ }
+    ensures { λ _. ⌜ now (memory .exit) ≡ storeMemory (now (line .entry)) state (now (memory .entry)) ⌝ }
+    ensures { λ r. ⌜ Prints (storeText (now (line .entry))) (r .len) (now (out .entry)) (now (out .exit)) ⌝ }
 {
     let process = Number::start(5).then(line, 7);
     let address = process.then(line, 4095);
@@ -185,6 +200,8 @@ pub(crate) fn say_memory(state: Gateway, memory: &[u8], line: &[u8], out: &mut [
     requires { ⌜ length (now memory) ≡ 32768 ⌝ }
     requires { ⌜ 16384 ≤ length (now out) ⌝ }
     ensures { λ r. ⌜ r .len ≤ length (now (out .entry)) ⌝ }
+    ensures { λ r. ⌜ r .state ≡ state ⌝ }
+    ensures { λ r. ⌜ Prints (memoryText (now (line .entry)) (now (memory .entry))) (r .len) (now (out .entry)) (now (out .exit)) ⌝ }
 {
     let process = Number::start(6).then(line, 7);
     let address = process.then(line, 4096);
@@ -205,6 +222,8 @@ pub(crate) fn say_memory(state: Gateway, memory: &[u8], line: &[u8], out: &mut [
 pub(crate) fn say_process(state: Gateway, line: &[u8], out: &mut [u8]) -> Said
     requires { ⌜ 16384 ≤ length (now out) ⌝ }
     ensures { λ r. ⌜ r .len ≤ length (now (out .entry)) ⌝ }
+    ensures { λ r. ⌜ r .state ≡ state ⌝ }
+    ensures { λ r. ⌜ Prints (processText (now (line .entry)) state) (r .len) (now (out .entry)) (now (out .exit)) ⌝ }
 {
     let process = Number::start(7).then(line, 7);
     if !process.ends(line) {

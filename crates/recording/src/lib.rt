@@ -4,9 +4,10 @@ mod call;
 mod command;
 mod line;
 mod number;
-mod put;
-mod show;
+mod roll;
 
 pub use call::Said;
 pub use call::say_request;
 pub use line::say_line;
+pub use roll::Place;
+pub use roll::Roll;
