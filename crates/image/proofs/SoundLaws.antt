@@ -7,6 +7,7 @@ use native.Mathlib.Omega.{arith}
 use borrow.Author.Tests.{eqb-true, eq-eqb, ne-eqb}
 use lib.ListN.{length, drop, getD}
 use lib.Seq.{getD-drop}
+use Rattle.lists.proofs.Bool.{&&-left, &&-right}
 use Rattle.lists.specs.Every.{every, below}
 use Rattle.lists.proofs.Every.{every-below}
 use Rattle.process.specs.declared.record.Process.{Process}
@@ -15,7 +16,7 @@ use Rattle.process.specs.Sound.{hosted, entrySound}
 use Rattle.process.specs.Sound.{soundTest as soundProcess}
 use Rattle.state.specs.Gateway.{nobody, soundTest}
 use Rattle.image.specs.Chunk.{chunks, everyChunk}
-use Rattle.image.specs.Form.{long, entryOf, entryZero, entryFormed, headFormed, headHosted, entriesSound, processOf, processFormed, processSound, stateOf, stateFormed, stateSound}
+use Rattle.image.specs.Form.{long, entryOf, entryZero, entryFormed, headFormed, headHosted, processPlain, entriesSound, processOf, processFormed, processSound, stateOf, stateFormed, stateSound}
 use Rattle.image.proofs.ChunkLaws.{chunks-same, every-read, every-weaker, every-both}
 
 -- ---- eight zero bytes
@@ -55,7 +56,7 @@ unfolding entrySound
 no-breaks-sound p e = rw e
 
 -- its head tells
-pub bare-sound : (m : List ℕ) → headFormed m ≡ true → everyChunk 8 entryZero 8 (drop 21 m) ≡ true → headHosted m ≡ processSound m
+bare-sound : (m : List ℕ) → headFormed m ≡ true → everyChunk 8 entryZero 8 (drop 21 m) ≡ true → headHosted m ≡ processSound m
 unfolding processSound processFormed soundProcess hosted headHosted processOf
 bare-sound m h z =
     let formed : everyChunk 8 entryFormed 8 (drop 21 m) ≡ true = every-weaker 8 entryZero entryFormed zero-formed 8 (drop 21 m) z in
@@ -65,6 +66,12 @@ bare-sound m h z =
     &&-true : (b : Bool) → b && true ≡ b
     &&-true true = refl
     &&-true false = refl
+
+pub plain-sound : (m : List ℕ) → processPlain m ≡ true → processSound m ≡ true
+unfolding processPlain
+plain-sound m e =
+    let rest = &&-right (headFormed m) (headHosted m && everyChunk 8 entryZero 8 (drop 21 m)) e in
+    sym (bare-sound m (&&-left (headFormed m) _ e) (&&-right (headHosted m) (everyChunk 8 entryZero 8 (drop 21 m)) rest)) ∙ &&-left (headHosted m) _ rest
 
 -- a process with a formed head, by its entries and its record
 pub full-sound : (m : List ℕ) → headFormed m ≡ true → entriesSound m ≡ processSound m

@@ -1,7 +1,8 @@
 -- The 680 bytes of a state: 85 for each process, and of these 8 for each of its entries.
-use mathlib.Core.Bool.{Bool, cond, not, _&&_, _||_}
+use mathlib.Core.Path.{_≡_}
+use mathlib.Core.Bool.{Bool, true, cond, not, _&&_, _||_}
 use mathlib.Core.List.{List, [], _∷_, _++_}
-use Prim.Native.Nat.{ℕ, _+_, _*_, _/_, _%_}
+use Prim.Native.Nat.{ℕ, _+_, _*_, _/_, _%_, _≤_}
 use lib.ListN.{length, take, drop, getD}
 use lib.Dec.{eqb, leb}
 use Rattle.lists.specs.First.{first}
@@ -133,6 +134,10 @@ headHosted m = flagOf (getD m 0 0) || eqb (getD m 1 0) 0
 unfoldable pub entryZero : List ℕ → Bool
 entryZero m = eqb (long m) 0
 
+-- a right head, and no breakpoints
+unfoldable pub processPlain : List ℕ → Bool
+processPlain m = headFormed m && (headHosted m && everyChunk 8 entryZero 8 (drop 21 m))
+
 -- the flags of the entries are 0 or 1, and the record is sound
 unfoldable pub entriesSound : List ℕ → Bool
 entriesSound m = everyChunk 8 entryFormed 8 (drop 21 m) && soundProcess (processOf m)
@@ -140,6 +145,10 @@ entriesSound m = everyChunk 8 entryFormed 8 (drop 21 m) && soundProcess (process
 -- the bytes of a process are those of a sound record
 unfoldable pub processSound : List ℕ → Bool
 processSound m = processFormed m && soundProcess (processOf m)
+
+-- 680 bytes, of whose eight processes the first n are sound
+abbrev pub SoundBefore : ℕ → List ℕ → Type 0
+SoundBefore n m = (n ≤ 8) × (length m ≡ 680) × (everyChunk 85 processSound n m ≡ true)
 
 -- the bytes are those of a sound state
 unfoldable pub stateSound : List ℕ → Bool

@@ -7,7 +7,7 @@ use crate::process_form::read_process;
 ghost use mathlib.Core.Path.{_≡_};
 ghost use Prim.Native.Nat.{_≤_};
 ghost use lib.ListN.{length};
-ghost use Rattle.image.specs.Form.{headHosted, entriesSound, processSound, stateSound};
+ghost use Rattle.image.specs.Form.{headHosted, processPlain, entriesSound, processSound, SoundBefore, stateSound};
 
 // The process is there, or has no host.
 fn head_hosted(image: &[u8]) -> bool
@@ -28,15 +28,44 @@ fn entries_sound(image: &[u8]) -> bool
     read_process(image).sound()
 }
 
+// A process with a right head and no breakpoints.
+fn process_plain(image: &[u8]) -> bool
+    requires { ⌜ 85 ≤ length (now image) ⌝ }
+    ensures { λ r. ⌜ r ≡ processPlain (now (image .entry)) ⌝ }
+{
+    if !head_formed(image) {
+        return false;
+    }
+    if !head_hosted(image) {
+        return false;
+    }
+    entries_zero(&image[21..])
+}
+
+// From process `start`, before which all are sound: the first that is not plain, or 8. No slow path stands in this loop.
+fn plain_until(image: &[u8], start: usize) -> usize
+    requires { ⌜ SoundBefore start (now image) ⌝ }
+    ensures { λ r. ⌜ start ≤ r ⌝ }
+    ensures { λ r. ⌜ SoundBefore r (now (image .entry)) ⌝ }
+{
+    let mut p = start;
+    while p < 8 {
+        let at = 85 * p;
+        let end = at + 85;
+        if !process_plain(&image[at..end]) {
+            return p;
+        }
+        p += 1;
+    }
+    p
+}
+
 fn process_sound(image: &[u8]) -> bool
     requires { ⌜ 85 ≤ length (now image) ⌝ }
     ensures { λ r. ⌜ r ≡ processSound (now (image .entry)) ⌝ }
 {
     if !head_formed(image) {
         return false;
-    }
-    if entries_zero(&image[21..]) {
-        return head_hosted(image);
     }
     entries_sound(image)
 }
@@ -48,14 +77,14 @@ pub fn state_sound(image: &[u8]) -> bool
     if image.len() != 680 {
         return false;
     }
-    let mut p = 0;
+    let mut p = plain_until(image, 0);
     while p < 8 {
         let at = 85 * p;
         let end = at + 85;
         if !process_sound(&image[at..end]) {
             return false;
         }
-        p += 1;
+        p = plain_until(image, p + 1);
     }
     true
 }
