@@ -1,12 +1,13 @@
 -- `display::entry::put_entry` meets its contract: five fields. Assumes nothing.
-use mathlib.Core.Path.{_≡_}
+use mathlib.Core.Path.{_≡_, ap, _∙_}
 use mathlib.Core.List.{_++_}
-use Prim.Native.Nat.{_+_}
+use Prim.Native.Nat.{ℕ}
 use native.Mathlib.Omega.{arith}
 use borrow.Author.Needs.{needs}
+use Rattle.lists.specs.Word.{word}
 use Rattle.lines.proofs.PutLaws.{put-then, put-as}
 use Rattle.decimal.specs.Numeral.{field}
-use Rattle.display.specs.Line.{entryText}
+use Rattle.display.specs.Line.{flag, entryText}
 use Rattle.display.proofs.entry.put_entry.Statement.{statement}
 use Rattle.display.proofs.entry.put_entry.Tie as tie
 
@@ -60,7 +61,14 @@ returns c =
     let p3 = put-then (a .from) (b .put-field2 .result) (m .put-field3 .result) t2 (field 58 (a .b .count)) (a .out .now) out2 out3 p2 (m .put-field3 .ensures .0) in
     let p4 = put-then (a .from) (m .put-field3 .result) (d .put-field4 .result) t3 (field 58 (d .before .before .word-of .result)) (a .out .now) out3 out4 p3 (d .put-field4 .ensures .0) in
     let p5 = put-then (a .from) (d .put-field4 .result) (e .put-field5 .result) t4 t5 (a .out .now) out4 out5 p4 (e .put-field5 .ensures .0) in
-    let same : t4 ++ t5 ≡ entryText (a .b) = rw (f .before .before .flag .ensures, d .before .before .word-of .ensures, e .before .before .flag2 .ensures) in (
+    let f2 = field 58 (a .b .address) in
+    let f3 = field 58 (a .b .count) in
+    let used = flag (a .b .used) in
+    let saved = word (a .b .high) (a .b .low) in
+    let same : t4 ++ t5 ≡ entryText (a .b) =
+    ap (λ (n : ℕ). (((field 32 n ++ f2) ++ f3) ++ field 58 (d .before .before .word-of .result)) ++ t5) (f .before .before .flag .ensures)
+    ∙ ap (λ (n : ℕ). (((field 32 used ++ f2) ++ f3) ++ field 58 n) ++ t5) (d .before .before .word-of .ensures)
+    ∙ ap (λ (n : ℕ). (((field 32 used ++ f2) ++ f3) ++ field 58 saved) ++ field 58 n) (e .before .before .flag2 .ensures) in (
       put-as (a .from) (e .put-field5 .result) (t4 ++ t5) (entryText (a .b)) (a .out .now) out5 same p5,
       omega (arith, f .put-field .ensures .1, b .put-field2 .ensures .1, m .put-field3 .ensures .1, d .put-field4 .ensures .1, e .put-field5 .ensures .1),
     )

@@ -1,11 +1,12 @@
 -- `display::record::put_head` meets its contract: three numbers. Assumes nothing.
-use mathlib.Core.Path.{_≡_}
+use mathlib.Core.Path.{_≡_, ap, _∙_}
 use mathlib.Core.List.{_++_}
+use Prim.Native.Nat.{ℕ}
 use native.Mathlib.Omega.{arith}
 use borrow.Author.Needs.{needs}
 use Rattle.lines.proofs.PutLaws.{put-then, put-as}
 use Rattle.decimal.specs.Numeral.{numeral, field}
-use Rattle.display.specs.Line.{headText}
+use Rattle.display.specs.Line.{flag, headText}
 use Rattle.display.proofs.record.put_head.Statement.{statement}
 use Rattle.display.proofs.record.put_head.Tie as tie
 
@@ -42,7 +43,9 @@ returns c =
     let t3 = field 32 (e .before .before .run-number .result) in
     let p2 = put-then 0 (f .put-number .result) (d .put-field .result) t1 (field 32 (a .host)) (a .out .now) out1 out2 (f .put-number .ensures .0) (d .put-field .ensures .0) in
     let p3 = put-then 0 (d .put-field .result) (e .put-field2 .result) t2 t3 (a .out .now) out2 out3 p2 (e .put-field2 .ensures .0) in
-    let same : t2 ++ t3 ≡ headText (a .there) (a .host) (a .run) = rw (f .before .before .flag .ensures, e .before .before .run-number .ensures) in (
+    let same : t2 ++ t3 ≡ headText (a .there) (a .host) (a .run) =
+    ap (λ (n : ℕ). (numeral n ++ field 32 (a .host)) ++ t3) (f .before .before .flag .ensures)
+    ∙ ap (λ (n : ℕ). (numeral (flag (a .there)) ++ field 32 (a .host)) ++ field 32 n) (e .before .before .run-number .ensures) in (
       put-as 0 (e .put-field2 .result) (t2 ++ t3) (headText (a .there) (a .host) (a .run)) (a .out .now) out3 same p3,
       omega (arith, f .put-number .ensures .1, d .put-field .ensures .1, e .put-field2 .ensures .1),
     )
