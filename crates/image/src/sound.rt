@@ -48,16 +48,16 @@ fn plain_until(image: &[u8], start: usize) -> usize
     ensures { λ r. ⌜ start ≤ r ⌝ }
     ensures { λ r. ⌜ SoundBefore r (now (image .entry)) ⌝ }
 {
-    let mut p = start;
-    while p < 8 {
-        let at = 85 * p;
+    let mut n = start;
+    while n < 8 {
+        let at = 85 * n;
         let end = at + 85;
         if !process_plain(&image[at..end]) {
-            return p;
+            return n;
         }
-        p += 1;
+        n += 1;
     }
-    p
+    n
 }
 
 fn process_sound(image: &[u8]) -> bool

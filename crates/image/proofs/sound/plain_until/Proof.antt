@@ -15,10 +15,10 @@ use Rattle.image.proofs.sound.plain_until.Statement.{statement}
 use Rattle.image.proofs.sound.plain_until.Tie as tie
 
 abbrev Inv-loop : tie.InvT-loop
-Inv-loop image start p₀ p = (start ≤ p) × SoundBefore p image
+Inv-loop image start n₀ n = (start ≤ n) × SoundBefore n image
 
 abbrev μ-loop : tie.MeasureT-loop
-μ-loop image start p₀ p = 8 - p
+μ-loop image start n₀ n = 8 - n
 
 loop-holds : tie.Need-loop-holds Inv-loop μ-loop
 loop-holds c = (omega arith, c .before .pre)
@@ -42,14 +42,14 @@ process-plain-requires : tie.Need-process-plain-requires Inv-loop μ-loop
 process-plain-requires c κs =
     let l = c .before .before in
     let m = l .before .before .args .image .now in
-    let e : 85 * l .loop .p + 85 - 85 * l .loop .p ≡ 85 = omega arith in
-    rw e (omega (arith, length-take-le 85 (drop (85 * l .loop .p) m) (simp length-drop (omega (arith, l .loop .inv .1 .1)))))
+    let e : 85 * l .loop .n + 85 - 85 * l .loop .n ≡ 85 = omega arith in
+    rw e (omega (arith, length-take-le 85 (drop (85 * l .loop .n) m) (simp length-drop (omega (arith, l .loop .inv .1 .1)))))
 
 returns : tie.Need-returns Inv-loop μ-loop
 returns c = let l = c .before .before .before .before in (l .loop .inv .0, l .loop .inv .1)
 
-add-p : tie.Need-add-p Inv-loop μ-loop
-add-p c = omega arith
+add-n : tie.Need-add-n Inv-loop μ-loop
+add-n c = omega arith
 
 loop-less : tie.Need-loop-less Inv-loop μ-loop
 loop-less c = omega arith
@@ -58,10 +58,10 @@ loop-again : tie.Need-loop-again Inv-loop μ-loop
 loop-again c =
     let f = c .before in
     let l = f .before .before .before in
-    let p = l .loop .p in
+    let n = l .loop .n in
     let m = l .before .before .args .image .now in
-    let plain = test-piece 85 p processPlain m true (sym (f .process-plain .ensures) ∙ not-false _ (c .if1 .left)) in
-    (omega arith, (omega arith, l .loop .inv .1 .1, rw (add-one p) (every-snoc 85 processSound p m (l .loop .inv .1 .2) (plain-sound (take 85 (drop (85 * p) m)) plain))))
+    let plain = test-piece 85 n processPlain m true (sym (f .process-plain .ensures) ∙ not-false _ (c .if1 .left)) in
+    (omega arith, (omega arith, l .loop .inv .1 .1, rw (add-one n) (every-snoc 85 processSound n m (l .loop .inv .1 .2) (plain-sound (take 85 (drop (85 * n) m)) plain))))
 
 returns-2 : tie.Need-returns-2 Inv-loop μ-loop
 returns-2 c = let l = c .before in (l .loop .inv .0, l .loop .inv .1)
@@ -80,7 +80,7 @@ plain-until-spec =
     part-process-plain-end
     process-plain-requires
     returns
-    add-p
+    add-n
     loop-less
     loop-again
     returns-2)
