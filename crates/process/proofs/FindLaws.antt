@@ -1,7 +1,9 @@
 -- Laws of the search among the entries of a process. Assumes nothing.
 use mathlib.Core.Path.{_≡_, refl, sym, ap, _∙_}
 use mathlib.Core.Bool.{Bool, true, false, not, _&&_, true≢false}
+use mathlib.Core.Logic.{⊎-elim}
 use Prim.Native.Nat.{ℕ, _≤_, _<_}
+use native.Mathlib.Nat.{eq-or-lt-of-le}
 use native.Mathlib.Omega.{arith}
 use borrow.Author.Tests.{eqb-true, eq-eqb, not-true}
 use lib.ListN.{length, getD}
@@ -63,3 +65,14 @@ module _ (want : Want) (p : Process) where
     pub find-is : (k : ℕ) → k < 8 → matches want (entry p k) ≡ true → ((j : ℕ) → j < k → matches want (entry p j) ≡ false) → find want p ≡ k
     unfolding find
     find-is k h e none = first-is (matches want) (p .breaks) free k (omega arith) e none
+
+    -- as a loop goes, none before entry j: it is found, or none up to it
+    pub find-here : (j : ℕ) → j < 8 → j ≤ find want p → matches want (entry p j) ≡ true → find want p ≡ j
+    unfolding find
+    find-here j h b e = find-is j h e (λ i l. first-before (matches want) (p .breaks) free i (omega (arith, b, l)))
+
+    pub find-past : (j : ℕ) → j < 8 → j ≤ find want p → matches want (entry p j) ≡ false → j < find want p
+    find-past j h b e = ⊎-elim (λ q. absurd (here q)) (λ l. l) (eq-or-lt-of-le b)
+      where
+        here : j ≡ find want p → ⊥
+        here q = let m : matches want (entry p j) ≡ true = rw q (find-matches (omega (arith, q, h))) in true≢false (sym m ∙ e)

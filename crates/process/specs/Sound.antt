@@ -46,6 +46,10 @@ placed a = eqb (a % 2) 0 && leb a 4094
 unfoldable pub hosted : Process → Bool
 hosted p = p .there || eqb (p .host) 0
 
+-- an entry is the first in use at its address
+abbrev pub firstThere : Process → ℕ → Bool
+firstThere p k = eqb (find (At (entry p k .address)) p) k
+
 -- an entry is not lifted, or the process moves and no earlier entry is lifted
 unfoldable pub liftSound : Process → ℕ → Bool
 liftSound p k = not (entry p k .lifted) || (moving (p .run) && eqb (find Lifted p) k)

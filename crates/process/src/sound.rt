@@ -4,8 +4,10 @@ use crate::record::Breakpoint;
 use crate::record::Process;
 use crate::record::Run;
 ghost use mathlib.Core.Path.{_≡_};
+ghost use mathlib.Core.Bool.{true};
 ghost use Prim.Native.Nat.{_<_};
-ghost use Rattle.process.specs.Sound.{moving, placed, hosted, liftSound, entrySound, soundTest};
+ghost use Rattle.process.specs.Record.{entry};
+ghost use Rattle.process.specs.Sound.{moving, placed, hosted, firstThere, liftSound, entrySound, soundTest};
 
 impl Run {
     // Running or stepping.
@@ -56,6 +58,25 @@ impl Process {
         false
     }
 
+    // No entry before k, which is in use, has its address.
+    fn first_there(self, k: usize) -> bool
+        requires { ⌜ k < 8 ⌝ }
+        requires { ⌜ entry self k .used ≡ true ⌝ }
+        ensures { λ r. ⌜ r ≡ firstThere self k ⌝ }
+    {
+        let b = self.breaks[k];
+        let want = Want::At(b.address);
+        let mut j = 0;
+        while j < k {
+            let e = self.breaks[j];
+            if e.is(want) {
+                return false;
+            }
+            j += 1;
+        }
+        true
+    }
+
     // Entry k is free, or keeps the rules.
     fn entry_sound(self, k: usize) -> bool
         requires { ⌜ k < 8 ⌝ }
@@ -71,7 +92,7 @@ impl Process {
         if !b.placed() {
             return false;
         }
-        if self.find(Want::At(b.address)) != k {
+        if !self.first_there(k) {
             return false;
         }
         self.lift_sound(k)

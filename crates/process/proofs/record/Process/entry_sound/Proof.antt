@@ -42,8 +42,11 @@ returns-3 c =
       not-true (p .placed .result) (c .if3 .taken),
     )
 
-find-requires : tie.Need-find-requires
-find-requires c κs = search needs
+first-there-requires : tie.Need-first-there-requires
+first-there-requires c κs =
+    let i = c .before .before .before in
+    let s = i .before .before .before in
+    (s .pre, not-false (entry (s .args .t1) (s .args .k) .used) (i .if1 .left))
 
 returns-4 : tie.Need-returns-4
 unfolding entrySound usedSound
@@ -59,8 +62,8 @@ returns-4 c =
       ne-eqb _ _ (h .if2 .left),
       ← p .placed .ensures,
       not-false (p .placed .result) (j .if3 .left),
-      ← f .find .ensures,
-      ne-eqb _ _ (c .if4 .taken),
+      ← f .first-there .ensures,
+      not-true (f .first-there .result) (c .if4 .taken),
     )
 
 lift-sound-requires : tie.Need-lift-sound-requires
@@ -81,8 +84,8 @@ returns-5 c =
       ne-eqb _ _ (h .if2 .left),
       ← p .placed .ensures,
       not-false (p .placed .result) (j .if3 .left),
-      ← f .find .ensures,
-      eq-eqb _ _ (g .if4 .left),
+      ← f .first-there .ensures,
+      not-false (f .first-there .result) (g .if4 .left),
     )
     (c .lift-sound .ensures)
 
@@ -96,7 +99,7 @@ entry-sound-spec =
     returns-2
     placed-requires
     returns-3
-    find-requires
+    first-there-requires
     returns-4
     lift-sound-requires
     returns-5)
