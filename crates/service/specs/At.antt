@@ -19,6 +19,7 @@ use Rattle.rules.specs.Tests.{badReport}
 use Rattle.rules.specs.Step.{Answer, replyOf}
 use Rattle.service.specs.Task.{processTests}
 
+-- what is answered, and the process with its bytes after it
 pub record Left : Type 0 where
   pub answer : Answer
   pub left : Local
@@ -33,7 +34,7 @@ namedOf h = cond (names (h .cmd) && ltb (h .pid) 8) (h .pid) 8
 unfoldable pub targetOf : Header → ℕ → ℕ
 targetOf h absent = cond (creates (h .cmd)) absent (namedOf h)
 
--- 'a CAN'T .. with this number'
+-- refused by this number, and the CAN'T is laid over the start of the reply buffer
 abbrev pub cantBy : ℕ → Header → List ℕ → Answer
 cantBy number h buffer = record { outcome = Refused number; buffer = overlay (written (cantOf h) []) buffer }
 
@@ -46,6 +47,7 @@ unfoldable pub namedBy : ℕ → Header → List ℕ → List ℕ → Local → 
 namedBy zero h string buffer l = record { answer = replyOf h (ruleOf (h .cmd) .shown h l) buffer; left = ruleOf (h .cmd) .effect h string l }
 namedBy (suc n) h string buffer l = record { answer = cantBy (suc n) h buffer; left = l }
 
+-- the same by its tests 7 to 12
 abbrev pub namedAt : Header → List ℕ → List ℕ → Local → Left
 namedAt h string buffer l = namedBy (firstFailing (processTests h (l .process))) h string buffer l
 
@@ -81,5 +83,6 @@ reportBy (suc n) p kind reason words buffer l = record { answer = record { outco
 unfoldable pub heardNumber : ℕ → Process → ℕ
 heardNumber kind p = firstFailing (test 7 (not (p .there)) ∷ test 9 (not (accepts kind (p .run))) ∷ [])
 
+-- a report about process p, by its tests 7 and 9
 unfoldable pub reportAt : ℕ → ℕ → ℕ → List ℕ → List ℕ → Local → Left
 reportAt p kind reason words buffer l = reportBy (heardNumber kind (l .process)) p kind reason words buffer l
