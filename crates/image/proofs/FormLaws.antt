@@ -1,17 +1,18 @@
 -- The lengths of the written forms. Assumes nothing.
 use mathlib.Core.Path.{_≡_, refl, ap, _∙_}
+use mathlib.Core.Bool.{Bool, true, false}
 use mathlib.Core.List.{List, [], _∷_, _++_, append-assoc}
 use Prim.Native.Nat.{ℕ, _+_, _*_, _/_, _%_, _<_}
 use native.Mathlib.Omega.{arith}
 use lib.ListN.{length, take, drop, getD, length-append}
 use lib.Seq.{getD-drop, drop-drop}
 use Rattle.lists.specs.Buffer.{Bytes}
-use Rattle.lists.specs.Word.{lowFirst}
+use Rattle.lists.specs.Word.{lowFirst, low, high}
 use Rattle.process.specs.declared.record.Breakpoint.{Breakpoint}
 use Rattle.process.specs.declared.record.Process.{Process}
 use Rattle.process.specs.Record.{free}
 use Rattle.image.specs.Chunk.{chunks, joined}
-use Rattle.image.specs.Form.{entryBytes, headBytes, processBytes, half, long, entryIn, entryOf}
+use Rattle.image.specs.Form.{flag, longBytes, entryBytes, headBytes, processBytes, half, long, entryIn, entryOf}
 use Rattle.image.proofs.ChunkLaws.{length-joined}
 
 pub entry-long : (b : Breakpoint) → length (entryBytes b) ≡ 8
@@ -67,6 +68,43 @@ entry-in-long m z =
       low-part _ _ _ _ _ _ _ _ (z 0) (z 1) (z 2) (z 3) (z 4) (z 5) (z 6) (z 7),
       high-part _ _ _ _ _ _ _ _ (z 0) (z 1) (z 2) (z 3) (z 4) (z 5) (z 6) (z 7),
     )
+
+-- the fields of an entry as a number, and its bytes
+module _ (u l a n s h : ℕ) (u-byte : u < 256) (l-byte : l < 256) (a-word : a < 65536) (n-word : n < 65536) (s-byte : s < 256) (h-byte : h < 256) where
+  abbrev pub packed : ℕ
+  packed = u + l * 256 + a * 65536 + n * 4294967296 + s * 281474976710656 + h * 72057594037927936
+
+  byte-0 : packed % 256 ≡ u
+  byte-0 = omega arith
+
+  byte-1 : packed / 256 % 256 ≡ l
+  byte-1 = omega arith
+
+  byte-2 : packed / 65536 % 256 ≡ a % 256
+  byte-2 = omega arith
+
+  byte-3 : packed / 16777216 % 256 ≡ a / 256
+  byte-3 = omega arith
+
+  byte-4 : packed / 4294967296 % 256 ≡ n % 256
+  byte-4 = omega arith
+
+  byte-5 : packed / 1099511627776 % 256 ≡ n / 256
+  byte-5 = omega arith
+
+  byte-6 : packed / 281474976710656 % 256 ≡ s
+  byte-6 = omega arith
+
+  byte-7 : packed / 72057594037927936 % 256 ≡ h
+  byte-7 = omega arith
+
+  pub packed-bytes : longBytes packed ≡ u ∷ l ∷ low a ∷ high a ∷ low n ∷ high n ∷ s ∷ h ∷ []
+  unfolding longBytes
+  packed-bytes = rw (byte-0, byte-1, byte-2, byte-3, byte-4, byte-5, byte-6, byte-7)
+
+pub flag-byte : (t : Bool) → flag t < 256
+flag-byte true = omega arith
+flag-byte false = omega arith
 
 -- eight entries, one behind the other
 pub eight-entries : (m : List ℕ) (a b c d e f g h : Breakpoint)

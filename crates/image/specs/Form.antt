@@ -42,6 +42,19 @@ entryBytes b =
     ∷ b .high
     ∷ []
 
+-- a number as eight bytes, low byte first
+unfoldable pub longBytes : ℕ → List ℕ
+longBytes w =
+    w % 256
+    ∷ w / 256 % 256
+    ∷ w / 65536 % 256
+    ∷ w / 16777216 % 256
+    ∷ w / 4294967296 % 256
+    ∷ w / 1099511627776 % 256
+    ∷ w / 281474976710656 % 256
+    ∷ w / 72057594037927936 % 256
+    ∷ []
+
 -- there, host, run state
 abbrev pub headBytes : Process → List ℕ
 headBytes p = flag (p .there) ∷ p .host ∷ runNumber (p .run) ∷ []

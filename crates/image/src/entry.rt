@@ -1,14 +1,12 @@
 // The eight bytes of an entry.
 use process::Breakpoint;
-use words::high_byte;
-use words::low_byte;
 ghost use mathlib.Core.Path.{_≡_};
 ghost use Prim.Native.Nat.{_≤_, _<_};
 ghost use lib.ListN.{length, getD};
 ghost use Rattle.lists.specs.Buffer.{overlay};
 ghost use Rattle.image.specs.Chunk.{chunks, everyChunk, joined};
 ghost use Rattle.process.specs.Record.{free};
-ghost use Rattle.image.specs.Form.{flag, half, long, entryBytes, entryIn, entryOf, entryFormed, entryZero};
+ghost use Rattle.image.specs.Form.{flag, half, long, longBytes, entryBytes, entryIn, entryOf, entryFormed, entryZero};
 
 pub(crate) fn flag(t: bool) -> u8
     ensures { λ r. ⌜ r ≡ flag t ⌝ }
@@ -54,20 +52,55 @@ pub(crate) fn read_entry(bytes: &[u8]) -> Breakpoint
     entry_in(long(bytes))
 }
 
-// Entry k, from its fields where they lie.
+// A number as eight bytes: one store of the machine.
+fn put_long(w: u64, bytes: &mut [u8])
+    requires { ⌜ 8 ≤ length (now bytes) ⌝ }
+    ensures { λ _. ⌜ now (bytes .exit) ≡ overlay (longBytes w) (now (bytes .entry)) ⌝ }
+{
+    bytes[0] = (w % 256) as u8;
+    bytes[1] = (w / 256 % 256) as u8;
+    bytes[2] = (w / 65536 % 256) as u8;
+    bytes[3] = (w / 16777216 % 256) as u8;
+    bytes[4] = (w / 4294967296 % 256) as u8;
+    bytes[5] = (w / 1099511627776 % 256) as u8;
+    bytes[6] = (w / 281474976710656 % 256) as u8;
+    bytes[7] = (w / 72057594037927936 % 256) as u8;
+}
+
+// A word as a wider number.
+fn wide(w: u16) -> u64
+    ensures { λ r. ⌜ (r ≡ w) × (r < 65536) ⌝ }
+{
+    w as u64
+}
+
+// A byte as a wider number.
+fn wide_byte(b: u8) -> u64
+    ensures { λ r. ⌜ (r ≡ b) × (r < 256) ⌝ }
+{
+    b as u64
+}
+
+// The number whose bytes are those of entry k.
+fn entry_long(entries: [Breakpoint; 8], k: usize) -> u64
+    requires { ⌜ k < 8 ⌝ }
+    ensures { λ r. ⌜ longBytes r ≡ entryBytes (getD entries k free) ⌝ }
+{
+    let flags = flag(entries[k].used) as u64 + flag(entries[k].lifted) as u64 * 256;
+    let address = wide(entries[k].address);
+    let count = wide(entries[k].count);
+    let low = wide_byte(entries[k].low);
+    let high = wide_byte(entries[k].high);
+    flags + address * 65536 + count * 4294967296 + low * 281474976710656 + high * 72057594037927936
+}
+
+// Entry k.
 fn put_entry(entries: [Breakpoint; 8], k: usize, bytes: &mut [u8])
     requires { ⌜ k < 8 ⌝ }
     requires { ⌜ 8 ≤ length (now bytes) ⌝ }
     ensures { λ _. ⌜ now (bytes .exit) ≡ overlay (entryBytes (getD entries k free)) (now (bytes .entry)) ⌝ }
 {
-    bytes[0] = flag(entries[k].used);
-    bytes[1] = flag(entries[k].lifted);
-    bytes[2] = low_byte(entries[k].address);
-    bytes[3] = high_byte(entries[k].address);
-    bytes[4] = low_byte(entries[k].count);
-    bytes[5] = high_byte(entries[k].count);
-    bytes[6] = entries[k].low;
-    bytes[7] = entries[k].high;
+    put_long(entry_long(entries, k), bytes);
 }
 
 // Both flags are 0 or 1.

@@ -43,12 +43,11 @@ impl Process {
     }
 
     // Entry k is not lifted, or the process moves and no earlier entry is lifted.
-    fn lift_sound(self, k: usize) -> bool
-        requires { ⌜ k < 8 ⌝ }
+    fn lift_sound(self, k: usize, lifted: bool) -> bool
+        requires { ⌜ lifted ≡ entry self k .lifted ⌝ }
         ensures { λ r. ⌜ r ≡ liftSound self k ⌝ }
     {
-        let b = self.breaks[k];
-        if !b.lifted {
+        if !lifted {
             return true;
         }
         let run = self.run;
@@ -59,13 +58,13 @@ impl Process {
     }
 
     // No entry before k, which is in use, has its address.
-    fn first_there(self, k: usize) -> bool
+    fn first_there(self, k: usize, address: u16) -> bool
         requires { ⌜ k < 8 ⌝ }
         requires { ⌜ entry self k .used ≡ true ⌝ }
+        requires { ⌜ address ≡ entry self k .address ⌝ }
         ensures { λ r. ⌜ r ≡ firstThere self k ⌝ }
     {
-        let b = self.breaks[k];
-        let want = Want::At(b.address);
+        let want = Want::At(address);
         let mut j = 0;
         while j < k {
             let e = self.breaks[j];
@@ -77,12 +76,12 @@ impl Process {
         true
     }
 
-    // Entry k is free, or keeps the rules.
-    fn entry_sound(self, k: usize) -> bool
+    // Entry k, which is b, is free, or keeps the rules.
+    fn entry_sound(self, k: usize, b: Breakpoint) -> bool
         requires { ⌜ k < 8 ⌝ }
+        requires { ⌜ b ≡ entry self k ⌝ }
         ensures { λ r. ⌜ r ≡ entrySound self k ⌝ }
     {
-        let b = self.breaks[k];
         if !b.used {
             return true;
         }
@@ -92,21 +91,24 @@ impl Process {
         if !b.placed() {
             return false;
         }
-        if !self.first_there(k) {
+        if !self.first_there(k, b.address) {
             return false;
         }
-        self.lift_sound(k)
+        self.lift_sound(k, b.lifted)
     }
 
+    // Every entry is read once, and what is asked of it is handed on: an entry read anew costs a copy of all eight.
     pub fn sound(self) -> bool
         ensures { λ r. ⌜ r ≡ soundTest self ⌝ }
     {
         if !self.hosted() {
             return false;
         }
+        let breaks = self.breaks;
         let mut k = 0;
         while k < 8 {
-            if !self.entry_sound(k) {
+            let b = breaks[k];
+            if !self.entry_sound(k, b) {
                 return false;
             }
             k += 1;

@@ -1,29 +1,40 @@
 -- `process::record::Process::entry_sound` meets its contract: at each `return` the tests that led there say its value. Assumes nothing.
+use mathlib.Core.Path.{_≡_, sym, ap, _∙_}
+use mathlib.Core.Bool.{Bool}
+use Prim.Native.Nat.{ℕ}
 use borrow.Author.Tests.{not-true, not-false, eq-eqb, ne-eqb}
 use borrow.Author.Needs.{needs}
+use Rattle.process.specs.declared.record.Breakpoint.{Breakpoint}
 use Rattle.process.specs.Record.{entry}
-use Rattle.process.specs.Sound.{entrySound, usedSound}
+use Rattle.process.specs.Sound.{entrySound, usedSound, placed}
 use Rattle.process.proofs.record.Process.entry_sound.Statement.{statement}
 use Rattle.process.proofs.record.Process.entry_sound.Tie as tie
 
-mul-b : tie.Need-mul-b
-mul-b c = search needs
+-- equal breakpoints have equal fields
+module _ (b e : Breakpoint) (same : b ≡ e) where
+  used : (t : Bool) → b .used ≡ t → e .used ≡ t
+  used t u = rw (← same) u
 
-element-copy-out-b : tie.Need-element-copy-out-b
-element-copy-out-b c = search needs
+  address : b .address ≡ e .address
+  address = rw same
+
+  lifted : b .lifted ≡ e .lifted
+  lifted = rw same
 
 returns : tie.Need-returns
 unfolding entrySound usedSound
 returns c =
-    let a = c .before .before .before .args in
-    rw (not-true (entry (a .t1) (a .k) .used) (c .if1 .taken))
+    let s = c .before .before in
+    let a = s .args in
+    rw (used (a .b) (entry (a .self) (a .k)) (s .pre .1) _ (not-true (a .b .used) (c .if1 .taken)))
 
 returns-2 : tie.Need-returns-2
 unfolding entrySound usedSound
 returns-2 c =
-    let i = c .before in
-    let a = i .before .before .before .args in
-    rw (not-false (entry (a .t1) (a .k) .used) (i .if1 .left), eq-eqb _ _ (c .if2 .taken))
+    let i = c .before .before in
+    let s = i .before .before in
+    let a = s .args in
+    rw (used (a .b) (entry (a .self) (a .k)) (s .pre .1) _ (not-false (a .b .used) (i .if1 .left)), eq-eqb _ _ (c .if2 .taken))
 
 placed-requires : tie.Need-placed-requires
 placed-requires c κs = search needs
@@ -33,20 +44,24 @@ unfolding entrySound usedSound
 returns-3 c =
     let p = c .before in
     let h = p .before in
-    let i = h .before in
-    let a = i .before .before .before .args in
+    let i = h .before .before in
+    let s = i .before .before in
+    let a = s .args in
     rw (
-      not-false (entry (a .t1) (a .k) .used) (i .if1 .left),
+      used (a .b) (entry (a .self) (a .k)) (s .pre .1) _ (not-false (a .b .used) (i .if1 .left)),
       ne-eqb _ _ (h .if2 .left),
+      ← address (a .b) (entry (a .self) (a .k)) (s .pre .1),
       ← p .placed .ensures,
       not-true (p .placed .result) (c .if3 .taken),
     )
 
 first-there-requires : tie.Need-first-there-requires
 first-there-requires c κs =
-    let i = c .before .before .before in
-    let s = i .before .before .before in
-    (s .pre, not-false (entry (s .args .t1) (s .args .k) .used) (i .if1 .left))
+    let i = c .before .before .before .before in
+    let s = i .before .before in
+    let a = s .args in
+    let e = entry (a .self) (a .k) in
+    (s .pre .0, (used (a .b) e (s .pre .1) _ (not-false (a .b .used) (i .if1 .left)), address (a .b) e (s .pre .1)))
 
 returns-4 : tie.Need-returns-4
 unfolding entrySound usedSound
@@ -55,19 +70,22 @@ returns-4 c =
     let j = f .before in
     let p = j .before in
     let h = p .before in
-    let i = h .before in
-    let a = i .before .before .before .args in
+    let i = h .before .before in
+    let s = i .before .before in
+    let a = s .args in
+    let e = entry (a .self) (a .k) in
     rw (
-      not-false (entry (a .t1) (a .k) .used) (i .if1 .left),
+      used (a .b) e (s .pre .1) _ (not-false (a .b .used) (i .if1 .left)),
       ne-eqb _ _ (h .if2 .left),
-      ← p .placed .ensures,
-      not-false (p .placed .result) (j .if3 .left),
+      ap placed (sym (address (a .b) e (s .pre .1))) ∙ sym (p .placed .ensures) ∙ not-false (p .placed .result) (j .if3 .left),
       ← f .first-there .ensures,
       not-true (f .first-there .result) (c .if4 .taken),
     )
 
 lift-sound-requires : tie.Need-lift-sound-requires
-lift-sound-requires c κs = search needs
+lift-sound-requires c κs =
+    let s = c .before .before .before .before .before .before .before .before in
+    lifted (s .args .b) (entry (s .args .self) (s .args .k)) (s .pre .1)
 
 returns-5 : tie.Need-returns-5
 unfolding entrySound usedSound
@@ -77,13 +95,14 @@ returns-5 c =
     let j = f .before in
     let p = j .before in
     let h = p .before in
-    let i = h .before in
-    let a = i .before .before .before .args in
+    let i = h .before .before in
+    let s = i .before .before in
+    let a = s .args in
+    let e = entry (a .self) (a .k) in
     rw (
-      not-false (entry (a .t1) (a .k) .used) (i .if1 .left),
+      used (a .b) e (s .pre .1) _ (not-false (a .b .used) (i .if1 .left)),
       ne-eqb _ _ (h .if2 .left),
-      ← p .placed .ensures,
-      not-false (p .placed .result) (j .if3 .left),
+      ap placed (sym (address (a .b) e (s .pre .1))) ∙ sym (p .placed .ensures) ∙ not-false (p .placed .result) (j .if3 .left),
       ← f .first-there .ensures,
       not-false (f .first-there .result) (g .if4 .left),
     )
@@ -93,8 +112,6 @@ pub entry-sound-spec : {M : Type 1} → statement M
 entry-sound-spec =
     tie.close
     (tie.spec
-    mul-b
-    element-copy-out-b
     returns
     returns-2
     placed-requires

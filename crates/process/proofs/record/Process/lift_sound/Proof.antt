@@ -1,4 +1,5 @@
 -- `process::record::Process::lift_sound` meets its contract: at each `return` the tests that led there say its value. Assumes nothing.
+use mathlib.Core.Path.{sym, _∙_}
 use borrow.Author.Tests.{not-true, not-false}
 use borrow.Author.Needs.{needs}
 use Rattle.process.specs.Record.{entry}
@@ -6,17 +7,11 @@ use Rattle.process.specs.Sound.{liftSound}
 use Rattle.process.proofs.record.Process.lift_sound.Statement.{statement}
 use Rattle.process.proofs.record.Process.lift_sound.Tie as tie
 
-mul-b : tie.Need-mul-b
-mul-b c = search needs
-
-element-copy-out-b : tie.Need-element-copy-out-b
-element-copy-out-b c = search needs
-
 returns : tie.Need-returns
 unfolding liftSound
 returns c =
-    let a = c .before .before .before .args in
-    rw (not-true (entry (a .t1) (a .k) .lifted) (c .if1 .taken))
+    let s = c .before in
+    rw (sym (s .pre) ∙ not-true (s .args .lifted) (c .if1 .taken))
 
 moving-requires : tie.Need-moving-requires
 moving-requires c κs = search needs
@@ -29,18 +24,16 @@ unfolding liftSound
 returns-2 c =
     let m = c .before .before in
     let i = m .before in
-    let a = i .before .before .before .args in
-    rw (not-false (entry (a .t1) (a .k) .lifted) (i .if1 .left), ← m .moving .ensures, c .before .if2 .taken, c .find .ensures)
+    let s = i .before in
+    rw (sym (s .pre) ∙ not-false (s .args .lifted) (i .if1 .left), ← m .moving .ensures, c .before .if2 .taken, c .find .ensures)
 
 returns-3 : tie.Need-returns-3
 unfolding liftSound
 returns-3 c =
     let m = c .before in
     let i = m .before in
-    let a = i .before .before .before .args in
-    rw (not-false (entry (a .t1) (a .k) .lifted) (i .if1 .left), ← m .moving .ensures, c .if2 .left)
+    let s = i .before in
+    rw (sym (s .pre) ∙ not-false (s .args .lifted) (i .if1 .left), ← m .moving .ensures, c .if2 .left)
 
 pub lift-sound-spec : {M : Type 1} → statement M
-lift-sound-spec =
-    tie.close
-    (tie.spec mul-b element-copy-out-b returns moving-requires find-requires returns-2 returns-3)
+lift-sound-spec = tie.close (tie.spec returns moving-requires find-requires returns-2 returns-3)

@@ -1,10 +1,14 @@
 -- `process::record::Process::sound` meets its contract. The loop's invariant: every entry passed keeps the rules. Assumes nothing.
 use mathlib.Core.Bool.{true}
-use mathlib.Core.Path.{_≡_, refl, sym, _∙_}
+use mathlib.Core.Path.{_≡_, refl, sym, ap, _∙_}
+use mathlib.Core.List.{List}
 use Prim.Native.Nat.{_≤_, _-_}
 use native.Mathlib.Omega.{arith}
 use borrow.Author.Tests.{not-true, not-false}
 use borrow.Author.Needs.{needs}
+use lib.ListN.{length, getD, length-map}
+use Rattle.process.specs.declared.record.Breakpoint.{Breakpoint}
+use Rattle.process.specs.Record.{free}
 use Rattle.process.specs.Sound.{hosted, entrySound, soundTest}
 use Rattle.lists.specs.Every.{below}
 use Rattle.lists.proofs.Every.{below-more, below-fails}
@@ -12,10 +16,10 @@ use Rattle.process.proofs.record.Process.sound.Statement.{statement}
 use Rattle.process.proofs.record.Process.sound.Tie as tie
 
 abbrev Inv-loop : tie.InvT-loop
-Inv-loop self k₀ k = (k ≤ 8) × (hosted self ≡ true) × (below (entrySound self) k ≡ true)
+Inv-loop self breaks k₀ k = (k ≤ 8) × (length breaks ≡ 8) × (breaks ≡ self .breaks) × (hosted self ≡ true) × (below (entrySound self) k ≡ true)
 
 abbrev μ-loop : tie.MeasureT-loop
-μ-loop self k₀ k = 8 - k
+μ-loop self breaks k₀ k = 8 - k
 
 hosted-requires : tie.Need-hosted-requires Inv-loop μ-loop
 hosted-requires c κs = search needs
@@ -25,19 +29,30 @@ unfolding soundTest
 returns c = rw (← c .before .hosted .ensures, not-true (c .before .hosted .result) (c .if1 .taken))
 
 loop-holds : tie.Need-loop-holds Inv-loop μ-loop
-loop-holds c = (omega arith, sym (c .before .hosted .ensures) ∙ not-false (c .before .hosted .result) (c .if1 .left), refl)
+loop-holds c =
+    let h = c .before .before in
+    let eight = simp length-map at (h .before .good .0 .1 .1 .1 .1 .1 .1 .0 .1 .0 .1) in
+    (omega arith, eight, refl, sym (h .hosted .ensures) ∙ not-false (h .hosted .result) (c .before .if1 .left), refl)
+
+mul-b : tie.Need-mul-b Inv-loop μ-loop
+mul-b c = search needs
+
+array-copy-out-b : tie.Need-array-copy-out-b Inv-loop μ-loop
+array-copy-out-b c = search needs
 
 entry-sound-requires : tie.Need-entry-sound-requires Inv-loop μ-loop
-entry-sound-requires c κs = search needs
+entry-sound-requires c κs =
+    let l = c .before .before in
+    (omega arith, ap (λ (bs : List Breakpoint). getD bs (l .loop .k) free) (l .loop .inv .2))
 
 returns-2 : tie.Need-returns-2 Inv-loop μ-loop
 unfolding soundTest
 returns-2 c =
     let e = c .before in
-    let l = e .before .before in
-    let p = l .before .before .before .args .self in
+    let l = e .before .before .before in
+    let p = l .before .before .before .before .args .self in
     let fails = sym (e .entry-sound .ensures) ∙ not-true (e .entry-sound .result) (c .if2 .taken) in
-    rw (l .loop .inv .1, below-fails (entrySound p) 8 (l .loop .k) (e .before .loop-test .taken) fails)
+    rw (l .loop .inv .3, below-fails (entrySound p) 8 (l .loop .k) (e .before .before .loop-test .taken) fails)
 
 add-k : tie.Need-add-k Inv-loop μ-loop
 add-k c = omega arith
@@ -48,17 +63,17 @@ loop-less c = omega arith
 loop-again : tie.Need-loop-again Inv-loop μ-loop
 loop-again c =
     let e = c .before in
-    let l = e .before .before in
-    let p = l .before .before .before .args .self in
+    let l = e .before .before .before in
+    let p = l .before .before .before .before .args .self in
     let holds = sym (e .entry-sound .ensures) ∙ not-false (e .entry-sound .result) (c .if2 .left) in
-    (omega arith, l .loop .inv .1, below-more (entrySound p) (l .loop .k) (l .loop .inv .2) holds)
+    (omega arith, l .loop .inv .1, l .loop .inv .2, l .loop .inv .3, below-more (entrySound p) (l .loop .k) (l .loop .inv .4) holds)
 
 returns-3 : tie.Need-returns-3 Inv-loop μ-loop
 unfolding soundTest
 returns-3 c =
     let l = c .before in
     let end : l .loop .k ≡ 8 = omega arith in
-    rw (l .loop .inv .1, rw end at (l .loop .inv .2))
+    rw (l .loop .inv .3, rw end at (l .loop .inv .4))
 
 pub sound-spec : {M : Type 1} → statement M
 sound-spec =
@@ -69,6 +84,8 @@ sound-spec =
     hosted-requires
     returns
     loop-holds
+    mul-b
+    array-copy-out-b
     entry-sound-requires
     returns-2
     add-k
