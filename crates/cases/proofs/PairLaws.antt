@@ -12,11 +12,11 @@ use Rattle.lists.proofs.Every.{below-at}
 use Rattle.state.specs.Gateway.{processAt}
 use Rattle.lists.specs.Buffer.{overlay}
 use Rattle.lists.specs.Word.{lowFirst}
-use Rattle.message.specs.Answer.{cantOf, createdOf, noticeOf}
-use Rattle.message.specs.Layout.{written, headerOf, stringOf, fixedRight}
-use Rattle.message.specs.Outcome.{numberOf, firstFailing}
-use Rattle.message.specs.Refusal.{unusedZero, carriedLength, wrongLength, wrongHeader, misfits}
-use Rattle.message.specs.Table.{rowOf, requestForm}
+use Rattle.format.specs.Answer.{cantOf, createdOf, noticeOf}
+use Rattle.format.specs.Layout.{written, headerOf, stringOf, fixedRight}
+use Rattle.format.specs.Outcome.{numberOf, firstFailing}
+use Rattle.format.specs.Refusal.{unusedZero, carriedLength, wrongLength, wrongHeader, misfits}
+use Rattle.format.specs.Table.{rowOf, requestForm}
 use Rattle.process.specs.Find.{matches, find}
 use Rattle.process.specs.Planting.{plantedIn, liftedIn, removedFrom, replanted, liftedAt}
 use Rattle.process.specs.Record.{fresh}

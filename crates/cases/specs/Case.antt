@@ -4,10 +4,10 @@ use mathlib.Core.List.{List, [], map}
 use Prim.Native.Nat.{ℕ}
 use lib.ListN.{take, getD, replicate}
 use lib.Dec.{ltb}
-use Rattle.message.specs.declared.outcome.Outcome.{Outcome}
-use Rattle.message.specs.declared.outcome.Outcome.the-variants.{Granted, Refused}
-use Rattle.message.specs.Outcome.{numberOf}
-use Rattle.message.specs.Layout.{written}
+use Rattle.format.specs.declared.outcome.Outcome.{Outcome}
+use Rattle.format.specs.declared.outcome.Outcome.the-variants.{Granted, Refused}
+use Rattle.format.specs.Outcome.{numberOf}
+use Rattle.format.specs.Layout.{written}
 use Rattle.state.specs.Gateway.{freshStart}
 use Rattle.rules.specs.Step.{Call, request}
 use Rattle.rules.specs.Run.{Entry, run}

@@ -9,7 +9,7 @@ use lib.ListN.{length}
 use lib.Dec.{eqb}
 use Rattle.lists.specs.Word.{vectorOf}
 use Rattle.lists.proofs.Bool.{&&-left}
-use Rattle.message.specs.Outcome.{firstFailing}
+use Rattle.format.specs.Outcome.{firstFailing}
 use Rattle.state.specs.Gateway.{soundTest}
 use Rattle.rules.specs.Tests.{State, lent}
 use Rattle.rules.specs.Step.{requested, noted}

@@ -8,14 +8,14 @@ use lib.ListN.{length, drop}
 use lib.Dec.{eqb}
 use Rattle.lists.proofs.Short.{take-short, drop-short}
 use Rattle.lists.proofs.Word.{length-lowFirst}
-use Rattle.message.specs.declared.header.Header.{Header}
+use Rattle.format.specs.declared.header.Header.{Header}
 use Rattle.process.specs.Local.{Local}
 use Rattle.process.specs.Seen.{seen}
 use Rattle.process.specs.Request.{examined}
 use Rattle.process.proofs.SeenLaws.{length-seen}
 use Rattle.state.specs.Slot.{startOf, slot}
 use Rattle.rules.specs.Rule.{ruleOf, names, creates}
-use Rattle.message.specs.Outcome.{firstFailing}
+use Rattle.format.specs.Outcome.{firstFailing}
 use Rattle.rules.specs.Tests.{State, askedTests, reportNumber}
 use Rattle.gateway.specs.Stage.{asked}
 use Rattle.rules.specs.Step.{Stepped, localOf, grantedNamed, grantedCreate, granted, refused, told, notified, noted}

@@ -1,11 +1,11 @@
 // A request that was read, and a report that passed its first tests, on the bytes of the state: one process is read and written back.
 use crate::result::finish;
 use crate::result::signed;
+use format::Header;
+use format::Reading;
+use format::string;
 use image::lowest_absent;
 use image::read_process_at;
-use message::Header;
-use message::Reading;
-use message::string;
 use service::answer_at;
 use service::answer_away;
 use service::creates;
@@ -17,8 +17,8 @@ ghost use mathlib.Core.Bool.{true};
 ghost use mathlib.Core.List.{[]};
 ghost use Prim.Native.Nat.{_≤_, _<_};
 ghost use lib.ListN.{length};
-ghost use Rattle.message.specs.Layout.{stringOf};
-ghost use Rattle.message.specs.Table.{requestForm};
+ghost use Rattle.format.specs.Layout.{stringOf};
+ghost use Rattle.format.specs.Table.{requestForm};
 ghost use Rattle.message.specs.Exchange.{reads};
 ghost use Rattle.rules.specs.Tests.{lent, lowestAbsent};
 ghost use Rattle.rules.specs.Step.{noted};

@@ -1,6 +1,6 @@
 // What a call returns.
+use format::Outcome;
 use image::put_process_at;
-use message::Outcome;
 use process::Process;
 ghost use mathlib.Core.Path.{_≡_};
 ghost use mathlib.Core.Bool.{cond};

@@ -9,13 +9,13 @@ use lib.ListN.{length}
 use lib.Dec.{eqb, ltb, leb}
 use Rattle.lists.specs.Every.{every}
 use Rattle.lists.proofs.Bool.{&&-left, &&-right}
-use Rattle.message.specs.declared.header.Header.{Header}
-use Rattle.message.specs.declared.outcome.Reading.the-variants.{Message}
-use Rattle.message.specs.Outcome.{Test, test, firstFailing}
-use Rattle.message.specs.Table.{requestForm}
-use Rattle.message.specs.Layout.{headerOf, stringOf}
+use Rattle.format.specs.declared.header.Header.{Header}
+use Rattle.format.specs.declared.outcome.Reading.the-variants.{Message}
+use Rattle.format.specs.Outcome.{Test, test, firstFailing}
+use Rattle.format.specs.Table.{requestForm}
+use Rattle.format.specs.Layout.{headerOf, stringOf}
 use Rattle.message.specs.Exchange.{readNumber, reads}
-use Rattle.message.proofs.OutcomeLaws.{message-zero, message-header}
+use Rattle.format.proofs.OutcomeLaws.{message-zero, message-header}
 use Rattle.message.proofs.AnswerLaws.{answers-granted}
 use Rattle.process.specs.Local.{Local}
 use Rattle.rules.specs.Rule.{ruleOf, names, creates}

@@ -8,12 +8,12 @@ use lib.Dec.{eqb, ltb}
 use Rattle.lists.specs.Buffer.{overlay}
 use Rattle.lists.specs.Word.{lowFirst}
 use Rattle.lists.proofs.Buffer.{take-overlay, drop-overlay}
-use Rattle.message.specs.declared.header.Header.{Header}
-use Rattle.message.specs.declared.outcome.Outcome.{Outcome}
-use Rattle.message.specs.declared.outcome.Outcome.the-variants.{Granted, Refused}
-use Rattle.message.specs.Layout.{written, headerOf, stringOf}
-use Rattle.message.specs.Answer.{cantOf, createdOf, noticeOf}
-use Rattle.message.proofs.LayoutLaws.{length-written}
+use Rattle.format.specs.declared.header.Header.{Header}
+use Rattle.format.specs.declared.outcome.Outcome.{Outcome}
+use Rattle.format.specs.declared.outcome.Outcome.the-variants.{Granted, Refused}
+use Rattle.format.specs.Layout.{written, headerOf, stringOf}
+use Rattle.format.specs.Answer.{cantOf, createdOf, noticeOf}
+use Rattle.format.proofs.LayoutLaws.{length-written}
 use Rattle.rules.specs.Rule.{ruleOf, names, creates}
 use Rattle.rules.specs.Tests.{State, recordOf, lowestAbsent, requestNumber, reportNumber}
 use Rattle.rules.specs.Step.{Answer, Stepped, localOf, put, replied, replyOf, answers, grantedNamed, grantedCreate, granted, refused, requested, told, notified, noted}

@@ -6,9 +6,9 @@ use Prim.Native.Nat.{ℕ, zero, suc, _<_}
 use native.Mathlib.Omega.{arith}
 use borrow.Author.Tests.{ne-eqb, ltb-true, not-false}
 use lib.Dec.{eqb, ltb}
-use Rattle.message.specs.declared.outcome.Outcome.the-variants.{Refused}
-use Rattle.message.specs.Outcome.{firstFailing}
-use Rattle.message.proofs.OutcomeLaws.{first-passes, rest-passes}
+use Rattle.format.specs.declared.outcome.Outcome.the-variants.{Refused}
+use Rattle.format.specs.Outcome.{firstFailing}
+use Rattle.format.proofs.OutcomeLaws.{first-passes, rest-passes}
 use Rattle.process.specs.Report.{accepts, recorded, passes}
 use Rattle.rules.specs.Tests.{State, recordOf, noRoom, unsound, badReport, reportNumber}
 use Rattle.rules.specs.Step.{Answer, Stepped, answers, localOf, put, told, notified, noted}

@@ -8,17 +8,17 @@ use borrow.Author.Tests.{ne-eqb, eqb-true, ltb-false, not-false}
 use lib.ListN.{length}
 use lib.Dec.{eqb, ltb}
 use Rattle.lists.proofs.Bool.{||-left, ||-right}
-use Rattle.message.specs.declared.header.Header.{Header}
-use Rattle.message.specs.declared.outcome.Reading.{Reading}
-use Rattle.message.specs.declared.outcome.Reading.the-variants.{Message}
-use Rattle.message.specs.Outcome.{firstFailing, reading}
-use Rattle.message.specs.Table.{requestForm}
-use Rattle.message.specs.Layout.{headerOf, stringOf, fixedRight}
-use Rattle.message.specs.Refusal.{wrongLength, wrongHeader, unknown, malformed}
+use Rattle.format.specs.declared.header.Header.{Header}
+use Rattle.format.specs.declared.outcome.Reading.{Reading}
+use Rattle.format.specs.declared.outcome.Reading.the-variants.{Message}
+use Rattle.format.specs.Outcome.{firstFailing, reading}
+use Rattle.format.specs.Table.{requestForm}
+use Rattle.format.specs.Layout.{headerOf, stringOf, fixedRight}
+use Rattle.format.specs.Refusal.{wrongLength, wrongHeader, unknown, malformed}
 use Rattle.message.specs.Exchange.{readNumber, reads}
-use Rattle.message.specs.declared.outcome.Outcome.the-variants.{Refused as OutcomeRefused}
-use Rattle.message.specs.declared.outcome.Reading.the-variants.{Refused as ReadingRefused}
-use Rattle.message.proofs.OutcomeLaws.{message-header, first-passes, rest-passes}
+use Rattle.format.specs.declared.outcome.Outcome.the-variants.{Refused as OutcomeRefused}
+use Rattle.format.specs.declared.outcome.Reading.the-variants.{Refused as ReadingRefused}
+use Rattle.format.proofs.OutcomeLaws.{message-header, first-passes, rest-passes}
 use Rattle.state.specs.declared.gateway.Gateway.{Gateway}
 use Rattle.state.specs.Gateway.{soundTest}
 use Rattle.rules.specs.Tests.{State, lent, noRoom, unsound, askedTests, requestNumber}

@@ -3,8 +3,8 @@ use mathlib.Core.Bool.{cond}
 use mathlib.Core.List.{List, [], _∷_}
 use Prim.Native.Nat.{ℕ}
 use lib.Dec.{eqb}
-use Rattle.message.specs.declared.header.Header.{Header}
-use Rattle.message.specs.Outcome.{test, firstFailing}
+use Rattle.format.specs.declared.header.Header.{Header}
+use Rattle.format.specs.Outcome.{test, firstFailing}
 use Rattle.rules.specs.Tests.{State, noRoom, unsound, askedTests}
 use Rattle.rules.specs.Step.{Stepped, granted, refused}
 

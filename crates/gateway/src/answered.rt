@@ -1,5 +1,5 @@
 // What a call returns.
-use message::Outcome;
+use format::Outcome;
 use state::Gateway;
 ghost use mathlib.Core.Path.{_≡_};
 ghost use Rattle.gateway.specs.Lengths.{replyLength, noticeLength};

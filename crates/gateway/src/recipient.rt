@@ -1,5 +1,5 @@
 // Which process a request goes to.
-use message::Header;
+use format::Header;
 use service::creates;
 use service::named_of;
 use state::Gateway;

@@ -1,7 +1,7 @@
 // A machine report, with the buffer for its notice.
 use crate::answered::Answered;
 use crate::lent::lent_number;
-use message::Outcome;
+use format::Outcome;
 use service::report_at;
 use service::report_away;
 use state::Gateway;

@@ -1,6 +1,6 @@
 // Messages that are refused, each for the first test that it fails, and neighbours of them that are not.
 use crate::show;
-use message::Header;
+use format::Header;
 
 // What the desk's writer makes of these fields and this string.
 fn write(h: Header, string: &[u8], buffer: &mut [u8]) {

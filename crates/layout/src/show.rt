@@ -1,8 +1,8 @@
 // Printing of text, bytes, outcomes and readings.
+use format::Header;
+use format::Outcome;
+use format::Reading;
 use libc::STDOUT_FILENO;
-use message::Header;
-use message::Outcome;
-use message::Reading;
 
 pub fn text(bytes: &[u8]) {
     io::write_all(STDOUT_FILENO, bytes);
@@ -51,7 +51,7 @@ fn reading(found: Reading, message: &[u8]) {
             text(b"  is");
             fields(h);
             text(b" string");
-            hex(message::string(message));
+            hex(format::string(message));
         }
         Reading::Refused(n) => {
             field(b"  refused ", n as u64);

@@ -14,24 +14,24 @@ use Rattle.lists.specs.Word.{lowFirst}
 use Rattle.lists.proofs.Bool.{&&-left, &&-right, &&-both, ||-left, ||-right}
 use Rattle.lists.proofs.Every.{every-getD}
 use Rattle.lists.proofs.Word.{length-lowFirst}
-use Rattle.message.specs.declared.header.Header.{Header}
-use Rattle.message.specs.declared.outcome.Outcome.the-variants.{Granted}
-use Rattle.message.specs.declared.outcome.Reading.the-variants.{Message}
-use Rattle.message.specs.declared.table.Carried.the-variants.{Nothing, Counted, Vector}
-use Rattle.message.specs.declared.table.Form.{Form}
-use Rattle.message.specs.declared.table.Found.{Found}
-use Rattle.message.specs.declared.table.Found.the-variants.{Known}
-use Rattle.message.specs.declared.table.Op.{Op}
-use Rattle.message.specs.declared.table.Row.the-variants.{Listed, Unlisted}
-use Rattle.message.specs.Outcome.{firstFailing}
-use Rattle.message.specs.Table.{bare, stopped, reason as reasoned, row, ops, op, asks, replies, rowOf, formOf, withoutString, requestForm, replyForm, cantForm, noticeForm, answerForm}
-use Rattle.message.specs.Layout.{headerOf, fixedRight}
-use Rattle.message.specs.Refusal.{usedOrZero, unusedZero, carriedLength, wrongLength, wrongHeader, unknown, malformed, misfits}
+use Rattle.format.specs.declared.header.Header.{Header}
+use Rattle.format.specs.declared.outcome.Outcome.the-variants.{Granted}
+use Rattle.format.specs.declared.outcome.Reading.the-variants.{Message}
+use Rattle.format.specs.declared.table.Carried.the-variants.{Nothing, Counted, Vector}
+use Rattle.format.specs.declared.table.Form.{Form}
+use Rattle.format.specs.declared.table.Found.{Found}
+use Rattle.format.specs.declared.table.Found.the-variants.{Known}
+use Rattle.format.specs.declared.table.Op.{Op}
+use Rattle.format.specs.declared.table.Row.the-variants.{Listed, Unlisted}
+use Rattle.format.specs.Outcome.{firstFailing}
+use Rattle.format.specs.Table.{bare, stopped, reason as reasoned, row, ops, op, asks, replies, rowOf, formOf, withoutString, requestForm, replyForm, cantForm, noticeForm, answerForm}
+use Rattle.format.specs.Layout.{headerOf, fixedRight}
+use Rattle.format.specs.Refusal.{usedOrZero, unusedZero, carriedLength, wrongLength, wrongHeader, unknown, malformed, misfits}
 use Rattle.message.specs.Exchange.{writeNumber, answered, readNumber, writes, heads, reads}
-use Rattle.message.specs.Answer.{cmdOver, cantOf, createdOf, noticeOf}
+use Rattle.format.specs.Answer.{cmdOver, cantOf, createdOf, noticeOf}
 use Rattle.message.specs.Granted.{Answers, AnswersGranted}
-use Rattle.message.proofs.OutcomeLaws.{outcome-zero, message-zero, message-header}
-use Rattle.message.proofs.TestLaws.{Passed, zero-passed, passed-zero}
+use Rattle.format.proofs.OutcomeLaws.{outcome-zero, message-zero, message-header}
+use Rattle.format.proofs.TestLaws.{Passed, zero-passed, passed-zero}
 
 -- what test 6 asks of a message of a known form
 pub record Fits (f : Form) (h : Header) (carried : ℕ) : Type 0 where

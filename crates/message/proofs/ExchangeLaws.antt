@@ -6,15 +6,15 @@ use native.Mathlib.Omega.{arith}
 use borrow.Author.Tests.{ltb-false, lt-ltb, eq-eqb, ne-eqb}
 use lib.ListN.{length}
 use Rattle.lists.specs.Buffer.{overlay}
-use Rattle.message.specs.declared.header.Header.{Header}
-use Rattle.message.specs.declared.outcome.Outcome.the-variants.{Granted, Refused}
-use Rattle.message.specs.declared.outcome.Reading.the-variants.{Refused as ReadingRefused}
-use Rattle.message.specs.declared.table.Found.{Found}
+use Rattle.format.specs.declared.header.Header.{Header}
+use Rattle.format.specs.declared.outcome.Outcome.the-variants.{Granted, Refused}
+use Rattle.format.specs.declared.outcome.Reading.the-variants.{Refused as ReadingRefused}
+use Rattle.format.specs.declared.table.Found.{Found}
 use Rattle.message.specs.Exchange.{Forms, writeNumber, answered, readNumber, reads}
-use Rattle.message.specs.Outcome.{reading, firstFailing}
-use Rattle.message.specs.Refusal.{wrongLength}
-use Rattle.message.proofs.OutcomeLaws.{outcome-zero, outcome-other, first-passes, rest-passes}
-use Rattle.message.proofs.TestLaws.{zero-passed, sized-between}
+use Rattle.format.specs.Outcome.{reading, firstFailing}
+use Rattle.format.specs.Refusal.{wrongLength}
+use Rattle.format.proofs.OutcomeLaws.{outcome-zero, outcome-other, first-passes, rest-passes}
+use Rattle.format.proofs.TestLaws.{zero-passed, sized-between}
 
 -- where no test fails the buffer has room, and the string is at most 256 bytes long
 pub record Room (carried : ℕ) (buffer : List ℕ) : Type 0 where

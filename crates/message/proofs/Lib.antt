@@ -1,7 +1,4 @@
 -- Laws that several proofs of this crate, and of the crates above, cite.
-pub mod OutcomeLaws
-pub mod TestLaws
 pub mod ExchangeLaws
-pub mod LayoutLaws
 pub mod RoundTripLaws
 pub mod AnswerLaws

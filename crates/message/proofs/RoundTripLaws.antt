@@ -11,18 +11,18 @@ use lib.ListN.{length, take, drop, length-drop}
 use lib.Seq.{length-take-le, take-append-add}
 use Rattle.lists.specs.Buffer.{Bytes, overlay}
 use Rattle.lists.proofs.Buffer.{take-overlay}
-use Rattle.message.specs.declared.header.Header.{Header}
-use Rattle.message.specs.declared.outcome.Outcome.the-variants.{Granted}
-use Rattle.message.specs.declared.outcome.Reading.the-variants.{Message}
-use Rattle.message.specs.declared.table.Found.{Found}
-use Rattle.message.specs.Outcome.{firstFailing}
-use Rattle.message.specs.Layout.{header, written, headerOf, stringOf, fixedRight}
-use Rattle.message.specs.Refusal.{wrongHeader, layoutTests}
+use Rattle.format.specs.declared.header.Header.{Header}
+use Rattle.format.specs.declared.outcome.Outcome.the-variants.{Granted}
+use Rattle.format.specs.declared.outcome.Reading.the-variants.{Message}
+use Rattle.format.specs.declared.table.Found.{Found}
+use Rattle.format.specs.Outcome.{firstFailing}
+use Rattle.format.specs.Layout.{header, written, headerOf, stringOf, fixedRight}
+use Rattle.format.specs.Refusal.{wrongHeader, layoutTests}
 use Rattle.message.specs.Exchange.{Forms, writeNumber, answered, readNumber, writes, heads, reads}
 use Rattle.message.specs.RoundTrip.{ReadAs, WrittenAs, RoundTrip}
-use Rattle.message.proofs.OutcomeLaws.{granted-zero, granted-length, reading-zero, message-zero, message-header, rest-passes}
-use Rattle.message.proofs.TestLaws.{zero-passed, sized-between, headed-fixed}
-use Rattle.message.proofs.LayoutLaws.{headerOf-written, stringOf-written, fixedRight-written, length-written, written-headerOf, length-stringOf}
+use Rattle.format.proofs.OutcomeLaws.{granted-zero, granted-length, reading-zero, message-zero, message-header, rest-passes}
+use Rattle.format.proofs.TestLaws.{zero-passed, sized-between, headed-fixed}
+use Rattle.format.proofs.LayoutLaws.{headerOf-written, stringOf-written, fixedRight-written, length-written, written-headerOf, length-stringOf}
 use Rattle.message.proofs.ExchangeLaws.{Room, writeNumber-room, answered-granted}
 
 module _ (forms : Forms) where

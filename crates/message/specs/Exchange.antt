@@ -5,13 +5,13 @@ use Prim.Native.Nat.{ℕ, _+_}
 use lib.ListN.{length}
 use lib.Dec.{ltb, eqb}
 use Rattle.lists.specs.Buffer.{overlay}
-use Rattle.message.specs.declared.header.Header.{Header}
-use Rattle.message.specs.declared.outcome.Outcome.{Outcome}
-use Rattle.message.specs.declared.outcome.Reading.{Reading}
-use Rattle.message.specs.declared.table.Found.{Found}
-use Rattle.message.specs.Outcome.{outcome, reading, test, firstFailing}
-use Rattle.message.specs.Layout.{header, written, headerOf, fixedRight}
-use Rattle.message.specs.Refusal.{layoutTests}
+use Rattle.format.specs.declared.header.Header.{Header}
+use Rattle.format.specs.declared.outcome.Outcome.{Outcome}
+use Rattle.format.specs.declared.outcome.Reading.{Reading}
+use Rattle.format.specs.declared.table.Found.{Found}
+use Rattle.format.specs.Outcome.{outcome, reading, test, firstFailing}
+use Rattle.format.specs.Layout.{header, written, headerOf, fixedRight}
+use Rattle.format.specs.Refusal.{layoutTests}
 
 -- what a writer returns, and its output buffer after it
 pub record Written : Type 0 where

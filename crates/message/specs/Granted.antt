@@ -6,13 +6,13 @@ use mathlib.Core.List.{List, []}
 use Prim.Native.Nat.{ℕ, _+_, _<_, _≤_}
 use lib.ListN.{length}
 use Rattle.lists.specs.Word.{lowFirst}
-use Rattle.message.specs.declared.header.Header.{Header}
-use Rattle.message.specs.declared.outcome.Outcome.the-variants.{Granted}
-use Rattle.message.specs.declared.outcome.Reading.the-variants.{Message}
-use Rattle.message.specs.declared.table.Carried.the-variants.{Nothing, Counted}
-use Rattle.message.specs.Table.{op, replies, requestForm, answerForm}
+use Rattle.format.specs.declared.header.Header.{Header}
+use Rattle.format.specs.declared.outcome.Outcome.the-variants.{Granted}
+use Rattle.format.specs.declared.outcome.Reading.the-variants.{Message}
+use Rattle.format.specs.declared.table.Carried.the-variants.{Nothing, Counted}
+use Rattle.format.specs.Table.{op, replies, requestForm, answerForm}
 use Rattle.message.specs.Exchange.{writes, heads, reads}
-use Rattle.message.specs.Answer.{cantOf, createdOf, noticeOf}
+use Rattle.format.specs.Answer.{cantOf, createdOf, noticeOf}
 
 -- every answer to a request with these fields is granted, in a buffer with room
 pub record Answers (h : Header) (buffer : List ℕ) : Type 0 where

@@ -4,10 +4,10 @@ use mathlib.Core.List.{List}
 use Prim.Native.Nat.{ℕ, _≤_}
 use lib.ListN.{length, take, drop}
 use Rattle.lists.specs.Buffer.{Bytes}
-use Rattle.message.specs.declared.header.Header.{Header}
-use Rattle.message.specs.declared.outcome.Outcome.the-variants.{Granted}
-use Rattle.message.specs.declared.outcome.Reading.the-variants.{Message}
-use Rattle.message.specs.Layout.{stringOf}
+use Rattle.format.specs.declared.header.Header.{Header}
+use Rattle.format.specs.declared.outcome.Outcome.the-variants.{Granted}
+use Rattle.format.specs.declared.outcome.Reading.the-variants.{Message}
+use Rattle.format.specs.Layout.{stringOf}
 use Rattle.message.specs.Exchange.{Forms, writes, heads, reads}
 
 -- the message that a writer left in its buffer is read as these fields and this string

@@ -2,58 +2,17 @@
 use crate::exchange::read;
 use crate::exchange::write;
 use crate::exchange::write_head;
-use crate::header::Header;
-use crate::outcome::Outcome;
-use crate::outcome::Reading;
-use crate::table::answer_form;
+use format::Header;
+use format::Outcome;
+use format::Reading;
+use format::answer_form;
 use words::vector_bytes;
 ghost use mathlib.Core.Path.{_≡_};
 ghost use mathlib.Core.List.{[]};
 ghost use Rattle.lists.specs.Word.{lowFirst};
-ghost use Rattle.message.specs.Table.{answerForm};
+ghost use Rattle.format.specs.Table.{answerForm};
 ghost use Rattle.message.specs.Exchange.{writes, heads, reads};
-ghost use Rattle.message.specs.Answer.{cantOf, createdOf, noticeOf};
-
-impl Header {
-    // The header of the CAN'T that refuses this request.
-    fn cant(self) -> Header
-        ensures { λ r. ⌜ r ≡ cantOf self ⌝ }
-    {
-        Header {
-            host: self.host,
-            cmd: if self.cmd < 128 { self.cmd + 128 } else { 255 },
-            pid: self.pid,
-            arg1: self.arg1,
-            arg2: self.arg2,
-        }
-    }
-
-    // The header of CREATED with this process number.
-    fn created(self, number: u8) -> Header
-        ensures { λ r. ⌜ r ≡ createdOf self number ⌝ }
-    {
-        Header {
-            host: self.host,
-            cmd: self.cmd,
-            pid: number,
-            arg1: self.arg1,
-            arg2: self.arg2,
-        }
-    }
-
-    // The header of a notice: kind 0 TRAP, 1 HALT, 2 BPT, 3 TTRAP.
-    fn notice(host: u8, kind: u8, pid: u8, reason: u16) -> Header
-        ensures { λ r. ⌜ r ≡ noticeOf host kind pid reason ⌝ }
-    {
-        Header {
-            host: host,
-            cmd: if kind < 4 { kind + 64 } else { 255 },
-            pid: pid,
-            arg1: reason,
-            arg2: 0,
-        }
-    }
-}
+ghost use Rattle.format.specs.Answer.{cantOf, createdOf, noticeOf};
 
 // The reply that grants a request and carries no string.
 pub fn write_reply(request: Header, buffer: &mut [u8]) -> Outcome

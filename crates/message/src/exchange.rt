@@ -1,15 +1,15 @@
 // Writing and reading a message whose form was found: what requests and answers have in common.
-use crate::header::Header;
-use crate::header::fixed_right;
-use crate::header::put_string;
-use crate::outcome::Outcome;
-use crate::outcome::Reading;
-use crate::refusal::refusal;
-use crate::table::Found;
+use format::Found;
+use format::Header;
+use format::Outcome;
+use format::Reading;
+use format::fixed_right;
+use format::layout_number;
+use format::put_string;
 ghost use mathlib.Core.Path.{_≡_};
 ghost use Prim.Native.Nat.{_≤_};
 ghost use lib.ListN.{length};
-ghost use Rattle.message.specs.Layout.{headerOf};
+ghost use Rattle.format.specs.Layout.{headerOf};
 ghost use Rattle.message.specs.Exchange.{writeNumber, headAs, writeAs, readAs};
 
 // The number of the first of a writer's tests that fails, or 0, for a string of this length.
@@ -22,7 +22,7 @@ fn write_number(found: Found, h: Header, carried: usize, buffer: &[u8]) -> u8
     if 256 < carried {
         return 3;
     }
-    refusal(true, found, h, 10 + carried)
+    layout_number(true, found, h, 10 + carried)
 }
 
 // The header of a message whose string, of this length, stands behind the tenth byte already.
@@ -58,7 +58,7 @@ pub(crate) fn read(found: Found, h: Header, message: &[u8]) -> Reading
     requires { ⌜ h ≡ headerOf (now message) ⌝ }
     ensures { λ r. ⌜ r ≡ readAs found (now (message .entry)) ⌝ }
 {
-    let number = refusal(fixed_right(message), found, h, message.len());
+    let number = layout_number(fixed_right(message), found, h, message.len());
     if number != 0 {
         return Reading::Refused(number);
     }

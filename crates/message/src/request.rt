@@ -1,12 +1,12 @@
 // Requests: the desk writes them, the gateway reads them.
 use crate::exchange::read;
 use crate::exchange::write;
-use crate::header::Header;
-use crate::outcome::Outcome;
-use crate::outcome::Reading;
-use crate::table::request_form;
+use format::Header;
+use format::Outcome;
+use format::Reading;
+use format::request_form;
 ghost use mathlib.Core.Path.{_≡_};
-ghost use Rattle.message.specs.Table.{requestForm};
+ghost use Rattle.format.specs.Table.{requestForm};
 ghost use Rattle.message.specs.Exchange.{writes, reads};
 
 // The desk writes a request with this string, by the tests 1, 3, 4, 5, 6.

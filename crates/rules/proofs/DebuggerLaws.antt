@@ -6,8 +6,8 @@ use Prim.Native.Nat.{ℕ, _<_}
 use borrow.Author.Tests.{eqb-true, eqb-false, ltb-true}
 use lib.Dec.{eqb, ltb}
 use Rattle.lists.specs.Buffer.{overlay}
-use Rattle.message.specs.Layout.{written, headerOf, stringOf}
-use Rattle.message.specs.Answer.{createdOf}
+use Rattle.format.specs.Layout.{written, headerOf, stringOf}
+use Rattle.format.specs.Answer.{createdOf}
 use Rattle.process.specs.Record.{fresh}
 use Rattle.process.specs.Request.{created}
 use Rattle.rules.specs.Rule.{public, ruleOf, names, creates}

@@ -9,8 +9,8 @@ use lib.ListN.{length, set}
 use lib.Dec.{eqb, ltb}
 use Rattle.lists.specs.Buffer.{overlay}
 use Rattle.lists.specs.Word.{lowFirst}
-use Rattle.message.specs.Answer.{noticeOf}
-use Rattle.message.specs.Layout.{written, headerOf, stringOf}
+use Rattle.format.specs.Answer.{noticeOf}
+use Rattle.format.specs.Layout.{written, headerOf, stringOf}
 use Rattle.process.specs.declared.record.Process.{Process}
 use Rattle.process.specs.Local.{Local, local}
 use Rattle.process.specs.Report.{reported}

@@ -8,8 +8,8 @@ use lib.Dec.{leb, lit<}
 use lib.ListN.{length, take}
 use lib.Seq.{getD-take}
 use Rattle.lists.proofs.Bool.{&&-left, &&-right}
-use Rattle.message.specs.declared.header.Header.{Header}
-use Rattle.message.specs.Layout.{headerOf}
+use Rattle.format.specs.declared.header.Header.{Header}
+use Rattle.format.specs.Layout.{headerOf}
 use Rattle.rules.specs.Rule.{Public, names}
 use Rattle.rules.specs.Tests.{State}
 use Rattle.rules.specs.Step.{Answer, requested, Call, request, report, store, step}

@@ -9,12 +9,12 @@ use borrow.Author.Tests.{eqb-true, lt-ltb, not-false}
 use lib.ListN.{length}
 use lib.Dec.{eqb, ltb}
 use Rattle.lists.specs.Buffer.{overlay}
-use Rattle.message.specs.declared.header.Header.{Header}
-use Rattle.message.specs.declared.outcome.Outcome.the-variants.{Granted, Refused}
-use Rattle.message.specs.Outcome.{test, firstFailing}
-use Rattle.message.specs.Layout.{written, headerOf, stringOf}
-use Rattle.message.specs.Answer.{cantOf}
-use Rattle.message.proofs.OutcomeLaws.{first-passes, rest-passes}
+use Rattle.format.specs.declared.header.Header.{Header}
+use Rattle.format.specs.declared.outcome.Outcome.the-variants.{Granted, Refused}
+use Rattle.format.specs.Outcome.{test, firstFailing}
+use Rattle.format.specs.Layout.{written, headerOf, stringOf}
+use Rattle.format.specs.Answer.{cantOf}
+use Rattle.format.proofs.OutcomeLaws.{first-passes, rest-passes}
 use Rattle.process.specs.declared.record.Process.{Process}
 use Rattle.process.specs.Local.{Local}
 use Rattle.rules.specs.Rule.{Rule, Public, public, ruleOf, names}

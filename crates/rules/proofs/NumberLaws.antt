@@ -10,16 +10,16 @@ use lib.Dec.{eqb, ltb}
 use Rattle.lists.specs.Every.{every}
 use Rattle.lists.proofs.Bool.{||-right}
 use Rattle.lists.proofs.Every.{every-getD}
-use Rattle.message.specs.declared.table.Carried.{Carried}
-use Rattle.message.specs.declared.table.Carried.the-variants.{Nothing, Counted, Vector}
-use Rattle.message.specs.declared.table.Op.{Op}
-use Rattle.message.specs.Outcome.{Test, test, firstFailing}
-use Rattle.message.specs.Table.{bare, row, ops, op, asks, requestForm}
-use Rattle.message.specs.Layout.{headerOf, stringOf, fixedRight}
-use Rattle.message.specs.Refusal.{carriedLength, unusedZero, wrongLength, wrongHeader, unknown, misfits, malformed, layoutTests}
-use Rattle.message.proofs.OutcomeLaws.{rest-passes}
-use Rattle.message.proofs.TestLaws.{zero-passed, sized-between}
-use Rattle.message.proofs.LayoutLaws.{length-stringOf}
+use Rattle.format.specs.declared.table.Carried.{Carried}
+use Rattle.format.specs.declared.table.Carried.the-variants.{Nothing, Counted, Vector}
+use Rattle.format.specs.declared.table.Op.{Op}
+use Rattle.format.specs.Outcome.{Test, test, firstFailing}
+use Rattle.format.specs.Table.{bare, row, ops, op, asks, requestForm}
+use Rattle.format.specs.Layout.{headerOf, stringOf, fixedRight}
+use Rattle.format.specs.Refusal.{carriedLength, unusedZero, wrongLength, wrongHeader, unknown, misfits, malformed, layoutTests}
+use Rattle.format.proofs.OutcomeLaws.{rest-passes}
+use Rattle.format.proofs.TestLaws.{zero-passed, sized-between}
+use Rattle.format.proofs.LayoutLaws.{length-stringOf}
 use Rattle.message.proofs.AnswerLaws.{Asked, asked-passed, requestForm-known}
 use Rattle.process.specs.Report.{accepts}
 use Rattle.rules.specs.Tests.{State, noRoom, unsound, recordOf, absent, askedTests, requestNumber, badReport, reportNumber}

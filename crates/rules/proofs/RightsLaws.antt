@@ -8,7 +8,7 @@ use native.Mathlib.Omega.{arith}
 use borrow.Author.Tests.{eqb-true, eqb-false, ltb-true, not-true}
 use lib.Dec.{eqb, ltb}
 use Rattle.lists.proofs.First.{first-passes}
-use Rattle.message.specs.Layout.{headerOf, stringOf}
+use Rattle.format.specs.Layout.{headerOf, stringOf}
 use Rattle.process.specs.declared.record.Process.{Process}
 use Rattle.process.specs.Record.{fresh}
 use Rattle.process.specs.Local.{Local, local}

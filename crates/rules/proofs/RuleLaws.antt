@@ -9,7 +9,7 @@ use borrow.Author.Tests.{eqb-true, leb-true}
 use lib.ListN.{length, getD}
 use lib.Dec.{eqb, leb, ltb}
 use Rattle.lists.proofs.Bool.{&&-left, &&-right}
-use Rattle.message.specs.declared.header.Header.{Header}
+use Rattle.format.specs.declared.header.Header.{Header}
 use Rattle.process.specs.declared.record.Run.{Run}
 use Rattle.process.specs.declared.record.Process.{Process}
 use Rattle.process.specs.declared.find.Want.the-variants.{Lifted, At}

@@ -9,10 +9,10 @@ use lib.ListN.{length, set}
 use lib.Dec.{eqb, ltb}
 use Rattle.lists.specs.Buffer.{overlay}
 use Rattle.lists.specs.Word.{lowFirst}
-use Rattle.message.specs.declared.outcome.Outcome.the-variants.{Granted, Refused}
-use Rattle.message.specs.Outcome.{test, firstFailing}
-use Rattle.message.specs.Layout.{written, headerOf}
-use Rattle.message.specs.Answer.{noticeOf}
+use Rattle.format.specs.declared.outcome.Outcome.the-variants.{Granted, Refused}
+use Rattle.format.specs.Outcome.{test, firstFailing}
+use Rattle.format.specs.Layout.{written, headerOf}
+use Rattle.format.specs.Answer.{noticeOf}
 use Rattle.process.specs.declared.record.Process.{Process}
 use Rattle.process.specs.Local.{Local, local}
 use Rattle.process.specs.Report.{accepts, reported}

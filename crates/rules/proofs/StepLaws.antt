@@ -8,10 +8,10 @@ use borrow.Author.Tests.{eqb-true, ltb-true, not-false}
 use lib.ListN.{length}
 use lib.Dec.{eqb, ltb, eqb·suc-zero}
 use Rattle.lists.proofs.Bool.{&&-left, &&-right}
-use Rattle.message.specs.declared.header.Header.{Header}
-use Rattle.message.specs.Outcome.{firstFailing}
-use Rattle.message.specs.Layout.{headerOf, stringOf}
-use Rattle.message.proofs.OutcomeLaws.{first-passes, rest-passes}
+use Rattle.format.specs.declared.header.Header.{Header}
+use Rattle.format.specs.Outcome.{firstFailing}
+use Rattle.format.specs.Layout.{headerOf, stringOf}
+use Rattle.format.proofs.OutcomeLaws.{first-passes, rest-passes}
 use Rattle.process.specs.declared.record.Process.{Process}
 use Rattle.process.specs.Local.{Proper}
 use Rattle.process.specs.Request.{created}

@@ -11,12 +11,12 @@ use Rattle.lists.specs.Every.{every}
 use Rattle.lists.specs.Word.{lowFirst}
 use Rattle.lists.proofs.Bool.{&&-left, &&-right}
 use Rattle.lists.proofs.Buffer.{drop-overlay}
-use Rattle.message.specs.declared.header.Header.{Header}
-use Rattle.message.specs.declared.outcome.Outcome.the-variants.{Granted, Refused}
-use Rattle.message.specs.Outcome.{Test, firstFailing, numberOf}
-use Rattle.message.specs.Layout.{written, headerOf, stringOf}
-use Rattle.message.specs.Answer.{cantOf}
-use Rattle.message.proofs.LayoutLaws.{length-written}
+use Rattle.format.specs.declared.header.Header.{Header}
+use Rattle.format.specs.declared.outcome.Outcome.the-variants.{Granted, Refused}
+use Rattle.format.specs.Outcome.{Test, firstFailing, numberOf}
+use Rattle.format.specs.Layout.{written, headerOf, stringOf}
+use Rattle.format.specs.Answer.{cantOf}
+use Rattle.format.proofs.LayoutLaws.{length-written}
 use Rattle.process.specs.Local.{Local}
 use Rattle.rules.specs.Rule.{names, creates}
 use Rattle.rules.specs.Tests.{State, askedTests, requestTests, requestNumber, reportTests, reportNumber}

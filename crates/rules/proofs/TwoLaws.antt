@@ -9,8 +9,8 @@ use borrow.Author.Tests.{eqb-true, eqb-false, ltb-true}
 use lib.ListN.{set}
 use lib.Dec.{eqb, ltb}
 use Rattle.lists.proofs.First.{first-alike}
-use Rattle.message.specs.declared.header.Header.{Header}
-use Rattle.message.specs.Layout.{headerOf, stringOf}
+use Rattle.format.specs.declared.header.Header.{Header}
+use Rattle.format.specs.Layout.{headerOf, stringOf}
 use Rattle.process.specs.declared.record.Process.{Process}
 use Rattle.process.specs.Local.{Local, local}
 use Rattle.process.specs.Request.{created}

@@ -4,8 +4,8 @@ use mathlib.Core.List.{List, [], _∷_}
 use Prim.Native.Nat.{ℕ, _+_}
 use lib.ListN.{getD}
 use lib.Dec.{eqb, leb}
-use Rattle.message.specs.declared.header.Header.{Header}
-use Rattle.message.specs.Table.{op, asks}
+use Rattle.format.specs.declared.header.Header.{Header}
+use Rattle.format.specs.Table.{op, asks}
 use Rattle.process.specs.declared.record.Run.{Run}
 use Rattle.process.specs.declared.record.Process.{Process}
 use Rattle.process.specs.Sound.{placed}

@@ -6,11 +6,11 @@ use lib.ListN.{length, set}
 use lib.Dec.{eqb, ltb}
 use Rattle.lists.specs.Buffer.{overlay}
 use Rattle.lists.specs.Word.{lowFirst}
-use Rattle.message.specs.declared.header.Header.{Header}
-use Rattle.message.specs.declared.outcome.Outcome.{Outcome}
-use Rattle.message.specs.declared.outcome.Outcome.the-variants.{Granted, Refused}
-use Rattle.message.specs.Layout.{written, headerOf, stringOf}
-use Rattle.message.specs.Answer.{cantOf, createdOf, noticeOf}
+use Rattle.format.specs.declared.header.Header.{Header}
+use Rattle.format.specs.declared.outcome.Outcome.{Outcome}
+use Rattle.format.specs.declared.outcome.Outcome.the-variants.{Granted, Refused}
+use Rattle.format.specs.Layout.{written, headerOf, stringOf}
+use Rattle.format.specs.Answer.{cantOf, createdOf, noticeOf}
 use Rattle.process.specs.Local.{Local, local}
 use Rattle.process.specs.Request.{created}
 use Rattle.process.specs.Report.{recorded, passes, reported}

@@ -5,11 +5,11 @@ use Prim.Native.Nat.{ℕ, _+_}
 use lib.ListN.{length}
 use lib.Dec.{eqb, ltb}
 use Rattle.lists.specs.First.{first}
-use Rattle.message.specs.declared.header.Header.{Header}
-use Rattle.message.specs.Outcome.{Test, test, firstFailing}
-use Rattle.message.specs.Table.{requestForm}
-use Rattle.message.specs.Layout.{headerOf, fixedRight}
-use Rattle.message.specs.Refusal.{layoutTests}
+use Rattle.format.specs.declared.header.Header.{Header}
+use Rattle.format.specs.Outcome.{Test, test, firstFailing}
+use Rattle.format.specs.Table.{requestForm}
+use Rattle.format.specs.Layout.{headerOf, fixedRight}
+use Rattle.format.specs.Refusal.{layoutTests}
 use Rattle.process.specs.declared.record.Process.{Process}
 use Rattle.process.specs.Report.{accepts}
 use Rattle.state.specs.declared.gateway.Gateway.{Gateway}

@@ -7,10 +7,10 @@ use Prim.Native.Nat.{ℕ, _≤_}
 use lib.ListN.{length, drop}
 use lib.Dec.{ltb, eqb}
 use Rattle.lists.specs.Buffer.{overlay}
-use Rattle.message.specs.declared.outcome.Outcome.the-variants.{Granted, Refused}
-use Rattle.message.specs.Outcome.{Test, numberOf}
-use Rattle.message.specs.Layout.{written, headerOf}
-use Rattle.message.specs.Answer.{cantOf}
+use Rattle.format.specs.declared.outcome.Outcome.the-variants.{Granted, Refused}
+use Rattle.format.specs.Outcome.{Test, numberOf}
+use Rattle.format.specs.Layout.{written, headerOf}
+use Rattle.format.specs.Answer.{cantOf}
 use Rattle.rules.specs.Tests.{State, requestTests, reportTests}
 use Rattle.rules.specs.Step.{Call, requested, noted, step}
 use Rattle.rules.specs.Ready.{Ready}

@@ -6,9 +6,9 @@ use native.Mathlib.Omega.{arith}
 use borrow.Author.Tests.{ltb-true, leb-true, not-false}
 use lib.Dec.{eqb, leb, ltb}
 use Rattle.lists.proofs.Bool.{&&-left, &&-right}
-use Rattle.message.specs.declared.header.Header.{Header}
-use Rattle.message.specs.Outcome.{firstFailing}
-use Rattle.message.proofs.OutcomeLaws.{first-passes, rest-passes}
+use Rattle.format.specs.declared.header.Header.{Header}
+use Rattle.format.specs.Outcome.{firstFailing}
+use Rattle.format.proofs.OutcomeLaws.{first-passes, rest-passes}
 use Rattle.process.specs.declared.record.Process.{Process}
 use Rattle.process.specs.declared.find.Want.the-variants.{At}
 use Rattle.process.specs.Find.{find}

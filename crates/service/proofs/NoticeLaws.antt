@@ -10,9 +10,9 @@ use lib.Dec.{eqb, ltb}
 use Rattle.lists.specs.Word.{lowFirst}
 use Rattle.lists.proofs.Bool.{||-left, ||-right}
 use Rattle.lists.proofs.Word.{length-lowFirst}
-use Rattle.message.specs.declared.outcome.Outcome.the-variants.{Granted}
-use Rattle.message.specs.Answer.{noticeOf}
-use Rattle.message.specs.Table.{answerForm}
+use Rattle.format.specs.declared.outcome.Outcome.the-variants.{Granted}
+use Rattle.format.specs.Answer.{noticeOf}
+use Rattle.format.specs.Table.{answerForm}
 use Rattle.message.specs.Exchange.{writes}
 use Rattle.message.proofs.AnswerLaws.{answers-granted}
 use Rattle.rules.specs.Tests.{badReport}

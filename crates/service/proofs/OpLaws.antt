@@ -7,7 +7,7 @@ use native.Mathlib.Omega.{arith}
 use borrow.Author.Tests.{ne-eqb}
 use lib.ListN.{getD}
 use lib.Dec.{eqb, leb}
-use Rattle.message.specs.declared.header.Header.{Header}
+use Rattle.format.specs.declared.header.Header.{Header}
 use Rattle.process.specs.declared.record.Run.{Run}
 use Rattle.process.specs.declared.record.Process.{Process}
 use Rattle.process.specs.Sound.{placed}

@@ -12,14 +12,14 @@ use Rattle.lists.specs.Every.{below}
 use Rattle.lists.proofs.Every.{below-at}
 use Rattle.lists.proofs.Buffer.{overlay-before}
 use Rattle.lists.proofs.Part.{length-part, length-replaced}
-use Rattle.message.specs.declared.header.Header.{Header}
-use Rattle.message.specs.declared.outcome.Outcome.the-variants.{Granted}
-use Rattle.message.specs.declared.table.Carried.{Carried}
-use Rattle.message.specs.declared.table.Carried.the-variants.{Nothing, Counted, Vector}
-use Rattle.message.specs.Table.{bare, row, ops, op, replies, answerForm}
-use Rattle.message.specs.Layout.{header, written}
+use Rattle.format.specs.declared.header.Header.{Header}
+use Rattle.format.specs.declared.outcome.Outcome.the-variants.{Granted}
+use Rattle.format.specs.declared.table.Carried.{Carried}
+use Rattle.format.specs.declared.table.Carried.the-variants.{Nothing, Counted, Vector}
+use Rattle.format.specs.Table.{bare, row, ops, op, replies, answerForm}
+use Rattle.format.specs.Layout.{header, written}
 use Rattle.message.specs.Exchange.{writeNumber, answered, writes, heads}
-use Rattle.message.proofs.OutcomeLaws.{granted-zero}
+use Rattle.format.proofs.OutcomeLaws.{granted-zero}
 use Rattle.message.proofs.ExchangeLaws.{answered-granted}
 use Rattle.process.specs.Local.{Local}
 use Rattle.process.specs.Seen.{seen}

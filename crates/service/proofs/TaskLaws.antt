@@ -6,12 +6,12 @@ use native.Mathlib.Omega.{arith}
 use borrow.Author.Tests.{ltb-false}
 use lib.ListN.{List·getD-eq-default}
 use lib.Dec.{ltb}
-use Rattle.message.specs.declared.header.Header.{Header}
-use Rattle.message.specs.declared.table.Found.{Found}
-use Rattle.message.specs.declared.table.Found.the-variants.{Known, Unknown}
-use Rattle.message.specs.Outcome.{firstFailing}
-use Rattle.message.specs.Table.{bare, row, ops, rowOf, requestForm}
-use Rattle.message.proofs.OutcomeLaws.{rest-passes}
+use Rattle.format.specs.declared.header.Header.{Header}
+use Rattle.format.specs.declared.table.Found.{Found}
+use Rattle.format.specs.declared.table.Found.the-variants.{Known, Unknown}
+use Rattle.format.specs.Outcome.{firstFailing}
+use Rattle.format.specs.Table.{bare, row, ops, rowOf, requestForm}
+use Rattle.format.proofs.OutcomeLaws.{rest-passes}
 use Rattle.process.specs.declared.record.Process.{Process}
 use Rattle.rules.specs.Rule.{ruleOf, names}
 use Rattle.rules.specs.Tests.{ruleTests}

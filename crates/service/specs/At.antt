@@ -5,11 +5,11 @@ use Prim.Native.Nat.{ℕ, zero, suc}
 use lib.Dec.{eqb, ltb}
 use Rattle.lists.specs.Buffer.{overlay}
 use Rattle.lists.specs.Word.{lowFirst}
-use Rattle.message.specs.declared.header.Header.{Header}
-use Rattle.message.specs.declared.outcome.Outcome.the-variants.{Granted, Refused}
-use Rattle.message.specs.Outcome.{test, firstFailing}
-use Rattle.message.specs.Layout.{written}
-use Rattle.message.specs.Answer.{cantOf, createdOf, noticeOf}
+use Rattle.format.specs.declared.header.Header.{Header}
+use Rattle.format.specs.declared.outcome.Outcome.the-variants.{Granted, Refused}
+use Rattle.format.specs.Outcome.{test, firstFailing}
+use Rattle.format.specs.Layout.{written}
+use Rattle.format.specs.Answer.{cantOf, createdOf, noticeOf}
 use Rattle.process.specs.declared.record.Process.{Process}
 use Rattle.process.specs.Local.{Local}
 use Rattle.process.specs.Request.{created}

@@ -2,7 +2,7 @@
 use mathlib.Core.List.{List}
 use Prim.Native.Nat.{ℕ, _≤_}
 use lib.ListN.{length}
-use Rattle.message.specs.declared.header.Header.{Header}
+use Rattle.format.specs.declared.header.Header.{Header}
 use Rattle.message.specs.Granted.{Answers}
 
 -- each answer to a request with these fields has room in every buffer of 266 bytes

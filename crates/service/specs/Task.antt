@@ -3,8 +3,8 @@ use mathlib.Core.Bool.{not, cond}
 use mathlib.Core.List.{List, [], _∷_}
 use Prim.Native.Nat.{ℕ, zero, suc}
 use lib.Dec.{eqb}
-use Rattle.message.specs.declared.header.Header.{Header}
-use Rattle.message.specs.Outcome.{Test, test, firstFailing}
+use Rattle.format.specs.declared.header.Header.{Header}
+use Rattle.format.specs.Outcome.{Test, test, firstFailing}
 use Rattle.process.specs.declared.record.Process.{Process}
 use Rattle.process.specs.declared.find.Want.the-variants.{At}
 use Rattle.process.specs.Find.{find}

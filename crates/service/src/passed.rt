@@ -1,13 +1,13 @@
 // A request that passed its tests, on the process that it names.
 use crate::effect::perform;
 use crate::reply::reply_to;
-use message::Header;
-use message::Outcome;
+use format::Header;
+use format::Outcome;
 use process::Process;
 ghost use mathlib.Core.Path.{_≡_};
 ghost use Prim.Native.Nat.{_≤_};
 ghost use lib.ListN.{length};
-ghost use Rattle.message.specs.Outcome.{firstFailing};
+ghost use Rattle.format.specs.Outcome.{firstFailing};
 ghost use Rattle.process.specs.Local.{local, Tested};
 ghost use Rattle.rules.specs.Rule.{ruleOf};
 ghost use Rattle.rules.specs.Tests.{ruleTests};

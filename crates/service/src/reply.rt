@@ -1,13 +1,13 @@
 // The reply that grants a request to the process that it names.
-use message::Header;
-use message::Outcome;
+use format::Header;
+use format::Outcome;
 use message::write_contents;
 use message::write_reply;
 use process::Process;
 ghost use mathlib.Core.Path.{_≡_};
 ghost use Prim.Native.Nat.{_+_, _≤_};
 ghost use lib.ListN.{length};
-ghost use Rattle.message.specs.Outcome.{firstFailing};
+ghost use Rattle.format.specs.Outcome.{firstFailing};
 ghost use Rattle.process.specs.Local.{local};
 ghost use Rattle.process.specs.Request.{examined};
 ghost use Rattle.rules.specs.Rule.{ruleOf};

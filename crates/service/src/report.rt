@@ -1,6 +1,6 @@
 // A machine report, at the process that it is about.
 use crate::passed::Served;
-use message::Outcome;
+use format::Outcome;
 use message::write_notice;
 use process::Process;
 ghost use mathlib.Core.Path.{_≡_};

@@ -1,6 +1,6 @@
 // The tests 8 to 12 of a request that names a process, by its op code.
 use crate::task::Task;
-use message::Header;
+use format::Header;
 use process::Process;
 use process::Run;
 use process::Want;

@@ -1,7 +1,7 @@
 // What a request is to do to a process, by the tests 7 to 12. What the tests find on the way goes into the task, so that nothing is looked
 // for twice.
 use crate::rule::rule_task;
-use message::Header;
+use format::Header;
 use process::Process;
 ghost use mathlib.Core.Path.{_≡_};
 ghost use Rattle.service.specs.Task.{taskOf};

@@ -2,7 +2,7 @@
 use mathlib.Core.Path.{_≡_, refl, ap, sym, _∙_}
 use native.Mathlib.Omega.{arith}
 use Rattle.lists.specs.Buffer.{Bytes}
-use Rattle.message.specs.Layout.{stringOf}
+use Rattle.format.specs.Layout.{stringOf}
 use Rattle.rules.specs.Tests.{lent}
 use Rattle.rules.specs.Isolation.{isGranted}
 use Rattle.service.specs.At.{targetOf, awayAnswer}

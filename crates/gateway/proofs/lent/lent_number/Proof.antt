@@ -2,7 +2,7 @@
 use borrow.Author.Needs.{needs}
 use borrow.Author.Tests.{eq-eqb, ne-eqb, lt-ltb, le-ltb}
 use lib.ListN.{length}
-use Rattle.message.specs.Outcome.{firstFailing}
+use Rattle.format.specs.Outcome.{firstFailing}
 use Rattle.gateway.specs.Stage.{lentNumber}
 use Rattle.gateway.proofs.lent.lent_number.Statement.{statement}
 use Rattle.gateway.proofs.lent.lent_number.Tie as tie

@@ -1,6 +1,6 @@
 -- `gateway::requests::answer` meets its contract: at the process that the request goes to, or at none. Assumes nothing.
 use mathlib.Core.Path.{refl, ap, sym, _∙_}
-use Rattle.message.specs.Layout.{stringOf}
+use Rattle.format.specs.Layout.{stringOf}
 use Rattle.rules.specs.Tests.{lent}
 use Rattle.service.specs.At.{targetOf}
 use Rattle.gateway.proofs.PartLaws.{lowest-lent}

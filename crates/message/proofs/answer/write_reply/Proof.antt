@@ -1,6 +1,6 @@
 -- `message::answer::write_reply` meets its contract: a message with no string is its header. Assumes nothing.
 use borrow.Author.Needs.{needs}
-use Rattle.message.specs.Layout.{written}
+use Rattle.format.specs.Layout.{written}
 use Rattle.message.specs.Exchange.{writes}
 use Rattle.message.proofs.answer.write_reply.Statement.{statement}
 use Rattle.message.proofs.answer.write_reply.Tie as tie

@@ -1,15 +1,15 @@
 -- `message::exchange::read` meets its contract: number 0 gives the fields, any other number is the refusal. Assumes nothing.
 use borrow.Author.Needs.{needs}
 use Rattle.message.specs.Exchange.{readNumber}
-use Rattle.message.proofs.OutcomeLaws.{reading-zero, reading-other}
+use Rattle.format.proofs.OutcomeLaws.{reading-zero, reading-other}
 use Rattle.message.proofs.exchange.read.Statement.{statement}
 use Rattle.message.proofs.exchange.read.Tie as tie
 
 fixed-right-requires : tie.Need-fixed-right-requires
 fixed-right-requires c κs = search needs
 
-refusal-requires : tie.Need-refusal-requires
-refusal-requires c κs = search needs
+layout-number-requires : tie.Need-layout-number-requires
+layout-number-requires c κs = search needs
 
 returns : tie.Need-returns
 unfolding readNumber
@@ -17,7 +17,7 @@ returns c =
     let r = c .before in
     let f = r .before in
     let a = f .before .before in
-    let e = rw (f .fixed-right .ensures, a .pre .1) at (r .refusal .ensures) in
+    let e = rw (f .fixed-right .ensures, a .pre .1) at (r .layout-number .ensures) in
     rw (← e) (reading-other _ _ (c .if1 .taken))
 
 returns-2 : tie.Need-returns-2
@@ -26,8 +26,8 @@ returns-2 c =
     let r = c .before in
     let f = r .before in
     let a = f .before .before in
-    let e = rw (f .fixed-right .ensures, a .pre .1) at (r .refusal .ensures) in
+    let e = rw (f .fixed-right .ensures, a .pre .1) at (r .layout-number .ensures) in
     rw (← e, ← a .pre .1) (reading-zero _ _ (c .if1 .left))
 
 pub read-spec : {M : Type 1} → statement M
-read-spec = tie.close (tie.spec fixed-right-requires refusal-requires returns returns-2)
+read-spec = tie.close (tie.spec fixed-right-requires layout-number-requires returns returns-2)

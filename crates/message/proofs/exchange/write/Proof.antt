@@ -4,7 +4,7 @@ use Prim.Native.Nat.{_≤_}
 use native.Mathlib.Omega.{arith}
 use borrow.Author.Needs.{needs}
 use lib.ListN.{length}
-use Rattle.message.specs.Layout.{header, written}
+use Rattle.format.specs.Layout.{header, written}
 use Rattle.lists.proofs.Buffer.{length-overlay, paste-overlay}
 use Rattle.message.proofs.ExchangeLaws.{writeNumber-room, answered-refused, answered-granted}
 use Rattle.message.proofs.exchange.write.Statement.{statement}

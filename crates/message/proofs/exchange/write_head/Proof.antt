@@ -2,7 +2,7 @@
 use mathlib.Core.Path.{sym, _∙_}
 use native.Mathlib.Omega.{arith}
 use borrow.Author.Needs.{needs}
-use Rattle.message.specs.Layout.{header}
+use Rattle.format.specs.Layout.{header}
 use Rattle.message.proofs.ExchangeLaws.{writeNumber-room, answered-refused, answered-granted}
 use Rattle.message.proofs.exchange.write_head.Statement.{statement}
 use Rattle.message.proofs.exchange.write_head.Tie as tie

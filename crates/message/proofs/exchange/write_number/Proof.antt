@@ -4,8 +4,8 @@ use native.Mathlib.Omega.{arith}
 use borrow.Author.Tests.{lt-ltb, le-ltb}
 use borrow.Author.Needs.{needs}
 use lib.ListN.{length}
-use Rattle.message.specs.Refusal.{wrongLength}
-use Rattle.message.specs.Outcome.{firstFailing}
+use Rattle.format.specs.Refusal.{wrongLength}
+use Rattle.format.specs.Outcome.{firstFailing}
 use Rattle.message.specs.Exchange.{writeNumber}
 use Rattle.message.proofs.exchange.write_number.Statement.{statement}
 use Rattle.message.proofs.exchange.write_number.Tie as tie
@@ -23,17 +23,17 @@ returns-2 c =
     let enough : 10 ≤ 10 + n = omega arith in
     rw (le-ltb _ _ room, le-ltb _ _ enough, lt-ltb _ _ long)
 
-add-refusal : tie.Need-add-refusal
-add-refusal c = search needs
+add-layout-number : tie.Need-add-layout-number
+add-layout-number c = search needs
 
-refusal-requires : tie.Need-refusal-requires
-refusal-requires c κs = search needs
+layout-number-requires : tie.Need-layout-number-requires
+layout-number-requires c κs = search needs
 
 returns-3 : tie.Need-returns-3
 unfolding writeNumber firstFailing
 returns-3 c =
     let room : 266 ≤ length (c .before .before .before .before .args .buffer .now) = omega arith in
-    rw (le-ltb _ _ room) (c .refusal .ensures)
+    rw (le-ltb _ _ room) (c .layout-number .ensures)
 
 pub write-number-spec : {M : Type 1} → statement M
-write-number-spec = tie.close (tie.spec returns returns-2 add-refusal refusal-requires returns-3)
+write-number-spec = tie.close (tie.spec returns returns-2 add-layout-number layout-number-requires returns-3)

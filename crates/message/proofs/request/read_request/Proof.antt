@@ -1,8 +1,8 @@
 -- `message::request::read_request` meets its contract: under ten bytes there is no message, and else the form found is that of the CMD in the message. Assumes nothing.
 use mathlib.Core.Path.{ap, _∙_}
 use borrow.Author.Needs.{needs}
-use Rattle.message.specs.declared.header.Header.{Header}
-use Rattle.message.specs.Table.{requestForm}
+use Rattle.format.specs.declared.header.Header.{Header}
+use Rattle.format.specs.Table.{requestForm}
 use Rattle.message.specs.Exchange.{reads}
 use Rattle.message.proofs.ExchangeLaws.{reads-short}
 use Rattle.message.proofs.request.read_request.Statement.{statement}

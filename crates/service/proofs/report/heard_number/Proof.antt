@@ -1,5 +1,5 @@
 -- `service::report::heard_number` meets its contract: at each `return` the tests before it have passed. Assumes nothing.
-use Rattle.message.specs.Outcome.{firstFailing}
+use Rattle.format.specs.Outcome.{firstFailing}
 use Rattle.service.specs.At.{heardNumber}
 use borrow.Author.Needs.{needs}
 use Rattle.service.proofs.report.heard_number.Statement.{statement}

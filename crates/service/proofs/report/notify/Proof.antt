@@ -5,8 +5,8 @@ use borrow.Author.Needs.{needs}
 use borrow.Author.Tests.{eq-eqb, ne-eqb}
 use lib.ListN.{length}
 use Rattle.lists.specs.Word.{lowFirst}
-use Rattle.message.specs.declared.outcome.Outcome.the-variants.{Granted}
-use Rattle.message.specs.Answer.{noticeOf}
+use Rattle.format.specs.declared.outcome.Outcome.the-variants.{Granted}
+use Rattle.format.specs.Answer.{noticeOf}
 use Rattle.service.specs.At.{noticeOr}
 use Rattle.service.proofs.NoticeLaws.{notice-granted, notice-long}
 use Rattle.service.proofs.ReplyLaws.{writes-buffer}

@@ -1,6 +1,6 @@
 -- `service::report::report_away` meets its contract: at each `return` the tests before it have passed. Assumes nothing.
 use borrow.Author.Tests.{lt-ltb, le-ltb}
-use Rattle.message.specs.Outcome.{firstFailing}
+use Rattle.format.specs.Outcome.{firstFailing}
 use Rattle.service.specs.At.{reportAway}
 use borrow.Author.Needs.{needs}
 use Rattle.service.proofs.report.report_away.Statement.{statement}

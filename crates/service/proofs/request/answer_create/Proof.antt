@@ -3,7 +3,7 @@ use mathlib.Core.Path.{_≡_, _∙_}
 use mathlib.Core.List.{[]}
 use native.Mathlib.Omega.{arith}
 use borrow.Author.Tests.{eqb-true}
-use Rattle.message.specs.Answer.{createdOf}
+use Rattle.format.specs.Answer.{createdOf}
 use Rattle.service.proofs.ReplyLaws.{writes-buffer}
 use borrow.Author.Needs.{needs}
 use Rattle.service.proofs.request.answer_create.Statement.{statement}

@@ -2,7 +2,7 @@
 use mathlib.Core.Path.{refl, _∙_}
 use mathlib.Core.List.{[]}
 use borrow.Author.Needs.{needs}
-use Rattle.message.specs.Answer.{cantOf}
+use Rattle.format.specs.Answer.{cantOf}
 use Rattle.service.proofs.ReplyLaws.{writes-buffer}
 use Rattle.service.proofs.request.refuse.Statement.{statement}
 use Rattle.service.proofs.request.refuse.Tie as tie

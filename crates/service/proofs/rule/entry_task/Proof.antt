@@ -1,7 +1,7 @@
 -- `service::rule::entry_task` meets its contract, by the op code. Assumes nothing.
 use borrow.Author.Needs.{needs}
 use borrow.Author.Tests.{ne-eqb}
-use Rattle.message.specs.Outcome.{firstFailing}
+use Rattle.format.specs.Outcome.{firstFailing}
 use Rattle.service.specs.Task.{taskBy, entryOf, entryTask}
 use Rattle.service.proofs.OpLaws.{coded}
 use Rattle.service.proofs.rule.entry_task.Statement.{statement}

@@ -1,6 +1,6 @@
 -- `service::rule::rule_task` meets its contract: at each `return` the tests before it have passed. Assumes nothing.
 use borrow.Author.Needs.{needs}
-use Rattle.message.specs.Outcome.{firstFailing}
+use Rattle.format.specs.Outcome.{firstFailing}
 use Rattle.service.specs.Task.{taskBy, entryTask, ruleTask}
 use Rattle.service.proofs.rule.rule_task.Statement.{statement}
 use Rattle.service.proofs.rule.rule_task.Tie as tie

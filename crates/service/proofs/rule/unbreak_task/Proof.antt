@@ -1,7 +1,7 @@
 -- `service::rule::unbreak_task` meets its contract, by whether a breakpoint was found. Assumes nothing.
 use borrow.Author.Needs.{needs}
 use borrow.Author.Tests.{lt-ltb, le-ltb}
-use Rattle.message.specs.Outcome.{firstFailing}
+use Rattle.format.specs.Outcome.{firstFailing}
 use Rattle.process.specs.Request.{hasBreak}
 use Rattle.rules.specs.Rule.{ruleOf}
 use Rattle.service.specs.Task.{taskBy, entryOf, entryTask}

@@ -1,6 +1,6 @@
 -- `service::task::task_of` meets its contract: test 7, then the others. Assumes nothing.
 use borrow.Author.Needs.{needs}
-use Rattle.message.specs.Outcome.{firstFailing}
+use Rattle.format.specs.Outcome.{firstFailing}
 use Rattle.service.specs.Task.{taskBy, ruleTask, taskOf}
 use Rattle.service.proofs.task.task_of.Statement.{statement}
 use Rattle.service.proofs.task.task_of.Tie as tie

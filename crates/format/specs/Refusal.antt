@@ -1,0 +1,57 @@
+-- The tests of a message's layout, 3 to 6, which every reader and writer uses.
+use mathlib.Core.Bool.{Bool, true, false, not, _&&_, _||_}
+use mathlib.Core.List.{List, [], _∷_}
+use Prim.Native.Nat.{ℕ, _+_}
+use lib.Dec.{ltb, eqb}
+use Rattle.format.specs.declared.header.Header.{Header}
+use Rattle.format.specs.declared.table.Carried.{Carried}
+use Rattle.format.specs.declared.table.Carried.the-variants.{Nothing, Counted, Vector}
+use Rattle.format.specs.declared.table.Form.{Form}
+use Rattle.format.specs.declared.table.Found.{Found}
+use Rattle.format.specs.declared.table.Found.the-variants.{Known, Unknown}
+use Rattle.format.specs.Outcome.{Test, test}
+
+-- 'Unused fields are zero.': this field is used, or it is zero
+abbrev pub usedOrZero : Bool → ℕ → Bool
+usedOrZero used value = used || eqb value 0
+
+-- every unused field of a header is zero
+unfoldable pub unusedZero : Form → Header → Bool
+unusedZero f h = usedOrZero (f .pid) (h .pid) && usedOrZero (f .arg1) (h .arg1) && usedOrZero (f .arg2) (h .arg2)
+
+-- how many bytes a message with this ARG2 carries: none, 'exactly ARG2', 'the 18 bytes'
+unfoldable pub carriedLength : Carried → ℕ → ℕ
+carriedLength Nothing arg2 = 0
+carriedLength Counted arg2 = arg2
+carriedLength Vector arg2 = 18
+
+-- test 3: 'message under 10 or over 266 bytes'
+unfoldable pub wrongLength : ℕ → Bool
+wrongLength length = ltb length 10 || ltb 266 length
+
+-- test 4: 'TYPE, LINK or STYPE wrong, or HOST 0'
+unfoldable pub wrongHeader : Bool → ℕ → Bool
+wrongHeader fixed host = not fixed || eqb host 0
+
+-- test 5: 'CMD not a known op code'
+abbrev pub unknown : Found → Bool
+unknown (Known f) = false
+unknown Unknown = true
+
+-- a message with these fields and this length does not have the form
+unfoldable pub misfits : Form → Header → ℕ → Bool
+misfits f h length = not (unusedZero f h) || not (eqb length (10 + carriedLength (f .carried) (h .arg2)))
+
+-- test 6: 'unused field not zero, or string of wrong length'
+abbrev pub malformed : Found → Header → ℕ → Bool
+malformed (Known f) h length = misfits f h length
+malformed Unknown h length = false
+
+-- tests 3 to 6 of a message with these fields and this length; fixed says that TYPE, LINK and STYPE are right
+abbrev pub layoutTests : Bool → Found → Header → ℕ → List Test
+layoutTests fixed found h length =
+    test 3 (wrongLength length)
+    ∷ test 4 (wrongHeader fixed (h .host))
+    ∷ test 5 (unknown found)
+    ∷ test 6 (malformed found h length)
+    ∷ []

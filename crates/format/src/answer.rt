@@ -1,0 +1,45 @@
+// The headers of the answers to a request, and of a notice.
+use crate::header::Header;
+ghost use mathlib.Core.Path.{_≡_};
+ghost use Rattle.format.specs.Answer.{cantOf, createdOf, noticeOf};
+
+impl Header {
+    // The header of the CAN'T that refuses this request.
+    pub fn cant(self) -> Header
+        ensures { λ r. ⌜ r ≡ cantOf self ⌝ }
+    {
+        Header {
+            host: self.host,
+            cmd: if self.cmd < 128 { self.cmd + 128 } else { 255 },
+            pid: self.pid,
+            arg1: self.arg1,
+            arg2: self.arg2,
+        }
+    }
+
+    // The header of CREATED with this process number.
+    pub fn created(self, number: u8) -> Header
+        ensures { λ r. ⌜ r ≡ createdOf self number ⌝ }
+    {
+        Header {
+            host: self.host,
+            cmd: self.cmd,
+            pid: number,
+            arg1: self.arg1,
+            arg2: self.arg2,
+        }
+    }
+
+    // The header of a notice: kind 0 TRAP, 1 HALT, 2 BPT, 3 TTRAP.
+    pub fn notice(host: u8, kind: u8, pid: u8, reason: u16) -> Header
+        ensures { λ r. ⌜ r ≡ noticeOf host kind pid reason ⌝ }
+    {
+        Header {
+            host: host,
+            cmd: if kind < 4 { kind + 64 } else { 255 },
+            pid: pid,
+            arg1: reason,
+            arg2: 0,
+        }
+    }
+}
