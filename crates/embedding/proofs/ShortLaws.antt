@@ -21,7 +21,7 @@ use Rattle.gateway.specs.Stage.{asked}
 use Rattle.rules.specs.Step.{Stepped, localOf, grantedNamed, grantedCreate, granted, refused, told, notified, noted}
 use Rattle.rules.proofs.StepLaws.{by-test}
 use Rattle.embedding.specs.Called.{Short}
-use Rattle.service.proofs.OpLaws.{coded}
+use Rattle.tasks.proofs.OpLaws.{coded}
 
 slot-short : (p : ℕ) (m : List ℕ) → length (slot p m) ≤ 4096
 unfolding slot

@@ -23,7 +23,7 @@ use Rattle.rules.specs.Tests.{State, recordOf, absent, lowestAbsent, ruleTests,
 use Rattle.rules.specs.Step.{Stepped, localOf, put, grantedNamed, grantedCreate, granted, refused}
 use Rattle.rules.proofs.NumberLaws.{envelope, envelope-sent}
 use Rattle.rules.proofs.StateLaws.{put-same}
-use Rattle.service.specs.Task.{processTests}
+use Rattle.tasks.specs.Task.{processTests}
 use Rattle.service.specs.Reply.{Answerable}
 use Rattle.service.specs.At.{Left, namedOf, targetOf, awayAnswer, namedBy, namedAt, createdAt, requestAt}
 use Rattle.gateway.specs.Stage.{asked}

@@ -17,7 +17,7 @@ use Rattle.process.specs.Report.{accepts, recorded, passes, reported}
 use Rattle.rules.specs.Rule.{ruleOf, names, creates}
 use Rattle.rules.specs.Tests.{badReport}
 use Rattle.rules.specs.Step.{Answer, replyOf}
-use Rattle.service.specs.Task.{processTests}
+use Rattle.tasks.specs.Task.{processTests}
 
 -- what is answered, and the process with its bytes after it
 pub record Left : Type 0 where

@@ -8,7 +8,7 @@ ghost use Rattle.format.specs.Outcome.{firstFailing};
 ghost use Rattle.process.specs.Local.{local, Tested};
 ghost use Rattle.rules.specs.Rule.{ruleOf};
 ghost use Rattle.rules.specs.Tests.{ruleTests};
-ghost use Rattle.service.specs.Task.{entryOf};
+ghost use Rattle.tasks.specs.Task.{entryOf};
 
 // One method of the process for each op code; k is the entry that BREAK or UNBREAK goes to.
 pub(crate) fn perform(h: Header, k: usize, p: Process, bytes: &mut [u8], string: &[u8]) -> Process

@@ -5,8 +5,6 @@ mod recipient;
 mod reply;
 mod report;
 mod request;
-mod rule;
-mod task;
 
 pub use passed::Served;
 pub use recipient::creates;

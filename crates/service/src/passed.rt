@@ -12,7 +12,7 @@ ghost use Rattle.process.specs.Local.{local, Tested};
 ghost use Rattle.rules.specs.Rule.{ruleOf};
 ghost use Rattle.rules.specs.Tests.{ruleTests};
 ghost use Rattle.rules.specs.Step.{replyOf};
-ghost use Rattle.service.specs.Task.{entryOf};
+ghost use Rattle.tasks.specs.Task.{entryOf};
 ghost use Rattle.service.specs.Reply.{Answerable};
 
 // The outcome, and the process after it.

@@ -1,7 +1,7 @@
 -- `service::recipient::names` meets its contract, by the table of op codes. Assumes nothing.
 use mathlib.Core.Path.{sym, _∙_}
 use borrow.Author.Needs.{needs}
-use Rattle.service.proofs.TaskLaws.{names-known}
+use Rattle.tasks.proofs.TaskLaws.{names-known}
 use Rattle.service.proofs.recipient.names.Statement.{statement}
 use Rattle.service.proofs.recipient.names.Tie as tie
 

@@ -4,7 +4,7 @@ use mathlib.Core.List.{[]}
 use borrow.Author.Needs.{needs}
 use borrow.Author.Tests.{eq-eqb, ne-eqb}
 use Rattle.service.proofs.ReplyLaws.{writes-buffer, plain-reply}
-use Rattle.service.proofs.OpLaws.{coded}
+use Rattle.tasks.proofs.OpLaws.{coded}
 use Rattle.service.proofs.EffectLaws.{examine-within, examine-short}
 use Rattle.service.proofs.reply.reply_to.Statement.{statement}
 use Rattle.service.proofs.reply.reply_to.Tie as tie

@@ -1,9 +1,9 @@
 -- `service::request::answer_named` meets its contract, by what the request is to do. Assumes nothing.
 use mathlib.Core.Path.{refl, sym, _∙_}
 use Rattle.process.specs.Local.{local}
-use Rattle.service.specs.declared.task.Task.the-variants.{Change, Refuse}
+use Rattle.tasks.specs.declared.task.Task.the-variants.{Change, Refuse}
 use Rattle.service.specs.At.{namedBy}
-use Rattle.service.proofs.TaskLaws.{says}
+use Rattle.tasks.proofs.TaskLaws.{says}
 use Rattle.service.proofs.AtLaws.{named-not-nop, named-refused}
 use borrow.Author.Needs.{needs}
 use Rattle.service.proofs.request.answer_named.Statement.{statement}

@@ -1,9 +1,9 @@
--- `service::rule::range` meets its contract, by the op code. Assumes nothing.
+-- `tasks::rule::range` meets its contract, by the op code. Assumes nothing.
 use borrow.Author.Tests.{eq-eqb, ne-eqb}
 use borrow.Author.Needs.{needs}
-use Rattle.service.proofs.OpLaws.{coded}
-use Rattle.service.proofs.rule.range.Statement.{statement}
-use Rattle.service.proofs.rule.range.Tie as tie
+use Rattle.tasks.proofs.OpLaws.{coded}
+use Rattle.tasks.proofs.rule.range.Statement.{statement}
+use Rattle.tasks.proofs.rule.range.Tie as tie
 
 cast-end : tie.Need-cast-end
 cast-end c = search needs

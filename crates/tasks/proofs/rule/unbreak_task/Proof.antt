@@ -1,12 +1,12 @@
--- `service::rule::unbreak_task` meets its contract, by whether a breakpoint was found. Assumes nothing.
+-- `tasks::rule::unbreak_task` meets its contract, by whether a breakpoint was found. Assumes nothing.
 use borrow.Author.Needs.{needs}
 use borrow.Author.Tests.{lt-ltb, le-ltb}
 use Rattle.format.specs.Outcome.{firstFailing}
 use Rattle.process.specs.Request.{hasBreak}
 use Rattle.rules.specs.Rule.{ruleOf}
-use Rattle.service.specs.Task.{taskBy, entryOf, entryTask}
-use Rattle.service.proofs.rule.unbreak_task.Statement.{statement}
-use Rattle.service.proofs.rule.unbreak_task.Tie as tie
+use Rattle.tasks.specs.Task.{taskBy, entryOf, entryTask}
+use Rattle.tasks.proofs.rule.unbreak_task.Statement.{statement}
+use Rattle.tasks.proofs.rule.unbreak_task.Tie as tie
 
 find-requires : tie.Need-find-requires
 find-requires c κs = search needs

@@ -1,7 +1,7 @@
--- `service::rule::readable` meets its contract, by the two tests. Assumes nothing.
+-- `tasks::rule::readable` meets its contract, by the two tests. Assumes nothing.
 use borrow.Author.Tests.{le-leb, lt-leb}
-use Rattle.service.proofs.rule.readable.Statement.{statement}
-use Rattle.service.proofs.rule.readable.Tie as tie
+use Rattle.tasks.proofs.rule.readable.Statement.{statement}
+use Rattle.tasks.proofs.rule.readable.Tie as tie
 
 returns : tie.Need-returns
 returns c = rw (le-leb _ _ (c .if1 .taken))

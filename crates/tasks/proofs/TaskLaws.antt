@@ -15,9 +15,9 @@ use Rattle.format.proofs.OutcomeLaws.{rest-passes}
 use Rattle.process.specs.declared.record.Process.{Process}
 use Rattle.rules.specs.Rule.{ruleOf, names}
 use Rattle.rules.specs.Tests.{ruleTests}
-use Rattle.service.specs.declared.task.Task.{Task}
-use Rattle.service.specs.declared.task.Task.the-variants.{Change, Refuse}
-use Rattle.service.specs.Task.{taskBy, entryOf, processTests, taskOf}
+use Rattle.tasks.specs.declared.task.Task.{Task}
+use Rattle.tasks.specs.declared.task.Task.the-variants.{Change, Refuse}
+use Rattle.tasks.specs.Task.{taskBy, entryOf, processTests, taskOf}
 
 -- ---- which op codes name a process
 

@@ -11,8 +11,8 @@ use Rattle.process.specs.Find.{find}
 use Rattle.process.specs.Request.{entryFor}
 use Rattle.rules.specs.Rule.{ruleOf}
 use Rattle.rules.specs.Tests.{ruleTests}
-use Rattle.service.specs.declared.task.Task.{Task}
-use Rattle.service.specs.declared.task.Task.the-variants.{Change, Refuse}
+use Rattle.tasks.specs.declared.task.Task.{Task}
+use Rattle.tasks.specs.declared.task.Task.the-variants.{Change, Refuse}
 
 -- the task where no test fails, else the refusal by this number
 unfoldable pub taskBy : ℕ → Task → Task

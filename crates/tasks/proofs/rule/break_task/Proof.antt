@@ -1,12 +1,12 @@
--- `service::rule::break_task` meets its contract, by whether an entry was found. Assumes nothing.
+-- `tasks::rule::break_task` meets its contract, by whether an entry was found. Assumes nothing.
 use borrow.Author.Needs.{needs}
 use borrow.Author.Tests.{lt-ltb, le-ltb}
 use Rattle.format.specs.Outcome.{firstFailing}
 use Rattle.process.proofs.EntryLaws.{entry-low}
 use Rattle.rules.specs.Rule.{ruleOf}
-use Rattle.service.specs.Task.{taskBy, entryOf, entryTask}
-use Rattle.service.proofs.rule.break_task.Statement.{statement}
-use Rattle.service.proofs.rule.break_task.Tie as tie
+use Rattle.tasks.specs.Task.{taskBy, entryOf, entryTask}
+use Rattle.tasks.proofs.rule.break_task.Statement.{statement}
+use Rattle.tasks.proofs.rule.break_task.Tie as tie
 
 entry-for-requires : tie.Need-entry-for-requires
 entry-for-requires c κs = search needs

@@ -1,8 +1,8 @@
--- `service::rule::placed` meets its contract, by the two tests. Assumes nothing.
+-- `tasks::rule::placed` meets its contract, by the two tests. Assumes nothing.
 use borrow.Author.Tests.{eq-eqb, ne-eqb}
 use Rattle.process.specs.Sound.{placed}
-use Rattle.service.proofs.rule.placed.Statement.{statement}
-use Rattle.service.proofs.rule.placed.Tie as tie
+use Rattle.tasks.proofs.rule.placed.Statement.{statement}
+use Rattle.tasks.proofs.rule.placed.Tie as tie
 
 returns : tie.Need-returns
 unfolding placed

@@ -1,9 +1,9 @@
--- `service::rule::runs` meets its contract, by the op code. Assumes nothing.
+-- `tasks::rule::runs` meets its contract, by the op code. Assumes nothing.
 use borrow.Author.Tests.{eq-eqb, ne-eqb}
 use borrow.Author.Needs.{needs}
-use Rattle.service.proofs.OpLaws.{coded}
-use Rattle.service.proofs.rule.runs.Statement.{statement}
-use Rattle.service.proofs.rule.runs.Tie as tie
+use Rattle.tasks.proofs.OpLaws.{coded}
+use Rattle.tasks.proofs.rule.runs.Statement.{statement}
+use Rattle.tasks.proofs.rule.runs.Tie as tie
 
 halted-requires : tie.Need-halted-requires
 halted-requires c κs = search needs

@@ -9,7 +9,7 @@ ghost use mathlib.Core.Bool.{_&&_};
 ghost use lib.Dec.{leb};
 ghost use Rattle.process.specs.Sound.{placed};
 ghost use Rattle.rules.specs.Rule.{public, ruleOf};
-ghost use Rattle.service.specs.Task.{entryTask, ruleTask};
+ghost use Rattle.tasks.specs.Task.{entryTask, ruleTask};
 
 // 8: the asker debugs the process; for DEBUG, no other host does.
 fn right(cmd: u8, p: Process, asker: u8) -> bool

@@ -1,9 +1,9 @@
--- `service::rule::rule_task` meets its contract: at each `return` the tests before it have passed. Assumes nothing.
+-- `tasks::rule::rule_task` meets its contract: at each `return` the tests before it have passed. Assumes nothing.
 use borrow.Author.Needs.{needs}
 use Rattle.format.specs.Outcome.{firstFailing}
-use Rattle.service.specs.Task.{taskBy, entryTask, ruleTask}
-use Rattle.service.proofs.rule.rule_task.Statement.{statement}
-use Rattle.service.proofs.rule.rule_task.Tie as tie
+use Rattle.tasks.specs.Task.{taskBy, entryTask, ruleTask}
+use Rattle.tasks.proofs.rule.rule_task.Statement.{statement}
+use Rattle.tasks.proofs.rule.rule_task.Tie as tie
 
 right-requires : tie.Need-right-requires
 right-requires c κs = search needs

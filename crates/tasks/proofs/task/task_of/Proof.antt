@@ -1,9 +1,9 @@
--- `service::task::task_of` meets its contract: test 7, then the others. Assumes nothing.
+-- `tasks::task::task_of` meets its contract: test 7, then the others. Assumes nothing.
 use borrow.Author.Needs.{needs}
 use Rattle.format.specs.Outcome.{firstFailing}
-use Rattle.service.specs.Task.{taskBy, ruleTask, taskOf}
-use Rattle.service.proofs.task.task_of.Statement.{statement}
-use Rattle.service.proofs.task.task_of.Tie as tie
+use Rattle.tasks.specs.Task.{taskBy, ruleTask, taskOf}
+use Rattle.tasks.proofs.task.task_of.Statement.{statement}
+use Rattle.tasks.proofs.task.task_of.Tie as tie
 
 returns : tie.Need-returns
 unfolding taskOf taskBy firstFailing

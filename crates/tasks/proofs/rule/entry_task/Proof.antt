@@ -1,11 +1,11 @@
--- `service::rule::entry_task` meets its contract, by the op code. Assumes nothing.
+-- `tasks::rule::entry_task` meets its contract, by the op code. Assumes nothing.
 use borrow.Author.Needs.{needs}
 use borrow.Author.Tests.{ne-eqb}
 use Rattle.format.specs.Outcome.{firstFailing}
-use Rattle.service.specs.Task.{taskBy, entryOf, entryTask}
-use Rattle.service.proofs.OpLaws.{coded}
-use Rattle.service.proofs.rule.entry_task.Statement.{statement}
-use Rattle.service.proofs.rule.entry_task.Tie as tie
+use Rattle.tasks.specs.Task.{taskBy, entryOf, entryTask}
+use Rattle.tasks.proofs.OpLaws.{coded}
+use Rattle.tasks.proofs.rule.entry_task.Statement.{statement}
+use Rattle.tasks.proofs.rule.entry_task.Tie as tie
 
 break-task-requires : tie.Need-break-task-requires
 break-task-requires c κs = search needs

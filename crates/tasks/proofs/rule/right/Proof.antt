@@ -1,9 +1,9 @@
--- `service::rule::right` meets its contract, by the op code. Assumes nothing.
+-- `tasks::rule::right` meets its contract, by the op code. Assumes nothing.
 use borrow.Author.Tests.{eq-eqb, ne-eqb}
 use Rattle.rules.specs.Rule.{public}
-use Rattle.service.proofs.OpLaws.{coded}
-use Rattle.service.proofs.rule.right.Statement.{statement}
-use Rattle.service.proofs.rule.right.Tie as tie
+use Rattle.tasks.proofs.OpLaws.{coded}
+use Rattle.tasks.proofs.rule.right.Statement.{statement}
+use Rattle.tasks.proofs.rule.right.Tie as tie
 
 returns : tie.Need-returns
 unfolding public

@@ -4,7 +4,7 @@ use crate::rule::rule_task;
 use format::Header;
 use process::Process;
 ghost use mathlib.Core.Path.{_≡_};
-ghost use Rattle.service.specs.Task.{taskOf};
+ghost use Rattle.tasks.specs.Task.{taskOf};
 
 pub enum Task {
     // The process changes; for BREAK and UNBREAK, in this entry.
@@ -14,7 +14,7 @@ pub enum Task {
 }
 
 // A request to this process.
-pub(crate) fn task_of(h: Header, p: Process) -> Task
+pub fn task_of(h: Header, p: Process) -> Task
     ensures { λ r. ⌜ r ≡ taskOf h p ⌝ }
 {
     if !p.there {
