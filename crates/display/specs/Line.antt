@@ -1,26 +1,15 @@
 -- The line that shows a process.
-use mathlib.Core.Bool.{Bool, cond}
+use mathlib.Core.Bool.{Bool}
 use mathlib.Core.List.{List, [], _∷_, _++_}
 use Prim.Native.Nat.{ℕ}
+use Rattle.lists.specs.Flag.{flag}
 use Rattle.lists.specs.Word.{word}
 use Rattle.lists.specs.Joined.{joined}
 use Rattle.process.specs.declared.record.Run.{Run}
-use Rattle.process.specs.declared.record.Run.the-variants.{Running, Stepping, Stopped, AtBreak, Ended}
 use Rattle.process.specs.declared.record.Breakpoint.{Breakpoint}
 use Rattle.process.specs.declared.record.Process.{Process}
+use Rattle.process.specs.Record.{runNumber}
 use Rattle.decimal.specs.Numeral.{numeral, field}
-
--- a flag as 0 or 1
-unfoldable pub flag : Bool → ℕ
-flag t = cond t 1 0
-
--- 'running, stepping, stopped, at a breakpoint, ended'
-unfoldable pub runNumber : Run → ℕ
-runNumber Running = 0
-runNumber Stepping = 1
-runNumber Stopped = 2
-runNumber AtBreak = 3
-runNumber Ended = 4
 
 -- a word behind a blank
 abbrev pub wordText : ℕ → List ℕ

@@ -1,22 +1,14 @@
 // The eight entries of a process.
 use decimal::put_field;
 use process::Breakpoint;
+use words::flag;
 use words::word_of;
 ghost use mathlib.Core.Path.{_≡_};
 ghost use Prim.Native.Nat.{_+_, _≤_, _<_};
 ghost use lib.ListN.{length};
 ghost use Rattle.lists.specs.Joined.{joined};
 ghost use Rattle.lines.specs.Scan.{Put};
-ghost use Rattle.display.specs.Line.{flag, entryText};
-
-pub(crate) fn flag(on: bool) -> u16
-    ensures { λ r. ⌜ r ≡ flag on ⌝ }
-{
-    if on {
-        return 1;
-    }
-    0
-}
+ghost use Rattle.display.specs.Line.{entryText};
 
 // One of the eight entries, behind a blank.
 fn put_entry(b: Breakpoint, from: usize, out: &mut [u8]) -> usize
@@ -24,11 +16,11 @@ fn put_entry(b: Breakpoint, from: usize, out: &mut [u8]) -> usize
     ensures { λ r. ⌜ Put from (entryText b) (now (out .entry)) r (now (out .exit)) ⌝ }
     ensures { λ r. ⌜ r ≤ from + 30 ⌝ }
 {
-    let used = put_field(32, flag(b.used), from, out);
+    let used = put_field(32, flag(b.used) as u16, from, out);
     let address = put_field(58, b.address, used, out);
     let count = put_field(58, b.count, address, out);
     let saved = put_field(58, word_of(b.high, b.low), count, out);
-    put_field(58, flag(b.lifted), saved, out)
+    put_field(58, flag(b.lifted) as u16, saved, out)
 }
 
 // The eight entries.

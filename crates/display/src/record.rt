@@ -1,30 +1,18 @@
 // A process record as a line.
-use crate::entry::flag;
 use crate::entry::put_entries;
 use decimal::put_field;
 use decimal::put_number;
 use lines::put_mark;
 use process::Process;
 use process::Run;
+use words::flag;
 ghost use mathlib.Core.Path.{_≡_};
 ghost use Prim.Native.Nat.{_+_, _≤_};
 ghost use lib.ListN.{length};
 ghost use Rattle.lists.specs.Buffer.{overlay};
 ghost use Rattle.lists.specs.Joined.{joined};
 ghost use Rattle.lines.specs.Scan.{Put};
-ghost use Rattle.display.specs.Line.{runNumber, wordText, headText, recordText, processLine};
-
-fn run_number(run: Run) -> u16
-    ensures { λ r. ⌜ r ≡ runNumber run ⌝ }
-{
-    match run {
-        Run::Running => 0,
-        Run::Stepping => 1,
-        Run::Stopped => 2,
-        Run::AtBreak => 3,
-        Run::Ended => 4,
-    }
-}
+ghost use Rattle.display.specs.Line.{wordText, headText, recordText, processLine};
 
 // There, host and run state.
 fn put_head(there: bool, host: u8, run: Run, out: &mut [u8]) -> usize
@@ -32,9 +20,9 @@ fn put_head(there: bool, host: u8, run: Run, out: &mut [u8]) -> usize
     ensures { λ r. ⌜ Put 0 (headText there host run) (now (out .entry)) r (now (out .exit)) ⌝ }
     ensures { λ r. ⌜ r ≤ 17 ⌝ }
 {
-    let first = put_number(flag(there), 0, out);
+    let first = put_number(flag(there) as u16, 0, out);
     let second = put_field(32, host as u16, first, out);
-    put_field(32, run_number(run), second, out)
+    put_field(32, run.number() as u16, second, out)
 }
 
 // The nine words, each behind a blank.

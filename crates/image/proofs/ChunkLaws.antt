@@ -9,9 +9,11 @@ use lib.ListN.{length, take, drop, getD, replicate, length-append, length-drop}
 use lib.Seq.{take-all, take-suc, drop-drop}
 use Rattle.lists.specs.Buffer.{overlay}
 use Rattle.lists.proofs.Buffer.{part-overlay}
+use Rattle.lists.proofs.Joined.{joined-more}
 use Rattle.lists.specs.Every.{every}
 use Rattle.lists.proofs.Bool.{&&-left, &&-right, &&-both, &&-pairs}
-use Rattle.image.specs.Chunk.{chunks, everyChunk, joined}
+use Rattle.lists.specs.Joined.{joined}
+use Rattle.image.specs.Chunk.{chunks, everyChunk}
 
 module _ {A : Type 0} (w : ℕ) (f : List ℕ → A) where
   pub length-chunks : (n : ℕ) (m : List ℕ) → length (chunks w f n m) ≡ n
@@ -87,11 +89,6 @@ module _ (w : ℕ) (t : List ℕ → Bool) where
 -- ---- writing
 
 module _ {A : Type 0} (f : A → List ℕ) where
-  pub joined-snoc : (xs : List A) (x : A) → joined f (xs ++ (x ∷ [])) ≡ joined f xs ++ f x
-  unfolding joined
-  joined-snoc [] x = append-nil (f x)
-  joined-snoc (y ∷ xs) x = ap (λ (l : List ℕ). f y ++ l) (joined-snoc xs x) ∙ sym (append-assoc (f y) (joined f xs) (f x))
-
   pub length-joined : (w : ℕ) (xs : List A) (d : A) → ((k : ℕ) → k < length xs → length (f (getD xs k d)) ≡ w) → length (joined f xs) ≡ w * length xs
   unfolding joined
   length-joined w [] d h = omega arith
@@ -111,16 +108,12 @@ pub joined-step : {A : Type 0} (w : ℕ) (f : A → List ℕ) (xs : List A) (k :
     → last ≡ overlay (f (getD xs k d)) (take (length now - w * k) (drop (w * k) now))
     → take (w * k) now ++ (last ++ drop (length now - w * k) (drop (w * k) now)) ≡ overlay (joined f (take (k + 1) xs)) buffer
 joined-step w f xs k d buffer now last h size e l =
-    let more : joined f (take (k + 1) xs) ≡ joined f (take k xs) ++ f (getD xs k d) =
-    ap (λ (n : ℕ). joined f (take n xs)) (add-one k) ∙ ap (joined f) (take-suc xs k d h) ∙ joined-snoc f (take k xs) (getD xs k d) in
-    rw (l, more, ← size) (part-overlay (joined f (take k xs)) (f (getD xs k d)) buffer now e)
+    rw (l, ← joined-more f xs k d h, ← size) (part-overlay (joined f (take k xs)) (f (getD xs k d)) buffer now e)
 
 pub joined-long : {A : Type 0} (w : ℕ) (f : A → List ℕ) (xs : List A) (k : ℕ) (d : A) → k < length xs
     → length (joined f (take k xs)) ≡ w * k → length (f (getD xs k d)) ≡ w → length (joined f (take (k + 1) xs)) ≡ w * (k + 1)
 joined-long w f xs k d h size one =
-    ap (λ (n : ℕ). length (joined f (take n xs))) (add-one k)
-    ∙ ap (λ (l : List _). length (joined f l)) (take-suc xs k d h)
-    ∙ ap (λ (l : List ℕ). length l) (joined-snoc f (take k xs) (getD xs k d))
+    ap (λ (l : List ℕ). length l) (sym (joined-more f xs k d h))
     ∙ length-append (joined f (take k xs)) (f (getD xs k d)) ∙ omega (arith, size, one)
 
 -- a part that reaches to the end

@@ -10,9 +10,11 @@ use Rattle.lists.specs.Buffer.{Bytes}
 use Rattle.lists.specs.Word.{lowFirst, low, high}
 use Rattle.process.specs.declared.record.Breakpoint.{Breakpoint}
 use Rattle.process.specs.declared.record.Process.{Process}
+use Rattle.lists.specs.Flag.{flag}
 use Rattle.process.specs.Record.{free}
-use Rattle.image.specs.Chunk.{chunks, joined}
-use Rattle.image.specs.Form.{flag, longBytes, entryBytes, headBytes, processBytes, half, long, entryIn, entryOf}
+use Rattle.lists.specs.Joined.{joined}
+use Rattle.image.specs.Chunk.{chunks}
+use Rattle.image.specs.Form.{longBytes, entryBytes, headBytes, processBytes, half, long, entryIn, entryOf}
 use Rattle.image.proofs.ChunkLaws.{length-joined}
 
 pub entry-long : (b : Breakpoint) → length (entryBytes b) ≡ 8

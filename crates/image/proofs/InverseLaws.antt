@@ -22,8 +22,10 @@ use Rattle.process.specs.declared.record.Process.{Process}
 use Rattle.process.specs.Record.{free}
 use Rattle.state.specs.declared.gateway.Gateway.{Gateway}
 use Rattle.state.specs.Gateway.{nobody, withProcess}
-use Rattle.image.specs.Chunk.{chunks, everyChunk, joined}
-use Rattle.image.specs.Form.{flagOf, runNumber, entryBytes, processBytes, stateBytes, withProcessBytes, runOf, entryOf, processOf, stateOf, entryFormed, headFormed, processFormed, stateFormed}
+use Rattle.lists.specs.Joined.{joined}
+use Rattle.process.specs.Record.{runNumber}
+use Rattle.image.specs.Chunk.{chunks, everyChunk}
+use Rattle.image.specs.Form.{flagOf, entryBytes, processBytes, stateBytes, withProcessBytes, runOf, entryOf, processOf, stateOf, entryFormed, headFormed, processFormed, stateFormed}
 use Rattle.image.specs.Theorems.{Sized, Inverse}
 use Rattle.image.proofs.ChunkLaws.{length-joined}
 use Rattle.image.proofs.FormLaws.{entry-long, process-long}

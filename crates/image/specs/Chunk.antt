@@ -1,6 +1,6 @@
--- Lists that are read and written in pieces of one width.
+-- Lists that are read in pieces of one width.
 use mathlib.Core.Bool.{Bool, true, _&&_}
-use mathlib.Core.List.{List, [], _∷_, _++_}
+use mathlib.Core.List.{List, [], _∷_}
 use Prim.Native.Nat.{ℕ, zero, suc}
 use lib.ListN.{take, drop}
 
@@ -13,8 +13,3 @@ chunks w f (suc n) m = f (take w m) ∷ chunks w f n (drop w m)
 unfoldable pub everyChunk : ℕ → (List ℕ → Bool) → ℕ → List ℕ → Bool
 everyChunk w t zero m = true
 everyChunk w t (suc n) m = t (take w m) && everyChunk w t n (drop w m)
-
--- each element written, one behind the other
-unfoldable pub joined : {A : Type 0} → (A → List ℕ) → List A → List ℕ
-joined f [] = []
-joined f (x ∷ xs) = f x ++ joined f xs

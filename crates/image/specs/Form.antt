@@ -6,28 +6,20 @@ use Prim.Native.Nat.{ℕ, _+_, _*_, _/_, _%_, _≤_}
 use lib.ListN.{length, take, drop, getD}
 use lib.Dec.{eqb, leb}
 use Rattle.lists.specs.First.{first}
+use Rattle.lists.specs.Flag.{flag}
+use Rattle.lists.specs.Joined.{joined}
 use Rattle.lists.specs.Word.{high, low, word, lowFirst, vectorOf}
 use Rattle.process.specs.declared.record.Run.{Run}
 use Rattle.process.specs.declared.record.Run.the-variants.{Running, Stepping, Stopped, AtBreak, Ended}
 use Rattle.process.specs.declared.record.Breakpoint.{Breakpoint}
 use Rattle.process.specs.declared.record.Process.{Process}
+use Rattle.process.specs.Record.{runNumber}
 use Rattle.process.specs.Sound.{soundTest as soundProcess}
 use Rattle.state.specs.declared.gateway.Gateway.{Gateway}
 use Rattle.state.specs.Gateway.{soundTest}
-use Rattle.image.specs.Chunk.{chunks, everyChunk, joined}
+use Rattle.image.specs.Chunk.{chunks, everyChunk}
 
 -- ---- writing
-
-abbrev pub flag : Bool → ℕ
-flag t = cond t 1 0
-
--- 'running, stepping, stopped, at a breakpoint, ended'
-abbrev pub runNumber : Run → ℕ
-runNumber Running = 0
-runNumber Stepping = 1
-runNumber Stopped = 2
-runNumber AtBreak = 3
-runNumber Ended = 4
 
 -- used, lifted, address, remaining count, saved word
 unfoldable pub entryBytes : Breakpoint → List ℕ

@@ -1,18 +1,14 @@
 // The eight bytes of an entry.
 use process::Breakpoint;
+use words::flag;
 ghost use mathlib.Core.Path.{_≡_};
 ghost use Prim.Native.Nat.{_≤_, _<_};
 ghost use lib.ListN.{length, getD};
 ghost use Rattle.lists.specs.Buffer.{overlay};
-ghost use Rattle.image.specs.Chunk.{chunks, everyChunk, joined};
+ghost use Rattle.lists.specs.Joined.{joined};
+ghost use Rattle.image.specs.Chunk.{chunks, everyChunk};
 ghost use Rattle.process.specs.Record.{free};
-ghost use Rattle.image.specs.Form.{flag, half, long, longBytes, entryBytes, entryIn, entryOf, entryFormed, entryZero};
-
-pub(crate) fn flag(t: bool) -> u8
-    ensures { λ r. ⌜ r ≡ flag t ⌝ }
-{
-    if t { 1 } else { 0 }
-}
+ghost use Rattle.image.specs.Form.{half, long, longBytes, entryBytes, entryIn, entryOf, entryFormed, entryZero};
 
 // Four bytes as a number, low byte first.
 fn half(bytes: &[u8]) -> u32

@@ -1,19 +1,7 @@
-// The first three bytes of a process.
+// The run state of a process, by its number.
 use process::Run;
 ghost use mathlib.Core.Path.{_≡_};
-ghost use Rattle.image.specs.Form.{runNumber, runOf};
-
-pub(crate) fn run_number(run: Run) -> u8
-    ensures { λ r. ⌜ r ≡ runNumber run ⌝ }
-{
-    match run {
-        Run::Running => 0,
-        Run::Stepping => 1,
-        Run::Stopped => 2,
-        Run::AtBreak => 3,
-        Run::Ended => 4,
-    }
-}
+ghost use Rattle.image.specs.Form.{runOf};
 
 pub(crate) fn run_of(n: u8) -> Run
     ensures { λ r. ⌜ r ≡ runOf n ⌝ }

@@ -1,10 +1,9 @@
 // The 85 bytes of a process.
-use crate::entry::flag;
 use crate::entry::put_entries;
 use crate::entry::read_entries;
-use crate::head::run_number;
 use crate::head::run_of;
 use process::Process;
+use words::flag;
 use words::vector_bytes;
 use words::word_of;
 ghost use mathlib.Core.Path.{_≡_};
@@ -56,7 +55,7 @@ fn put_head(p: Process, image: &mut [u8])
     let run = p.run;
     image[0] = flag(p.there);
     image[1] = p.host;
-    image[2] = run_number(run);
+    image[2] = run.number();
 }
 
 fn put_vector(vector: [u16; 9], image: &mut [u8])

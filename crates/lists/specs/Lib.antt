@@ -3,5 +3,6 @@ pub mod Buffer
 pub mod Elements
 pub mod Every
 pub mod First
+pub mod Flag
 pub mod Joined
 pub mod Word

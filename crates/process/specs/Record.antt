@@ -4,8 +4,17 @@ use mathlib.Core.List.{List}
 use Prim.Native.Nat.{ℕ}
 use lib.ListN.{getD, set, replicate}
 use Rattle.process.specs.declared.record.Run.{Run}
+use Rattle.process.specs.declared.record.Run.the-variants.{Running, Stepping, Stopped, AtBreak, Ended}
 use Rattle.process.specs.declared.record.Breakpoint.{Breakpoint}
 use Rattle.process.specs.declared.record.Process.{Process}
+
+-- the number of a run state, in the order of 'running, stepping, stopped, at a breakpoint, ended'
+abbrev pub runNumber : Run → ℕ
+runNumber Running = 0
+runNumber Stepping = 1
+runNumber Stopped = 2
+runNumber AtBreak = 3
+runNumber Ended = 4
 
 -- 'a freed entry is all zero'
 abbrev pub free : Breakpoint

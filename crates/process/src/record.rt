@@ -1,7 +1,7 @@
 // The process record. Whatever makes a record or writes one anew stands in this file, so that a new field changes it alone.
 ghost use mathlib.Core.Path.{_≡_};
 ghost use Prim.Native.Nat.{_<_};
-ghost use Rattle.process.specs.Record.{free, planted, withCount, withSaved, withLifted, fresh, withRun, withHost, withVector, withEntry, withBreaks, noBreaks};
+ghost use Rattle.process.specs.Record.{runNumber, free, planted, withCount, withSaved, withLifted, fresh, withRun, withHost, withVector, withEntry, withBreaks, noBreaks};
 
 // What a process is doing.
 pub enum Run {
@@ -30,6 +30,21 @@ pub struct Process {
     pub run: Run,
     pub vector: [u16; 9],
     pub breaks: [Breakpoint; 8],
+}
+
+impl Run {
+    // Its number, in the order of document 01.
+    pub fn number(self) -> u8
+        ensures { λ r. ⌜ r ≡ runNumber self ⌝ }
+    {
+        match self {
+            Run::Running => 0,
+            Run::Stepping => 1,
+            Run::Stopped => 2,
+            Run::AtBreak => 3,
+            Run::Ended => 4,
+        }
+    }
 }
 
 impl Breakpoint {

@@ -1,5 +1,6 @@
-// 16-bit words as bytes, and the nine words of a state vector as 18 bytes, low byte first.
+// 16-bit words as bytes, the nine words of a state vector as 18 bytes, low byte first, and flags as bytes.
 ghost use mathlib.Core.Path.{_≡_};
+ghost use Rattle.lists.specs.Flag.{flag};
 ghost use Rattle.lists.specs.Word.{high, low, word, lowFirst, vectorOf};
 
 pub fn high_byte(w: u16) -> u8
@@ -47,4 +48,11 @@ pub fn vector_of(bytes: [u8; 18]) -> [u16; 9]
         i += 1;
     }
     vector
+}
+
+// A flag as 0 or 1.
+pub fn flag(on: bool) -> u8
+    ensures { λ r. ⌜ r ≡ flag on ⌝ }
+{
+    if on { 1 } else { 0 }
 }

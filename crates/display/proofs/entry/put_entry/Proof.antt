@@ -5,14 +5,18 @@ use Prim.Native.Nat.{ℕ}
 use native.Mathlib.Omega.{arith}
 use borrow.Author.Needs.{needs}
 use Rattle.lists.specs.Word.{word}
+use Rattle.lists.specs.Flag.{flag}
 use Rattle.lines.proofs.PutLaws.{put-then, put-as}
 use Rattle.decimal.specs.Numeral.{field}
-use Rattle.display.specs.Line.{flag, entryText}
+use Rattle.display.specs.Line.{entryText}
 use Rattle.display.proofs.entry.put_entry.Statement.{statement}
 use Rattle.display.proofs.entry.put_entry.Tie as tie
 
 flag-requires : tie.Need-flag-requires
 flag-requires c κs = search needs
+
+cast-put-field : tie.Need-cast-put-field
+cast-put-field c = search needs
 
 put-field-requires : tie.Need-put-field-requires
 put-field-requires c κs = search needs
@@ -31,6 +35,9 @@ put-field-requires-4 c κs = search needs
 
 flag-requires-2 : tie.Need-flag-requires-2
 flag-requires-2 c κs = search needs
+
+cast-put-field-2 : tie.Need-cast-put-field-2
+cast-put-field-2 c = search needs
 
 put-field-requires-5 : tie.Need-put-field-requires-5
 put-field-requires-5 c κs = search needs
@@ -78,12 +85,14 @@ put-entry-spec =
     tie.close
     (tie.spec
     flag-requires
+    cast-put-field
     put-field-requires
     put-field-requires-2
     put-field-requires-3
     word-of-requires
     put-field-requires-4
     flag-requires-2
+    cast-put-field-2
     put-field-requires-5
     same-length
     returns)

@@ -10,7 +10,7 @@ use Rattle.lists.specs.Buffer.{overlay}
 use Rattle.lists.proofs.Buffer.{length-overlay}
 use Rattle.process.specs.Record.{free}
 use Rattle.image.specs.Form.{entryBytes}
-use Rattle.image.specs.Chunk.{joined}
+use Rattle.lists.specs.Joined.{joined}
 use Rattle.image.proofs.ChunkLaws.{joined-step, joined-long}
 use Rattle.image.proofs.FormLaws.{entry-long}
 use Rattle.image.proofs.entry.put_entries.Statement.{statement}

@@ -16,8 +16,8 @@ slice-write-image c = search needs
 slice-write-image-2 : tie.Need-slice-write-image-2
 slice-write-image-2 c = simp length-set (omega arith)
 
-run-number-requires : tie.Need-run-number-requires
-run-number-requires c κs = search needs
+number-requires : tie.Need-number-requires
+number-requires c κs = search needs
 
 slice-write-image-3 : tie.Need-slice-write-image-3
 slice-write-image-3 c = search needs
@@ -26,7 +26,7 @@ same-length : tie.Need-same-length
 same-length c = search needs
 
 returns : tie.Need-returns
-returns c = let s = c .before .before .before in rw (c .before .flag .ensures, c .run-number .ensures) (sets-overlay (headBytes (s .args .p)) (s .args .image .now) (s .pre))
+returns c = let s = c .before .before .before in rw (c .before .flag .ensures, c .number .ensures) (sets-overlay (headBytes (s .args .p)) (s .args .image .now) (s .pre))
 
 pub put-head-spec : {M : Type 1} → statement M
 put-head-spec =
@@ -35,7 +35,7 @@ put-head-spec =
     flag-requires
     slice-write-image
     slice-write-image-2
-    run-number-requires
+    number-requires
     slice-write-image-3
     same-length
     returns)

@@ -8,7 +8,7 @@ use lib.ListN.{length, length-map, length-append}
 use Rattle.lists.specs.Buffer.{overlay}
 use Rattle.lists.specs.Word.{lowFirst}
 use Rattle.image.specs.Form.{entryBytes, headBytes}
-use Rattle.image.specs.Chunk.{joined}
+use Rattle.lists.specs.Joined.{joined}
 use Rattle.lists.proofs.Buffer.{laid-part}
 use Rattle.image.proofs.FormLaws.{process-long, process-parts}
 use Rattle.image.proofs.process_form.put_process.Statement.{statement}

@@ -10,7 +10,7 @@ use Rattle.lists.specs.Buffer.{overlay}
 use Rattle.lists.proofs.Buffer.{length-overlay}
 use Rattle.state.specs.Gateway.{nobody}
 use Rattle.image.specs.Form.{processBytes, stateBytes}
-use Rattle.image.specs.Chunk.{joined}
+use Rattle.lists.specs.Joined.{joined}
 use Rattle.image.proofs.ChunkLaws.{joined-step, joined-long}
 use Rattle.image.proofs.state_form.put_state.Statement.{statement}
 use Rattle.image.proofs.state_form.put_state.Tie as tie
