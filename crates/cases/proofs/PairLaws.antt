@@ -17,13 +17,16 @@ use Rattle.format.specs.Layout.{written, headerOf, stringOf, fixedRight}
 use Rattle.format.specs.Outcome.{numberOf, firstFailing}
 use Rattle.format.specs.Refusal.{unusedZero, carriedLength, wrongLength, wrongHeader, misfits}
 use Rattle.format.specs.Table.{rowOf, requestForm}
-use Rattle.process.specs.Find.{matches, find}
+use Rattle.breakpoints.specs.Want.{matches}
+use Rattle.process.specs.Find.{find}
 use Rattle.process.specs.Planting.{plantedIn, liftedIn, removedFrom, replanted, liftedAt}
 use Rattle.process.specs.Record.{fresh}
 use Rattle.process.specs.Report.{accepts, recorded, passes, passed, runAfter, reported}
 use Rattle.process.specs.Request.{hasBreak, hasRoom, examined, deposited, vectorAfter, breakSet, breakRemoved, created, cleared}
-use Rattle.process.specs.Seen.{restored, seen, savedFrom, sheltered, laidByte, laidWord}
-use Rattle.process.specs.Sound.{placed, hosted, liftSound, usedSound, entrySound, soundTest}
+use Rattle.breakpoints.specs.Seen.{restored, seen, savedFrom, laidByte, laidWord}
+use Rattle.process.specs.Request.{sheltered}
+use Rattle.breakpoints.specs.Entry.{placed}
+use Rattle.process.specs.Sound.{hosted, liftSound, usedSound, entrySound, soundTest}
 use Rattle.state.specs.Gateway.{freshStart}
 use Rattle.state.specs.Gateway.{soundTest as soundState}
 use Rattle.state.specs.Slot.{startOf, slot, withSlot}

@@ -6,7 +6,7 @@ use Rattle.lists.specs.Flag.{flag}
 use Rattle.lists.specs.Word.{word}
 use Rattle.lists.specs.Joined.{joined}
 use Rattle.process.specs.declared.record.Run.{Run}
-use Rattle.process.specs.declared.record.Breakpoint.{Breakpoint}
+use Rattle.breakpoints.specs.declared.entry.Breakpoint.{Breakpoint}
 use Rattle.process.specs.declared.record.Process.{Process}
 use Rattle.process.specs.Record.{runNumber}
 use Rattle.decimal.specs.Numeral.{numeral, field}

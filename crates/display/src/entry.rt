@@ -1,6 +1,6 @@
 // The eight entries of a process.
+use breakpoints::Breakpoint;
 use decimal::put_field;
-use process::Breakpoint;
 use words::flag;
 use words::word_of;
 ghost use mathlib.Core.Path.{_≡_};

@@ -10,9 +10,9 @@ use Rattle.lists.proofs.Short.{take-short, drop-short}
 use Rattle.lists.proofs.Word.{length-lowFirst}
 use Rattle.format.specs.declared.header.Header.{Header}
 use Rattle.process.specs.Local.{Local}
-use Rattle.process.specs.Seen.{seen}
+use Rattle.breakpoints.specs.Seen.{seen}
 use Rattle.process.specs.Request.{examined}
-use Rattle.process.proofs.SeenLaws.{length-seen}
+use Rattle.breakpoints.proofs.SeenLaws.{length-seen}
 use Rattle.state.specs.Slot.{startOf, slot}
 use Rattle.rules.specs.Rule.{ruleOf, names, creates}
 use Rattle.format.specs.Outcome.{firstFailing}

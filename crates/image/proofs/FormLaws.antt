@@ -8,10 +8,10 @@ use lib.ListN.{length, take, drop, getD, length-append}
 use lib.Seq.{getD-drop, drop-drop}
 use Rattle.lists.specs.Buffer.{Bytes}
 use Rattle.lists.specs.Word.{lowFirst, low, high}
-use Rattle.process.specs.declared.record.Breakpoint.{Breakpoint}
+use Rattle.breakpoints.specs.declared.entry.Breakpoint.{Breakpoint}
 use Rattle.process.specs.declared.record.Process.{Process}
 use Rattle.lists.specs.Flag.{flag}
-use Rattle.process.specs.Record.{free}
+use Rattle.breakpoints.specs.Entry.{free}
 use Rattle.lists.specs.Joined.{joined}
 use Rattle.image.specs.Chunk.{chunks}
 use Rattle.image.specs.Form.{longBytes, entryBytes, headBytes, processBytes, half, long, entryIn, entryOf}

@@ -17,9 +17,9 @@ use Rattle.lists.proofs.Short.{take-short}
 use Rattle.lists.proofs.Word.{word-high-low, high-word, low-word, length-lowFirst}
 use Rattle.process.specs.declared.record.Run.{Run}
 use Rattle.process.specs.declared.record.Run.the-variants.{Running, Stepping, Stopped, AtBreak, Ended}
-use Rattle.process.specs.declared.record.Breakpoint.{Breakpoint}
+use Rattle.breakpoints.specs.declared.entry.Breakpoint.{Breakpoint}
 use Rattle.process.specs.declared.record.Process.{Process}
-use Rattle.process.specs.Record.{free}
+use Rattle.breakpoints.specs.Entry.{free}
 use Rattle.state.specs.declared.gateway.Gateway.{Gateway}
 use Rattle.state.specs.Gateway.{nobody, withProcess}
 use Rattle.lists.specs.Joined.{joined}

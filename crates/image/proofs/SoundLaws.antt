@@ -11,7 +11,8 @@ use Rattle.lists.proofs.Bool.{&&-left, &&-right}
 use Rattle.lists.specs.Every.{every, below}
 use Rattle.lists.proofs.Every.{every-below}
 use Rattle.process.specs.declared.record.Process.{Process}
-use Rattle.process.specs.Record.{free, noBreaks}
+use Rattle.breakpoints.specs.Entry.{free}
+use Rattle.process.specs.Record.{noBreaks}
 use Rattle.process.specs.Sound.{hosted, entrySound}
 use Rattle.process.specs.Sound.{soundTest as soundProcess}
 use Rattle.state.specs.Gateway.{nobody, soundTest}

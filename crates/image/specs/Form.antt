@@ -11,7 +11,7 @@ use Rattle.lists.specs.Joined.{joined}
 use Rattle.lists.specs.Word.{high, low, word, lowFirst, vectorOf}
 use Rattle.process.specs.declared.record.Run.{Run}
 use Rattle.process.specs.declared.record.Run.the-variants.{Running, Stepping, Stopped, AtBreak, Ended}
-use Rattle.process.specs.declared.record.Breakpoint.{Breakpoint}
+use Rattle.breakpoints.specs.declared.entry.Breakpoint.{Breakpoint}
 use Rattle.process.specs.declared.record.Process.{Process}
 use Rattle.process.specs.Record.{runNumber}
 use Rattle.process.specs.Sound.{soundTest as soundProcess}

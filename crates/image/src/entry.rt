@@ -1,5 +1,5 @@
 // The eight bytes of an entry.
-use process::Breakpoint;
+use breakpoints::Breakpoint;
 use words::flag;
 ghost use mathlib.Core.Path.{_≡_};
 ghost use Prim.Native.Nat.{_≤_, _<_};
@@ -7,7 +7,7 @@ ghost use lib.ListN.{length, getD};
 ghost use Rattle.lists.specs.Buffer.{overlay};
 ghost use Rattle.lists.specs.Joined.{joined};
 ghost use Rattle.image.specs.Chunk.{chunks, everyChunk};
-ghost use Rattle.process.specs.Record.{free};
+ghost use Rattle.breakpoints.specs.Entry.{free};
 ghost use Rattle.image.specs.Form.{half, long, longBytes, entryBytes, entryIn, entryOf, entryFormed, entryZero};
 
 // Four bytes as a number, low byte first.

@@ -8,10 +8,11 @@ use native.Mathlib.Nat.{not-suc-le-zero}
 use native.Mathlib.Omega.{arith}
 use lib.ListN.{length, take, getD, set, length-map}
 use lib.Seq.{getD-set-other, getD-take, length-take-le}
-use Rattle.process.specs.declared.record.Breakpoint.{Breakpoint}
-use Rattle.process.specs.Record.{free, withSaved}
-use Rattle.process.specs.Seen.{putWord, isPlanted, restored, seen, savedFrom, sheltered}
-use Rattle.process.proofs.SeenLaws.{Distinct, Spaced, putWord-again, putWord-same, restored-planted, restored-not, seen-restored}
+use Rattle.breakpoints.specs.declared.entry.Breakpoint.{Breakpoint}
+use Rattle.breakpoints.specs.Entry.{free, withSaved}
+use Rattle.breakpoints.specs.Seen.{putWord, isPlanted, restored, seen, savedFrom}
+use Rattle.process.specs.Request.{sheltered}
+use Rattle.breakpoints.proofs.SeenLaws.{Distinct, Spaced, putWord-again, putWord-same, restored-planted, restored-not, seen-restored}
 use Rattle.process.proofs.SoundLaws.{Alike}
 
 -- ---- a byte that no planted breakpoint covers

@@ -11,12 +11,14 @@ use lib.Dec.{eqb}
 use Rattle.lists.specs.First.{first}
 use Rattle.lists.proofs.Bool.{&&-left, &&-right, &&-both}
 use Rattle.lists.proofs.First.{first-≤, first-before, first-passes, first-is}
-use Rattle.process.specs.declared.record.Breakpoint.{Breakpoint}
+use Rattle.breakpoints.specs.declared.entry.Breakpoint.{Breakpoint}
 use Rattle.process.specs.declared.record.Process.{Process}
-use Rattle.process.specs.declared.find.Want.{Want}
-use Rattle.process.specs.declared.find.Want.the-variants.{Free, Lifted, At}
-use Rattle.process.specs.Record.{free, entry}
-use Rattle.process.specs.Find.{matches, find}
+use Rattle.breakpoints.specs.declared.want.Want.{Want}
+use Rattle.breakpoints.specs.declared.want.Want.the-variants.{Free, Lifted, At}
+use Rattle.breakpoints.specs.Entry.{free}
+use Rattle.process.specs.Record.{entry}
+use Rattle.breakpoints.specs.Want.{matches}
+use Rattle.process.specs.Find.{find}
 
 -- ---- what an entry that matches is
 

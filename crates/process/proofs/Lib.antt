@@ -2,11 +2,9 @@
 pub mod FindLaws
 pub mod EntryLaws
 pub mod SoundTestLaws
-pub mod SeenLaws
 pub mod SoundLaws
 pub mod DepositLaws
 pub mod TestedLaws
-pub mod ExamineLaws
 pub mod PlantingLaws
 pub mod ReportLaws
 pub mod SeenKept

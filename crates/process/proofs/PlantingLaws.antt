@@ -8,16 +8,17 @@ use borrow.Author.Tests.{eqb-true, eqb-false, ltb-true, lt-ltb, le-ltb}
 use lib.ListN.{length, getD, set, length-set}
 use lib.Seq.{getD-set-same, getD-set-other, set-out}
 use lib.Dec.{eqb, ltb}
-use Rattle.process.specs.declared.record.Breakpoint.{Breakpoint}
+use Rattle.breakpoints.specs.declared.entry.Breakpoint.{Breakpoint}
 use Rattle.process.specs.declared.record.Process.{Process}
-use Rattle.process.specs.declared.find.Want.the-variants.{Free, Lifted, At}
-use Rattle.process.specs.Record.{free, planted, withLifted, entry, withEntry}
+use Rattle.breakpoints.specs.declared.want.Want.the-variants.{Free, Lifted, At}
+use Rattle.breakpoints.specs.Entry.{free, planted, withLifted}
+use Rattle.process.specs.Record.{entry, withEntry}
 use Rattle.process.specs.Find.{find}
-use Rattle.process.specs.Seen.{putWord, restored}
+use Rattle.breakpoints.specs.Seen.{putWord, restored}
 use Rattle.process.specs.Local.{Local, local, Inside}
 use Rattle.process.specs.Planting.{plantedIn, liftedIn, removedFrom, replanted, liftedAt}
 use Rattle.process.proofs.FindLaws.{find-matches, matches-lifted, matches-at}
-use Rattle.process.proofs.SeenLaws.{length-restored}
+use Rattle.breakpoints.proofs.SeenLaws.{length-restored}
 
 -- ---- the number of bytes
 

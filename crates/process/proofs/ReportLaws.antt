@@ -6,7 +6,7 @@ use borrow.Author.Tests.{ltb-true, lt-ltb}
 use lib.Dec.{ltb}
 use Rattle.lists.proofs.Bool.{&&-left, &&-right}
 use Rattle.process.specs.declared.record.Process.{Process}
-use Rattle.process.specs.declared.find.Want.the-variants.{At}
+use Rattle.breakpoints.specs.declared.want.Want.the-variants.{At}
 use Rattle.process.specs.Record.{entry}
 use Rattle.process.specs.Find.{find}
 use Rattle.process.specs.Request.{pc, hasBreak}

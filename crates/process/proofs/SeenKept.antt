@@ -11,20 +11,23 @@ use borrow.Author.Tests.{ltb-true, ltb-false, eqb-true, eqb-false}
 use lib.ListN.{length, take, drop, getD, set, getD-replicate, length-append, List·getD-append}
 use lib.Seq.{paste, length-paste, length-paste-head, drop-paste, take-paste, drop-at, take-at, take-length, getD-append-add, getD-take, getD-drop, set-comm, set-set}
 use lib.Dec.{ltb, eqb}
-use Rattle.process.specs.declared.record.Breakpoint.{Breakpoint}
+use Rattle.breakpoints.specs.declared.entry.Breakpoint.{Breakpoint}
 use Rattle.process.specs.declared.record.Process.{Process}
-use Rattle.process.specs.declared.find.Want.{Want}
-use Rattle.process.specs.declared.find.Want.the-variants.{Free, Lifted, At}
-use Rattle.process.specs.Record.{free, planted, withLifted, withCount, entry, withEntry}
-use Rattle.process.specs.Find.{matches, find}
+use Rattle.breakpoints.specs.declared.want.Want.{Want}
+use Rattle.breakpoints.specs.declared.want.Want.the-variants.{Free, Lifted, At}
+use Rattle.breakpoints.specs.Entry.{free, planted, withLifted, withCount}
+use Rattle.process.specs.Record.{entry, withEntry}
+use Rattle.breakpoints.specs.Want.{matches}
+use Rattle.process.specs.Find.{find}
 use Rattle.process.specs.Sound.{Sound}
-use Rattle.process.specs.Seen.{putWord, isPlanted, restored, seen, savedFrom, sheltered}
+use Rattle.breakpoints.specs.Seen.{putWord, isPlanted, restored, seen, savedFrom}
+use Rattle.process.specs.Request.{sheltered}
 use Rattle.process.specs.Local.{Local, local, Tested, Proper}
 use Rattle.process.specs.Planting.{plantedIn, liftedIn, removedFrom, replanted, liftedAt}
 use Rattle.process.specs.Request.{hasBreak, hasRoom}
 use Rattle.process.specs.Theorems.{seenOf}
 use Rattle.process.proofs.FindLaws.{matches-free, matches-lifted, find-matches, find-before, at-matches}
-use Rattle.process.proofs.SeenLaws.{Distinct, Spaced, planted-used, seen-unplanted, seen-planted, seen-alike}
+use Rattle.breakpoints.proofs.SeenLaws.{Distinct, Spaced, planted-used, seen-unplanted, seen-planted, seen-alike}
 use Rattle.process.proofs.SoundLaws.{sound-apart}
 use Rattle.process.proofs.TestedLaws.{tested-sound, tested-spaced}
 

@@ -8,10 +8,11 @@ use borrow.Author.Tests.{ltb-true, ltb-false, eqb-true, eqb-false}
 use lib.ListN.{length, getD, set, length-set}
 use lib.Seq.{getD-set-same, getD-set-other}
 use lib.Dec.{ltb, eqb}
-use Rattle.process.specs.declared.record.Breakpoint.{Breakpoint}
+use Rattle.breakpoints.specs.declared.entry.Breakpoint.{Breakpoint}
 use Rattle.process.specs.declared.record.Process.{Process}
-use Rattle.process.specs.declared.find.Want.the-variants.{Free, Lifted, At}
-use Rattle.process.specs.Record.{free, planted, withLifted, withCount, entry, withEntry}
+use Rattle.breakpoints.specs.declared.want.Want.the-variants.{Free, Lifted, At}
+use Rattle.breakpoints.specs.Entry.{free, planted, withLifted, withCount}
+use Rattle.process.specs.Record.{entry, withEntry}
 use Rattle.process.specs.Find.{find}
 use Rattle.process.specs.Sound.{Sound, moving}
 use Rattle.process.specs.Local.{Local, local, Tested, Proper}

@@ -10,9 +10,10 @@ use lib.ListN.{length, getD, set, length-set, getD-replicate}
 use lib.Seq.{getD-set-same, getD-set-other}
 use lib.Dec.{eqb, ltb}
 use Rattle.process.specs.declared.record.Run.{Run}
-use Rattle.process.specs.declared.record.Breakpoint.{Breakpoint}
+use Rattle.breakpoints.specs.declared.entry.Breakpoint.{Breakpoint}
 use Rattle.process.specs.declared.record.Process.{Process}
-use Rattle.process.specs.Record.{free, noBreaks, fresh, entry, withHost, withRun, withVector, withBreaks, withEntry}
+use Rattle.breakpoints.specs.Entry.{free}
+use Rattle.process.specs.Record.{noBreaks, fresh, entry, withHost, withRun, withVector, withBreaks, withEntry}
 use Rattle.process.specs.Sound.{Sound, NoBreakpoints, moving}
 
 -- ---- fields other than the entries

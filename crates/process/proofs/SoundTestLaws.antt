@@ -11,11 +11,13 @@ use Rattle.lists.specs.Every.{below}
 use Rattle.lists.proofs.Bool.{&&-left, &&-right, &&-both}
 use Rattle.lists.proofs.Every.{below-at, below-all}
 use Rattle.process.specs.declared.record.Process.{Process}
-use Rattle.process.specs.declared.find.Want.{Want}
-use Rattle.process.specs.declared.find.Want.the-variants.{Lifted, At}
+use Rattle.breakpoints.specs.declared.want.Want.{Want}
+use Rattle.breakpoints.specs.declared.want.Want.the-variants.{Lifted, At}
 use Rattle.process.specs.Record.{entry}
-use Rattle.process.specs.Find.{matches, find}
-use Rattle.process.specs.Sound.{Sound, NoBreakpoints, moving, placed, hosted, liftSound, usedSound, entrySound, soundTest}
+use Rattle.breakpoints.specs.Want.{matches}
+use Rattle.process.specs.Find.{find}
+use Rattle.breakpoints.specs.Entry.{placed}
+use Rattle.process.specs.Sound.{Sound, NoBreakpoints, moving, hosted, liftSound, usedSound, entrySound, soundTest}
 use Rattle.process.specs.Theorems.{TestIsSound}
 use Rattle.process.proofs.FindLaws.{lifted-matches, at-matches, find-before, find-is}
 

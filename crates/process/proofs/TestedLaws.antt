@@ -6,12 +6,13 @@ use Prim.Native.Nat.{ℕ, _+_, _≤_, _<_, _%_}
 use native.Mathlib.Omega.{arith}
 use lib.ListN.{length, getD, length-map}
 use Rattle.process.specs.declared.record.Process.{Process}
-use Rattle.process.specs.Record.{free, entry, withBreaks}
+use Rattle.breakpoints.specs.Entry.{free}
+use Rattle.process.specs.Record.{entry, withBreaks}
 use Rattle.process.specs.Sound.{Sound}
-use Rattle.process.specs.Seen.{savedFrom}
+use Rattle.breakpoints.specs.Seen.{savedFrom}
 use Rattle.process.specs.Local.{Tested}
 use Rattle.process.proofs.SoundTestLaws.{passes-sound, sound-passes}
-use Rattle.process.proofs.SeenLaws.{Spaced, planted-used}
+use Rattle.breakpoints.proofs.SeenLaws.{Spaced, planted-used}
 use Rattle.process.proofs.DepositLaws.{AllSpaced, map-alike}
 use Rattle.process.proofs.SoundLaws.{sound-alike}
 

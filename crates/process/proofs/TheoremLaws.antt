@@ -11,22 +11,24 @@ use lib.ListN.{length, take, drop, getD, set, getD-replicate}
 use lib.Seq.{paste, set-comm, set-set, getD-set-same, getD-set-other}
 use lib.Dec.{ltb, eqb}
 use Rattle.lists.proofs.Buffer.{part-paste, getD-paste-before, getD-paste-behind}
-use Rattle.process.specs.declared.record.Breakpoint.{Breakpoint}
+use Rattle.breakpoints.specs.declared.entry.Breakpoint.{Breakpoint}
 use Rattle.process.specs.declared.record.Process.{Process}
 use Rattle.process.specs.declared.record.Run.{Run}
 use Rattle.process.specs.declared.record.Run.the-variants.{Running, Stepping, Stopped, AtBreak, Ended}
-use Rattle.process.specs.declared.find.Want.the-variants.{Free, Lifted, At}
-use Rattle.process.specs.Record.{free, noBreaks, withCount, entry, fresh, withHost, withRun, withVector, withBreaks, withEntry}
+use Rattle.breakpoints.specs.declared.want.Want.the-variants.{Free, Lifted, At}
+use Rattle.breakpoints.specs.Entry.{free, withCount}
+use Rattle.process.specs.Record.{noBreaks, entry, fresh, withHost, withRun, withVector, withBreaks, withEntry}
 use Rattle.process.specs.Find.{find}
 use Rattle.process.specs.Sound.{Sound, moving}
-use Rattle.process.specs.Seen.{putWord, isPlanted, restored, seen, savedFrom, sheltered}
+use Rattle.breakpoints.specs.Seen.{putWord, isPlanted, restored, seen, savedFrom}
+use Rattle.process.specs.Request.{sheltered}
 use Rattle.process.specs.Local.{Local, local, Tested, Proper}
 use Rattle.process.specs.Planting.{plantedIn, liftedIn, removedFrom, replanted, liftedAt}
 use Rattle.process.specs.Request.{pc, onRecord, halted, atBreak, hasBreak, hasRoom, released, endDebugged, halt, stepped, proceeded, examined, toBeSeen, deposited, breakSet, breakRemoved, created, cleared}
 use Rattle.process.specs.Report.{accepts, stepping, isTtrap, recorded, passes, passed, runAfter, reported}
 use Rattle.process.specs.Theorems.{seenOf, DepositIsSeen, SeenStays, EndDebugRestores, StoreIsUnseen, SoundStays}
 use Rattle.process.proofs.FindLaws.{matches-at, find-matches, find-before, at-matches}
-use Rattle.process.proofs.SeenLaws.{length-seen, restored-planted, restored-not}
+use Rattle.breakpoints.proofs.SeenLaws.{length-seen, restored-planted, restored-not}
 use Rattle.process.proofs.DepositLaws.{sheltered-seen, map-alike}
 use Rattle.process.proofs.SoundLaws.{sound-vector, sound-run, sound-host, sound-free, sound-alike}
 use Rattle.process.proofs.PlantingLaws.{length-entry}

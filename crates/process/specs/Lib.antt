@@ -2,7 +2,6 @@
 pub mod Record
 pub mod Find
 pub mod Sound
-pub mod Seen
 pub mod Local
 pub mod Planting
 pub mod Request

@@ -4,10 +4,11 @@ use mathlib.Core.List.{List}
 use Prim.Native.Nat.{ℕ, _+_}
 use lib.ListN.{getD}
 use lib.Dec.{ltb}
-use Rattle.process.specs.declared.find.Want.the-variants.{Lifted, At}
-use Rattle.process.specs.Record.{free, planted, withLifted, entry, withEntry}
+use Rattle.breakpoints.specs.declared.want.Want.the-variants.{Lifted, At}
+use Rattle.breakpoints.specs.Entry.{free, planted, withLifted}
+use Rattle.process.specs.Record.{entry, withEntry}
 use Rattle.process.specs.Find.{find}
-use Rattle.process.specs.Seen.{putWord, restored}
+use Rattle.breakpoints.specs.Seen.{putWord, restored}
 use Rattle.process.specs.Local.{Local, local}
 
 -- 'Planting saves the word and stores 3, 0 (PDP-11 BPT).': in entry k, at this address and with this count

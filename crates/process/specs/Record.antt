@@ -5,7 +5,8 @@ use Prim.Native.Nat.{ℕ}
 use lib.ListN.{getD, set, replicate}
 use Rattle.process.specs.declared.record.Run.{Run}
 use Rattle.process.specs.declared.record.Run.the-variants.{Running, Stepping, Stopped, AtBreak, Ended}
-use Rattle.process.specs.declared.record.Breakpoint.{Breakpoint}
+use Rattle.breakpoints.specs.declared.entry.Breakpoint.{Breakpoint}
+use Rattle.breakpoints.specs.Entry.{free}
 use Rattle.process.specs.declared.record.Process.{Process}
 
 -- the number of a run state, in the order of 'running, stepping, stopped, at a breakpoint, ended'
@@ -15,23 +16,6 @@ runNumber Stepping = 1
 runNumber Stopped = 2
 runNumber AtBreak = 3
 runNumber Ended = 4
-
--- 'a freed entry is all zero'
-abbrev pub free : Breakpoint
-free = record { used = false; lifted = false; address = 0; count = 0; low = 0; high = 0 }
-
--- a planted breakpoint, with the two bytes of its saved word
-abbrev pub planted : ℕ → ℕ → ℕ → ℕ → Breakpoint
-planted a n l h = record { used = true; lifted = false; address = a; count = n; low = l; high = h }
-
-abbrev pub withCount : ℕ → Breakpoint → Breakpoint
-withCount n b = record { used = b .used; lifted = b .lifted; address = b .address; count = n; low = b .low; high = b .high }
-
-abbrev pub withSaved : ℕ → ℕ → Breakpoint → Breakpoint
-withSaved l h b = record { used = b .used; lifted = b .lifted; address = b .address; count = b .count; low = l; high = h }
-
-abbrev pub withLifted : Breakpoint → Breakpoint
-withLifted b = record { used = b .used; lifted = true; address = b .address; count = b .count; low = b .low; high = b .high }
 
 -- eight free entries
 abbrev pub noBreaks : List Breakpoint

@@ -6,8 +6,9 @@ use lib.Dec.{ltb, eqb}
 use Rattle.process.specs.declared.record.Run.{Run}
 use Rattle.process.specs.declared.record.Run.the-variants.{Running, Stepping, Stopped, AtBreak, Ended}
 use Rattle.process.specs.declared.record.Process.{Process}
-use Rattle.process.specs.declared.find.Want.the-variants.{At}
-use Rattle.process.specs.Record.{withCount, entry, withRun, withVector, withEntry}
+use Rattle.breakpoints.specs.declared.want.Want.the-variants.{At}
+use Rattle.breakpoints.specs.Entry.{withCount}
+use Rattle.process.specs.Record.{entry, withRun, withVector, withEntry}
 use Rattle.process.specs.Find.{find}
 use Rattle.process.specs.Sound.{moving}
 use Rattle.process.specs.Local.{Local, local}

@@ -9,11 +9,13 @@ use Rattle.lists.specs.Word.{lowFirst, vectorOf}
 use Rattle.process.specs.declared.record.Run.{Run}
 use Rattle.process.specs.declared.record.Run.the-variants.{Running, Stepping, Stopped, AtBreak, Ended}
 use Rattle.process.specs.declared.record.Process.{Process}
-use Rattle.process.specs.declared.find.Want.the-variants.{Free, At}
-use Rattle.process.specs.Record.{noBreaks, fresh, withCount, entry, withHost, withRun, withVector, withBreaks, withEntry}
+use Rattle.breakpoints.specs.declared.entry.Breakpoint.{Breakpoint}
+use Rattle.breakpoints.specs.declared.want.Want.the-variants.{Free, At}
+use Rattle.breakpoints.specs.Entry.{withCount}
+use Rattle.process.specs.Record.{noBreaks, fresh, entry, withHost, withRun, withVector, withBreaks, withEntry}
 use Rattle.process.specs.Find.{find}
 use Rattle.process.specs.Sound.{moving}
-use Rattle.process.specs.Seen.{seen, savedFrom, sheltered}
+use Rattle.breakpoints.specs.Seen.{seen, savedFrom}
 use Rattle.process.specs.Local.{Local, local}
 use Rattle.process.specs.Planting.{plantedIn, removedFrom, replanted, liftedAt}
 
@@ -104,6 +106,10 @@ examined at count l = take count (drop at (seen (l .process .breaks) (l .bytes))
 -- the seen memory with a string from an address on
 abbrev pub toBeSeen : ℕ → List ℕ → Local → List ℕ
 toBeSeen at string l = paste (seen (l .process .breaks) (l .bytes)) at string (length string)
+
+-- s, with what stands in the memory m under each planted breakpoint in its place
+unfoldable pub sheltered : List Breakpoint → List ℕ → List ℕ → List ℕ
+sheltered bs m s = seen (map (savedFrom m) bs) s
 
 -- what is to be seen goes to memory; 'A byte under a planted breakpoint goes to the saved word.'
 unfoldable pub deposited : ℕ → List ℕ → Local → Local

@@ -7,7 +7,8 @@ use Rattle.lists.specs.Every.{below}
 use Rattle.process.specs.declared.record.Run.{Run}
 use Rattle.process.specs.declared.record.Run.the-variants.{Running, Stepping, Stopped, AtBreak, Ended}
 use Rattle.process.specs.declared.record.Process.{Process}
-use Rattle.process.specs.declared.find.Want.the-variants.{Lifted, At}
+use Rattle.breakpoints.specs.declared.want.Want.the-variants.{Lifted, At}
+use Rattle.breakpoints.specs.Entry.{placed}
 use Rattle.process.specs.Record.{entry}
 use Rattle.process.specs.Find.{find}
 
@@ -37,10 +38,6 @@ pub record Sound (p : Process) : Type 0 where
   pub one-lifted : (j k : ℕ) → j < k → k < 8 → entry p j .used ≡ true → entry p k .used ≡ true → entry p j .lifted ≡ true → entry p k .lifted ≡ true → ⊥
   -- 'and only while running or stepping'
   pub moves : (k : ℕ) → k < 8 → entry p k .used ≡ true → entry p k .lifted ≡ true → moving (p .run) ≡ true
-
--- an even address, at most 4,094
-unfoldable pub placed : ℕ → Bool
-placed a = eqb (a % 2) 0 && leb a 4094
 
 -- an absent process has no host
 unfoldable pub hosted : Process → Bool

@@ -10,7 +10,7 @@ use Rattle.process.specs.declared.record.Process.{Process}
 use Rattle.process.specs.declared.record.Run.the-variants.{Running}
 use Rattle.process.specs.Record.{entry, withHost, withRun, withVector}
 use Rattle.process.specs.Sound.{Sound, NoBreakpoints, soundTest}
-use Rattle.process.specs.Seen.{isPlanted, seen}
+use Rattle.breakpoints.specs.Seen.{isPlanted, seen}
 use Rattle.process.specs.Local.{Local, Proper}
 use Rattle.process.specs.Request.{halted, atBreak, hasBreak, hasRoom, endDebugged, halt, stepped, proceeded, examined, deposited, breakSet, breakRemoved, created, cleared}
 use Rattle.process.specs.Report.{accepts, reported}

@@ -1,27 +1,8 @@
 // One search over the entries of a process, for whatever is wanted.
-use crate::record::Breakpoint;
 use crate::record::Process;
+use breakpoints::Want;
 ghost use mathlib.Core.Path.{_≡_};
-ghost use Rattle.process.specs.Find.{matches, find};
-
-// What is looked for among the entries.
-pub enum Want {
-    Free,
-    Lifted,
-    At(u16),
-}
-
-impl Breakpoint {
-    pub(crate) fn is(self, want: Want) -> bool
-        ensures { λ r. ⌜ r ≡ matches want self ⌝ }
-    {
-        match want {
-            Want::Free => !self.used,
-            Want::Lifted => if self.used { self.lifted } else { false },
-            Want::At(a) => if self.used { self.address == a } else { false },
-        }
-    }
-}
+ghost use Rattle.process.specs.Find.{find};
 
 impl Process {
     // The first entry that is wanted, or 8.

@@ -9,8 +9,6 @@ mod request;
 mod sound;
 pub mod theorems;
 
-pub use find::Want;
-pub use record::Breakpoint;
 pub use record::Process;
 pub use record::Run;
 pub use report::Reported;

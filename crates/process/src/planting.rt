@@ -1,8 +1,8 @@
 // Planting, lifting and removing a breakpoint.
-use crate::find::Want;
-use crate::memory::put_word;
-use crate::record::Breakpoint;
 use crate::record::Process;
+use breakpoints::Breakpoint;
+use breakpoints::Want;
+use breakpoints::put_word;
 ghost use mathlib.Core.Path.{_≡_};
 ghost use mathlib.Core.Bool.{true};
 ghost use Prim.Native.Nat.{_+_, _<_};

@@ -1,7 +1,8 @@
 // The process record. Whatever makes a record or writes one anew stands in this file, so that a new field changes it alone.
+use breakpoints::Breakpoint;
 ghost use mathlib.Core.Path.{_≡_};
 ghost use Prim.Native.Nat.{_<_};
-ghost use Rattle.process.specs.Record.{runNumber, free, planted, withCount, withSaved, withLifted, fresh, withRun, withHost, withVector, withEntry, withBreaks, noBreaks};
+ghost use Rattle.process.specs.Record.{runNumber, fresh, withRun, withHost, withVector, withEntry, withBreaks, noBreaks};
 
 // What a process is doing.
 pub enum Run {
@@ -10,17 +11,6 @@ pub enum Run {
     Stopped,
     AtBreak,
     Ended,
-}
-
-// One of the eight entries of a process. A planted breakpoint, that is one in use and not lifted, has 3, 0 stored at its
-// address and the word that was there saved; a lifted one has its word back in memory until the process next stops.
-pub struct Breakpoint {
-    pub used: bool,
-    pub lifted: bool,
-    pub address: u16,
-    pub count: u16,
-    pub low: u8,
-    pub high: u8,
 }
 
 // What is known of a process. Host 0 means nobody; the vector is R0 to R5, SP, PC, PS.
@@ -44,58 +34,6 @@ impl Run {
             Run::AtBreak => 3,
             Run::Ended => 4,
         }
-    }
-}
-
-impl Breakpoint {
-    // An entry that is not in use.
-    pub(crate) fn free() -> Self
-        ensures { λ r. ⌜ r ≡ free ⌝ }
-    {
-        Breakpoint {
-            used: false,
-            lifted: false,
-            address: 0,
-            count: 0,
-            low: 0,
-            high: 0,
-        }
-    }
-
-    // A planted breakpoint with this saved word.
-    pub(crate) fn planted(address: u16, count: u16, low: u8, high: u8) -> Self
-        ensures { λ r. ⌜ r ≡ planted address count low high ⌝ }
-    {
-        Breakpoint {
-            used: true,
-            lifted: false,
-            address: address,
-            count: count,
-            low: low,
-            high: high,
-        }
-    }
-
-    pub(crate) fn with_count(mut self, count: u16) -> Self
-        ensures { λ r. ⌜ r ≡ withCount count self ⌝ }
-    {
-        self.count = count;
-        self
-    }
-
-    pub(crate) fn with_saved(mut self, low: u8, high: u8) -> Self
-        ensures { λ r. ⌜ r ≡ withSaved low high self ⌝ }
-    {
-        self.low = low;
-        self.high = high;
-        self
-    }
-
-    pub(crate) fn with_lifted(mut self) -> Self
-        ensures { λ r. ⌜ r ≡ withLifted self ⌝ }
-    {
-        self.lifted = true;
-        self
     }
 }
 

@@ -1,7 +1,7 @@
 // What a machine report does to the process that it is about.
-use crate::find::Want;
 use crate::record::Process;
 use crate::record::Run;
+use breakpoints::Want;
 ghost use mathlib.Core.Path.{_≡_};
 ghost use mathlib.Core.Bool.{not};
 ghost use Prim.Native.Nat.{_<_};

@@ -1,8 +1,8 @@
 // What each request does to the process that it names. The gateway has tested before that the record is sound, that the process has
 // its 4,096 bytes, and what the request itself asks.
-use crate::find::Want;
 use crate::record::Process;
 use crate::record::Run;
+use breakpoints::Want;
 ghost use mathlib.Core.Path.{_≡_};
 ghost use Rattle.process.specs.Local.{Local, local, Tested};
 ghost use Rattle.process.specs.Record.{withHost, withRun};

@@ -1,13 +1,14 @@
 // Whether a process record is sound.
-use crate::find::Want;
-use crate::record::Breakpoint;
 use crate::record::Process;
 use crate::record::Run;
+use breakpoints::Breakpoint;
+use breakpoints::Want;
+use breakpoints::placed;
 ghost use mathlib.Core.Path.{_≡_};
 ghost use mathlib.Core.Bool.{true};
 ghost use Prim.Native.Nat.{_<_};
 ghost use Rattle.process.specs.Record.{entry};
-ghost use Rattle.process.specs.Sound.{moving, placed, hosted, firstThere, liftSound, entrySound, soundTest};
+ghost use Rattle.process.specs.Sound.{moving, hosted, firstThere, liftSound, entrySound, soundTest};
 
 impl Run {
     // Running or stepping.
@@ -21,16 +22,6 @@ impl Run {
             Run::AtBreak => false,
             Run::Ended => false,
         }
-    }
-}
-
-impl Breakpoint {
-    // At an even address, at most 4,094.
-    fn placed(self) -> bool
-        ensures { λ r. ⌜ r ≡ placed (self .address) ⌝ }
-    {
-        let a = self.address;
-        if a % 2 == 0 { a <= 4094 } else { false }
     }
 }
 
@@ -88,7 +79,7 @@ impl Process {
         if self.host == 0 {
             return false;
         }
-        if !b.placed() {
+        if !placed(b.address) {
             return false;
         }
         if !self.first_there(k, b.address) {

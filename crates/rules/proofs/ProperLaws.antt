@@ -8,17 +8,19 @@ use lib.ListN.{length, set, length-set, length-map, length-replicate}
 use lib.Seq.{length-paste}
 use lib.Dec.{ltb}
 use Rattle.process.specs.declared.record.Run.the-variants.{Running, Stopped}
-use Rattle.process.specs.declared.find.Want.the-variants.{Free, At}
-use Rattle.process.specs.Record.{fresh, withCount, entry, withRun, withHost, withVector, withEntry}
+use Rattle.breakpoints.specs.declared.want.Want.the-variants.{Free, At}
+use Rattle.breakpoints.specs.Entry.{withCount}
+use Rattle.process.specs.Record.{fresh, entry, withRun, withHost, withVector, withEntry}
 use Rattle.process.specs.Find.{find}
 use Rattle.process.specs.Sound.{Sound, moving}
-use Rattle.process.specs.Seen.{seen, savedFrom, sheltered}
+use Rattle.breakpoints.specs.Seen.{seen, savedFrom}
+use Rattle.process.specs.Request.{sheltered}
 use Rattle.process.specs.Local.{Local, local, Proper}
 use Rattle.process.specs.Planting.{plantedIn, liftedIn, removedFrom, replanted, liftedAt}
 use Rattle.process.specs.Request.{pc, onRecord, halted, atBreak, hasBreak, hasRoom, endDebugged, halt, stepped, proceeded, toBeSeen, deposited, breakSet, breakRemoved, created, cleared}
 use Rattle.process.specs.Report.{accepts, recorded, passes, passed, runAfter, reported}
 use Rattle.process.proofs.SoundTestLaws.{sound-passes}
-use Rattle.process.proofs.SeenLaws.{length-seen}
+use Rattle.breakpoints.proofs.SeenLaws.{length-seen}
 use Rattle.process.proofs.TestedLaws.{tested-sound}
 use Rattle.process.proofs.PlantingLaws.{length-plantedIn, length-liftedIn, length-removedFrom, length-replanted, length-liftedAt, length-entry, eight-replanted}
 use Rattle.process.proofs.TheoremLaws.{sound-stays}

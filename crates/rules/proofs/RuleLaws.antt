@@ -12,10 +12,11 @@ use Rattle.lists.proofs.Bool.{&&-left, &&-right}
 use Rattle.format.specs.declared.header.Header.{Header}
 use Rattle.process.specs.declared.record.Run.{Run}
 use Rattle.process.specs.declared.record.Process.{Process}
-use Rattle.process.specs.declared.find.Want.the-variants.{Lifted, At}
+use Rattle.breakpoints.specs.declared.want.Want.the-variants.{Lifted, At}
 use Rattle.process.specs.Record.{fresh, withVector}
 use Rattle.process.specs.Find.{find}
-use Rattle.process.specs.Sound.{moving, placed}
+use Rattle.breakpoints.specs.Entry.{placed}
+use Rattle.process.specs.Sound.{moving}
 use Rattle.process.specs.Local.{Local, Proper}
 use Rattle.process.specs.Planting.{plantedIn, liftedIn, removedFrom, replanted, liftedAt}
 use Rattle.process.specs.Request.{pc, onRecord, halted, atBreak, hasBreak, hasRoom, endDebugged, halt, resumed, stepped, proceeded, deposited, vectorDeposited, breakSet, breakRemoved, cleared, destroyed}

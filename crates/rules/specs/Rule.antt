@@ -8,7 +8,7 @@ use Rattle.format.specs.declared.header.Header.{Header}
 use Rattle.format.specs.Table.{op, asks}
 use Rattle.process.specs.declared.record.Run.{Run}
 use Rattle.process.specs.declared.record.Process.{Process}
-use Rattle.process.specs.Sound.{placed}
+use Rattle.breakpoints.specs.Entry.{placed}
 use Rattle.process.specs.Local.{Local}
 use Rattle.process.specs.Request.{halted, atBreak, hasBreak, hasRoom, debugged, endDebugged, halt, resumed, stepped, proceeded, examined, deposited, vectorDeposited, breakSet, breakRemoved, destroyed}
 

@@ -10,9 +10,9 @@ use Rattle.format.specs.declared.header.Header.{Header}
 use Rattle.format.specs.Outcome.{firstFailing}
 use Rattle.format.proofs.OutcomeLaws.{first-passes, rest-passes}
 use Rattle.process.specs.declared.record.Process.{Process}
-use Rattle.process.specs.declared.find.Want.the-variants.{At}
+use Rattle.breakpoints.specs.declared.want.Want.the-variants.{At}
 use Rattle.process.specs.Find.{find}
-use Rattle.process.specs.Sound.{placed}
+use Rattle.breakpoints.specs.Entry.{placed}
 use Rattle.process.specs.Request.{hasBreak, entryFor}
 use Rattle.process.proofs.EntryLaws.{entry-low}
 use Rattle.rules.specs.Rule.{Rule, ruleOf}

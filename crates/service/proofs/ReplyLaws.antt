@@ -22,9 +22,9 @@ use Rattle.message.specs.Exchange.{writeNumber, answered, writes, heads}
 use Rattle.format.proofs.OutcomeLaws.{granted-zero}
 use Rattle.message.proofs.ExchangeLaws.{answered-granted}
 use Rattle.process.specs.Local.{Local}
-use Rattle.process.specs.Seen.{seen}
+use Rattle.breakpoints.specs.Seen.{seen}
 use Rattle.process.specs.Request.{examined}
-use Rattle.process.proofs.SeenLaws.{length-seen}
+use Rattle.breakpoints.proofs.SeenLaws.{length-seen}
 use Rattle.service.specs.Reply.{Answerable}
 
 -- ---- what is granted is written

@@ -10,7 +10,7 @@ use lib.Dec.{eqb, leb}
 use Rattle.format.specs.declared.header.Header.{Header}
 use Rattle.process.specs.declared.record.Run.{Run}
 use Rattle.process.specs.declared.record.Process.{Process}
-use Rattle.process.specs.Sound.{placed}
+use Rattle.breakpoints.specs.Entry.{placed}
 use Rattle.process.specs.Local.{Local}
 use Rattle.process.specs.Request.{halted, atBreak, hasBreak, hasRoom, examined}
 use Rattle.rules.specs.Rule.{Public, Rule, rules, noRule, ruleOf}

@@ -1,13 +1,13 @@
 // The tests 8 to 12 of a request that names a process, by its op code.
 use crate::task::Task;
+use breakpoints::Want;
+use breakpoints::placed;
 use format::Header;
 use process::Process;
 use process::Run;
-use process::Want;
 ghost use mathlib.Core.Path.{_≡_};
 ghost use mathlib.Core.Bool.{_&&_};
 ghost use lib.Dec.{leb};
-ghost use Rattle.process.specs.Sound.{placed};
 ghost use Rattle.rules.specs.Rule.{public, ruleOf};
 ghost use Rattle.tasks.specs.Task.{entryTask, ruleTask};
 
@@ -35,13 +35,6 @@ fn runs(cmd: u8, run: Run) -> bool
         return run.at_break();
     }
     true
-}
-
-// Whether a breakpoint may stand at this address.
-fn placed(a: u16) -> bool
-    ensures { λ r. ⌜ r ≡ placed a ⌝ }
-{
-    a % 2 == 0 && a <= 4094
 }
 
 // Whether so many bytes from this address on may be examined.

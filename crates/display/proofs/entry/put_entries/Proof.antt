@@ -9,7 +9,7 @@ use Rattle.lists.specs.Joined.{joined}
 use Rattle.lines.specs.Scan.{Put}
 use Rattle.lines.proofs.PutLaws.{put-more, put-joined-none, put-joined-all}
 use Rattle.display.specs.Line.{entryText}
-use Rattle.process.specs.Record.{free}
+use Rattle.breakpoints.specs.Entry.{free}
 use Rattle.display.proofs.entry.put_entries.Statement.{statement}
 use Rattle.display.proofs.entry.put_entries.Tie as tie
 

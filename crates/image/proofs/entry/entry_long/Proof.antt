@@ -1,7 +1,7 @@
 -- `image::entry::entry_long` meets its contract: its number's bytes are the fields. Assumes nothing.
 use lib.ListN.{getD}
 use Rattle.lists.specs.Flag.{flag}
-use Rattle.process.specs.Record.{free}
+use Rattle.breakpoints.specs.Entry.{free}
 use Rattle.image.specs.Form.{entryBytes}
 use Rattle.image.proofs.FormLaws.{packed-bytes, flag-byte}
 use borrow.Author.Needs.{needs}

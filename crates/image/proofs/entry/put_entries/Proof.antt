@@ -8,7 +8,7 @@ use lib.ListN.{length, take, drop, length-drop}
 use lib.Seq.{length-take-le, take-all}
 use Rattle.lists.specs.Buffer.{overlay}
 use Rattle.lists.proofs.Buffer.{length-overlay}
-use Rattle.process.specs.Record.{free}
+use Rattle.breakpoints.specs.Entry.{free}
 use Rattle.image.specs.Form.{entryBytes}
 use Rattle.lists.specs.Joined.{joined}
 use Rattle.image.proofs.ChunkLaws.{joined-step, joined-long}

@@ -5,11 +5,12 @@ use native.Mathlib.Omega.{arith}
 use borrow.Author.Needs.{needs}
 use lib.Seq.{paste, length-paste}
 use lib.ListN.{length, length-map}
-use Rattle.process.specs.Seen.{seen, sheltered}
+use Rattle.breakpoints.specs.Seen.{seen}
+use Rattle.process.specs.Request.{sheltered}
 use Rattle.process.specs.Request.{deposited}
 use Rattle.process.proofs.TestedLaws.{tested-exchanged}
 use Rattle.process.proofs.DepositLaws.{map-again}
-use Rattle.process.proofs.SeenLaws.{length-seen}
+use Rattle.breakpoints.proofs.SeenLaws.{length-seen}
 use Rattle.lists.proofs.Buffer.{paste-within}
 use Rattle.process.proofs.record.Process.deposit.Statement.{statement}
 use Rattle.process.proofs.record.Process.deposit.Tie as tie

@@ -4,9 +4,10 @@ use mathlib.Core.Bool.{Bool}
 use Prim.Native.Nat.{ℕ}
 use borrow.Author.Tests.{not-true, not-false, eq-eqb, ne-eqb}
 use borrow.Author.Needs.{needs}
-use Rattle.process.specs.declared.record.Breakpoint.{Breakpoint}
+use Rattle.breakpoints.specs.declared.entry.Breakpoint.{Breakpoint}
 use Rattle.process.specs.Record.{entry}
-use Rattle.process.specs.Sound.{entrySound, usedSound, placed}
+use Rattle.breakpoints.specs.Entry.{placed}
+use Rattle.process.specs.Sound.{entrySound, usedSound}
 use Rattle.process.proofs.record.Process.entry_sound.Statement.{statement}
 use Rattle.process.proofs.record.Process.entry_sound.Tie as tie
 

@@ -5,9 +5,9 @@ use native.Mathlib.Omega.{arith}
 use borrow.Author.Needs.{needs}
 use lib.Seq.{length-take-le}
 use lib.ListN.{length, take, drop, length-drop}
-use Rattle.process.specs.Seen.{laidWords}
+use Rattle.breakpoints.specs.Seen.{laidWords}
 use Rattle.process.specs.Request.{examined}
-use Rattle.process.proofs.ExamineLaws.{part-words}
+use Rattle.breakpoints.proofs.ExamineLaws.{part-words}
 use Rattle.lists.proofs.Buffer.{copy-whole}
 use Rattle.process.proofs.record.Process.examine.Statement.{statement}
 use Rattle.process.proofs.record.Process.examine.Tie as tie

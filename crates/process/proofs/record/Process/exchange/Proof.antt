@@ -6,12 +6,13 @@ use native.Mathlib.Omega.{arith}
 use borrow.Author.Needs.{needs}
 use lib.Seq.{take-length}
 use lib.ListN.{length, take, drop, getD, length-map}
-use Rattle.process.specs.Seen.{seen, savedFrom, restored}
-use Rattle.process.specs.Record.{free, withBreaks}
-use Rattle.process.specs.declared.record.Breakpoint.{Breakpoint}
+use Rattle.breakpoints.specs.Seen.{seen, savedFrom, restored}
+use Rattle.breakpoints.specs.Entry.{free}
+use Rattle.process.specs.Record.{withBreaks}
+use Rattle.breakpoints.specs.declared.entry.Breakpoint.{Breakpoint}
 use Rattle.process.proofs.DepositLaws.{savedFrom-passed}
 use Rattle.process.proofs.TestedLaws.{tested-inside, tested-spaced}
-use Rattle.process.proofs.SeenLaws.{length-seen, seen-step}
+use Rattle.breakpoints.proofs.SeenLaws.{length-seen, seen-step}
 use Rattle.lists.proofs.MapStep.{map-step, map-whole}
 use Rattle.process.proofs.record.Process.exchange.Statement.{statement}
 use Rattle.process.proofs.record.Process.exchange.Tie as tie

@@ -4,8 +4,9 @@ use Prim.Native.Nat.{_≤_, _-_, _+_}
 use native.Mathlib.Omega.{arith}
 use borrow.Author.Needs.{needs}
 use lib.ListN.{length, drop, length-map, drop-of-length-le}
-use Rattle.process.specs.Record.{free}
-use Rattle.process.specs.Find.{matches, find}
+use Rattle.breakpoints.specs.Entry.{free}
+use Rattle.breakpoints.specs.Want.{matches}
+use Rattle.process.specs.Find.{find}
 use Rattle.lists.specs.First.{first}
 use Rattle.lists.proofs.First.{first-here, first-next}
 use Rattle.process.proofs.record.Process.find.Statement.{statement}

@@ -6,7 +6,7 @@ use borrow.Author.Tests.{eq-eqb, ne-eqb}
 use borrow.Author.Needs.{needs}
 use lib.ListN.{length-map}
 use Rattle.process.specs.declared.record.Process.{Process}
-use Rattle.process.specs.declared.find.Want.the-variants.{At}
+use Rattle.breakpoints.specs.declared.want.Want.the-variants.{At}
 use Rattle.process.specs.Record.{entry}
 use Rattle.process.specs.Find.{find}
 use Rattle.process.proofs.FindLaws.{at-matches, find-here, find-past}

@@ -5,10 +5,10 @@ use Prim.Native.Nat.{_≤_, _-_, _+_}
 use native.Mathlib.Omega.{arith}
 use borrow.Author.Needs.{needs}
 use lib.ListN.{length, drop, getD, length-map, drop-of-length-le}
-use Rattle.process.specs.declared.record.Breakpoint.{Breakpoint}
-use Rattle.process.specs.Record.{free}
-use Rattle.process.specs.Seen.{laidWords}
-use Rattle.process.proofs.SeenLaws.{laidWords-step, length-laidWord}
+use Rattle.breakpoints.specs.declared.entry.Breakpoint.{Breakpoint}
+use Rattle.breakpoints.specs.Entry.{free}
+use Rattle.breakpoints.specs.Seen.{laidWords}
+use Rattle.breakpoints.proofs.SeenLaws.{laidWords-step, length-laidWord}
 use Rattle.process.proofs.record.Process.lay.Statement.{statement}
 use Rattle.process.proofs.record.Process.lay.Tie as tie
 

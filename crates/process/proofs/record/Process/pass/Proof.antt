@@ -3,7 +3,8 @@ use mathlib.Core.Path.{_≡_}
 use Prim.Native.Nat.{_-_}
 use borrow.Author.Needs.{needs}
 use lib.ListN.{length-map}
-use Rattle.process.specs.Record.{entry, withCount}
+use Rattle.breakpoints.specs.Entry.{withCount}
+use Rattle.process.specs.Record.{entry}
 use Rattle.process.specs.Report.{passed}
 use Rattle.process.proofs.PlantingLaws.{inside-entry}
 use Rattle.process.proofs.record.Process.pass.Statement.{statement}

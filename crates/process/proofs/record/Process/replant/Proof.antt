@@ -3,7 +3,7 @@ use mathlib.Core.Path.{refl}
 use borrow.Author.Tests.{lt-ltb, le-ltb}
 use borrow.Author.Needs.{needs}
 use lib.ListN.{length-map}
-use Rattle.process.specs.declared.find.Want.the-variants.{Lifted}
+use Rattle.breakpoints.specs.declared.want.Want.the-variants.{Lifted}
 use Rattle.process.specs.Planting.{replanted}
 use Rattle.process.proofs.FindLaws.{find-matches, matches-lifted}
 use Rattle.process.proofs.record.Process.replant.Statement.{statement}

@@ -1,11 +1,11 @@
--- `process::record::Breakpoint::exchange` meets its contract, by whether the breakpoint is planted. Assumes nothing.
+-- `breakpoints::entry::Breakpoint::exchange` meets its contract, by whether the breakpoint is planted. Assumes nothing.
 use mathlib.Core.Path.{refl, sym, _∙_}
 use native.Mathlib.Omega.{arith}
 use borrow.Author.Needs.{needs}
-use Rattle.process.specs.Seen.{restored, savedFrom}
-use Rattle.process.proofs.SeenLaws.{planted-used}
-use Rattle.process.proofs.record.Breakpoint.exchange.Statement.{statement}
-use Rattle.process.proofs.record.Breakpoint.exchange.Tie as tie
+use Rattle.breakpoints.specs.Seen.{restored, savedFrom}
+use Rattle.breakpoints.proofs.SeenLaws.{planted-used}
+use Rattle.breakpoints.proofs.entry.Breakpoint.exchange.Statement.{statement}
+use Rattle.breakpoints.proofs.entry.Breakpoint.exchange.Tie as tie
 
 is-planted-requires : tie.Need-is-planted-requires
 is-planted-requires c κs = search needs

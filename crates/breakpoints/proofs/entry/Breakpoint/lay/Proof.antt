@@ -1,8 +1,8 @@
--- `process::record::Breakpoint::lay` meets its contract, by whether the breakpoint is planted. Assumes nothing.
+-- `breakpoints::entry::Breakpoint::lay` meets its contract, by whether the breakpoint is planted. Assumes nothing.
 use borrow.Author.Needs.{needs}
-use Rattle.process.specs.Seen.{laidWord}
-use Rattle.process.proofs.record.Breakpoint.lay.Statement.{statement}
-use Rattle.process.proofs.record.Breakpoint.lay.Tie as tie
+use Rattle.breakpoints.specs.Seen.{laidWord}
+use Rattle.breakpoints.proofs.entry.Breakpoint.lay.Statement.{statement}
+use Rattle.breakpoints.proofs.entry.Breakpoint.lay.Tie as tie
 
 is-planted-requires : tie.Need-is-planted-requires
 is-planted-requires c κs = search needs

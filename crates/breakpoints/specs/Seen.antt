@@ -1,11 +1,11 @@
 -- What is seen of a process's memory.
 use mathlib.Core.Bool.{Bool, not, cond, _&&_}
-use mathlib.Core.List.{List, [], _∷_, map}
+use mathlib.Core.List.{List, [], _∷_}
 use Prim.Native.Nat.{ℕ, _+_, _-_}
 use lib.ListN.{getD, set}
 use lib.Dec.{leb}
-use Rattle.process.specs.declared.record.Breakpoint.{Breakpoint}
-use Rattle.process.specs.Record.{withSaved}
+use Rattle.breakpoints.specs.declared.entry.Breakpoint.{Breakpoint}
+use Rattle.breakpoints.specs.Entry.{withSaved}
 
 -- the two bytes of a word, low first, at an address
 abbrev pub putWord : ℕ → ℕ → ℕ → List ℕ → List ℕ
@@ -27,10 +27,6 @@ seen (b ∷ bs) m = seen bs (restored b m)
 -- a breakpoint whose saved word, if it is planted, is the word that stands at its address in s
 unfoldable pub savedFrom : List ℕ → Breakpoint → Breakpoint
 savedFrom s b = cond (isPlanted b) (withSaved (getD s (b .address) 0) (getD s (b .address + 1) 0) b) b
-
--- s, with what stands in the memory m under each planted breakpoint in its place
-unfoldable pub sheltered : List Breakpoint → List ℕ → List ℕ → List ℕ
-sheltered bs m s = seen (map (savedFrom m) bs) s
 
 -- a byte at address i, laid over the part of memory that starts at an address, if it is in there
 unfoldable pub laidByte : ℕ → ℕ → ℕ → List ℕ → List ℕ

@@ -10,9 +10,9 @@ use lib.ListN.{length, take, drop, getD, set, length-set}
 use lib.Dec.{leb}
 use lib.Seq.{drop-cons, take-suc, set-comm, set-set, set-getD, getD-set-same, getD-set-other}
 use Rattle.lists.proofs.Bool.{&&-left}
-use Rattle.process.specs.declared.record.Breakpoint.{Breakpoint}
-use Rattle.process.specs.Record.{free, planted}
-use Rattle.process.specs.Seen.{putWord, isPlanted, restored, seen, laidByte, laidWord, laidWords}
+use Rattle.breakpoints.specs.declared.entry.Breakpoint.{Breakpoint}
+use Rattle.breakpoints.specs.Entry.{free, planted}
+use Rattle.breakpoints.specs.Seen.{putWord, isPlanted, restored, seen, laidByte, laidWord, laidWords}
 
 -- a planted breakpoint is in use
 pub planted-used : (b : Breakpoint) → isPlanted b ≡ true → b .used ≡ true

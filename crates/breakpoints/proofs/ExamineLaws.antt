@@ -8,8 +8,8 @@ use borrow.Author.Tests.{leb-true, leb-false, ltb-true, ltb-false}
 use lib.ListN.{length, take, drop, set, length-take}
 use lib.Seq.{drop-set-lt, drop-set-add, take-set-lt, take-set-le, set-out}
 use lib.Dec.{leb, ltb}
-use Rattle.process.specs.declared.record.Breakpoint.{Breakpoint}
-use Rattle.process.specs.Seen.{putWord, isPlanted, restored, seen, laidByte, laidWord, laidWords}
+use Rattle.breakpoints.specs.declared.entry.Breakpoint.{Breakpoint}
+use Rattle.breakpoints.specs.Seen.{putWord, isPlanted, restored, seen, laidByte, laidWord, laidWords}
 
 module _ (at n : ℕ) where
   abbrev part : List ℕ → List ℕ

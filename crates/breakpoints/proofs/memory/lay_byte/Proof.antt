@@ -1,11 +1,11 @@
--- `process::memory::lay_byte` meets its contract: a byte outside the part is not laid, and a store past the end changes nothing. Assumes nothing.
+-- `breakpoints::memory::lay_byte` meets its contract: a byte outside the part is not laid, and a store past the end changes nothing. Assumes nothing.
 use mathlib.Core.Path.{sym}
 use borrow.Author.Tests.{le-leb, lt-leb}
 use borrow.Author.Needs.{needs}
 use lib.Seq.{set-out}
-use Rattle.process.specs.Seen.{laidByte}
-use Rattle.process.proofs.memory.lay_byte.Statement.{statement}
-use Rattle.process.proofs.memory.lay_byte.Tie as tie
+use Rattle.breakpoints.specs.Seen.{laidByte}
+use Rattle.breakpoints.proofs.memory.lay_byte.Statement.{statement}
+use Rattle.breakpoints.proofs.memory.lay_byte.Tie as tie
 
 slice-write-out : tie.Need-slice-write-out
 slice-write-out c = search needs

@@ -1,8 +1,8 @@
--- `process::record::Breakpoint::is` meets its contract, by the cases of what is wanted. Assumes nothing.
+-- `breakpoints::entry::Breakpoint::is` meets its contract, by the cases of what is wanted. Assumes nothing.
 use borrow.Author.Needs.{needs}
-use Rattle.process.specs.Find.{matches}
-use Rattle.process.proofs.record.Breakpoint.is.Statement.{statement}
-use Rattle.process.proofs.record.Breakpoint.is.Tie as tie
+use Rattle.breakpoints.specs.Want.{matches}
+use Rattle.breakpoints.proofs.entry.Breakpoint.is.Statement.{statement}
+use Rattle.breakpoints.proofs.entry.Breakpoint.is.Tie as tie
 
 enum-told : tie.Need-enum-told
 enum-told c = search needs

@@ -1,10 +1,10 @@
--- `process::record::Breakpoint::restore` meets its contract, by whether the breakpoint is planted. Assumes nothing.
+-- `breakpoints::entry::Breakpoint::restore` meets its contract, by whether the breakpoint is planted. Assumes nothing.
 use mathlib.Core.Path.{sym, _∙_}
 use borrow.Author.Needs.{needs}
-use Rattle.process.specs.Seen.{restored}
-use Rattle.process.proofs.SeenLaws.{planted-used}
-use Rattle.process.proofs.record.Breakpoint.restore.Statement.{statement}
-use Rattle.process.proofs.record.Breakpoint.restore.Tie as tie
+use Rattle.breakpoints.specs.Seen.{restored}
+use Rattle.breakpoints.proofs.SeenLaws.{planted-used}
+use Rattle.breakpoints.proofs.entry.Breakpoint.restore.Statement.{statement}
+use Rattle.breakpoints.proofs.entry.Breakpoint.restore.Tie as tie
 
 is-planted-requires : tie.Need-is-planted-requires
 is-planted-requires c κs = search needs

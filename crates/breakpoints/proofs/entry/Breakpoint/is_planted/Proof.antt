@@ -1,8 +1,8 @@
--- `process::record::Breakpoint::is_planted` meets its contract, by whether the entry is lifted. Assumes nothing.
+-- `breakpoints::entry::Breakpoint::is_planted` meets its contract, by whether the entry is lifted. Assumes nothing.
 use mathlib.Core.Path.{sym, ap, _∙_}
 use mathlib.Core.Bool.{Bool, not, _&&_, and-true, and-false}
-use Rattle.process.proofs.record.Breakpoint.is_planted.Statement.{statement}
-use Rattle.process.proofs.record.Breakpoint.is_planted.Tie as tie
+use Rattle.breakpoints.proofs.entry.Breakpoint.is_planted.Statement.{statement}
+use Rattle.breakpoints.proofs.entry.Breakpoint.is_planted.Tie as tie
 
 returns : tie.Need-returns
 returns c =

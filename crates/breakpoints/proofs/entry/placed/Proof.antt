@@ -1,8 +1,8 @@
--- `process::record::Breakpoint::placed` meets its contract, by the two cases. Assumes nothing.
+-- `breakpoints::entry::placed` meets its contract, by the two cases. Assumes nothing.
 use borrow.Author.Tests.{eq-eqb, ne-eqb}
-use Rattle.process.specs.Sound.{placed}
-use Rattle.process.proofs.record.Breakpoint.placed.Statement.{statement}
-use Rattle.process.proofs.record.Breakpoint.placed.Tie as tie
+use Rattle.breakpoints.specs.Entry.{placed}
+use Rattle.breakpoints.proofs.entry.placed.Statement.{statement}
+use Rattle.breakpoints.proofs.entry.placed.Tie as tie
 
 returns : tie.Need-returns
 unfolding placed

@@ -1,0 +1,26 @@
+-- An entry of a process, and the entries that differ from it in one field. Nothing else writes an entry anew.
+use mathlib.Core.Bool.{Bool, true, false, _&&_}
+use Prim.Native.Nat.{ℕ, _%_}
+use lib.Dec.{eqb, leb}
+use Rattle.breakpoints.specs.declared.entry.Breakpoint.{Breakpoint}
+
+-- 'a freed entry is all zero'
+abbrev pub free : Breakpoint
+free = record { used = false; lifted = false; address = 0; count = 0; low = 0; high = 0 }
+
+-- a planted breakpoint, with the two bytes of its saved word
+abbrev pub planted : ℕ → ℕ → ℕ → ℕ → Breakpoint
+planted a n l h = record { used = true; lifted = false; address = a; count = n; low = l; high = h }
+
+abbrev pub withCount : ℕ → Breakpoint → Breakpoint
+withCount n b = record { used = b .used; lifted = b .lifted; address = b .address; count = n; low = b .low; high = b .high }
+
+abbrev pub withSaved : ℕ → ℕ → Breakpoint → Breakpoint
+withSaved l h b = record { used = b .used; lifted = b .lifted; address = b .address; count = b .count; low = l; high = h }
+
+abbrev pub withLifted : Breakpoint → Breakpoint
+withLifted b = record { used = b .used; lifted = true; address = b .address; count = b .count; low = b .low; high = b .high }
+
+-- an even address, at most 4,094
+unfoldable pub placed : ℕ → Bool
+placed a = eqb (a % 2) 0 && leb a 4094

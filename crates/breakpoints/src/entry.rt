@@ -1,0 +1,73 @@
+// An entry of a process. Whatever makes one or writes one anew stands in this file, so that a new field changes it alone.
+ghost use mathlib.Core.Path.{_≡_};
+ghost use Rattle.breakpoints.specs.Entry.{free, planted, withCount, withSaved, withLifted, placed};
+
+// One of the eight entries of a process. A planted breakpoint, that is one in use and not lifted, has 3, 0 stored at its
+// address and the word that was there saved; a lifted one has its word back in memory until the process next stops.
+pub struct Breakpoint {
+    pub used: bool,
+    pub lifted: bool,
+    pub address: u16,
+    pub count: u16,
+    pub low: u8,
+    pub high: u8,
+}
+
+impl Breakpoint {
+    // An entry that is not in use.
+    pub fn free() -> Self
+        ensures { λ r. ⌜ r ≡ free ⌝ }
+    {
+        Breakpoint {
+            used: false,
+            lifted: false,
+            address: 0,
+            count: 0,
+            low: 0,
+            high: 0,
+        }
+    }
+
+    // A planted breakpoint with this saved word.
+    pub fn planted(address: u16, count: u16, low: u8, high: u8) -> Self
+        ensures { λ r. ⌜ r ≡ planted address count low high ⌝ }
+    {
+        Breakpoint {
+            used: true,
+            lifted: false,
+            address: address,
+            count: count,
+            low: low,
+            high: high,
+        }
+    }
+
+    pub fn with_count(mut self, count: u16) -> Self
+        ensures { λ r. ⌜ r ≡ withCount count self ⌝ }
+    {
+        self.count = count;
+        self
+    }
+
+    pub fn with_saved(mut self, low: u8, high: u8) -> Self
+        ensures { λ r. ⌜ r ≡ withSaved low high self ⌝ }
+    {
+        self.low = low;
+        self.high = high;
+        self
+    }
+
+    pub fn with_lifted(mut self) -> Self
+        ensures { λ r. ⌜ r ≡ withLifted self ⌝ }
+    {
+        self.lifted = true;
+        self
+    }
+}
+
+// Whether a breakpoint may stand at this address: it is even, and at most 4,094.
+pub fn placed(a: u16) -> bool
+    ensures { λ r. ⌜ r ≡ placed a ⌝ }
+{
+    if a % 2 == 0 { a <= 4094 } else { false }
+}
