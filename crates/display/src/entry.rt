@@ -3,7 +3,6 @@ use breakpoints::Breakpoint;
 use decimal::put_field;
 use words::flag;
 use words::word_of;
-ghost use mathlib.Core.Path.{_≡_};
 ghost use Prim.Native.Nat.{_+_, _≤_, _<_};
 ghost use lib.ListN.{length};
 ghost use Rattle.lists.specs.Joined.{joined};

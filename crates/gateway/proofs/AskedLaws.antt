@@ -1,25 +1,24 @@
 -- A request that was read, at the process that it goes to. Assumes nothing.
-use mathlib.Core.Path.{_≡_, refl, sym, ap, _∙_}
-use mathlib.Core.Bool.{Bool, true, false, not, cond, _&&_, _||_}
+use mathlib.Core.Path.{_≡_, refl, sym, _∙_}
+use mathlib.Core.Bool.{Bool, true, false, cond, _&&_, _||_}
 use mathlib.Core.List.{List, [], _∷_}
 use Prim.Native.Nat.{ℕ, zero, suc, _≤_, _<_}
 use native.Mathlib.Omega.{arith}
 use borrow.Author.Tests.{eqb-true, ne-eqb, lt-ltb, le-ltb, ltb-true, leb-true}
 use lib.ListN.{length}
-use lib.Dec.{eqb, ltb, leb}
+use lib.Dec.{ltb, leb}
 use Rattle.lists.specs.Every.{every}
 use Rattle.lists.proofs.Bool.{&&-left, &&-right}
 use Rattle.format.specs.declared.header.Header.{Header}
 use Rattle.format.specs.declared.outcome.Reading.the-variants.{Message}
-use Rattle.format.specs.Outcome.{Test, test, firstFailing}
+use Rattle.format.specs.Outcome.{Test, firstFailing}
 use Rattle.format.specs.Table.{requestForm}
 use Rattle.format.specs.Layout.{headerOf, stringOf}
 use Rattle.message.specs.Exchange.{readNumber, reads}
 use Rattle.format.proofs.OutcomeLaws.{message-zero, message-header}
 use Rattle.message.proofs.AnswerLaws.{answers-granted}
-use Rattle.process.specs.Local.{Local}
-use Rattle.rules.specs.Rule.{ruleOf, names, creates}
-use Rattle.rules.specs.Tests.{State, recordOf, absent, lowestAbsent, ruleTests, askedTests}
+use Rattle.rules.specs.Rule.{names, creates}
+use Rattle.rules.specs.Tests.{State, recordOf, lowestAbsent, askedTests}
 use Rattle.rules.specs.Step.{Stepped, localOf, put, grantedNamed, grantedCreate, granted, refused}
 use Rattle.rules.proofs.NumberLaws.{envelope, envelope-sent}
 use Rattle.rules.proofs.StateLaws.{put-same}

@@ -16,7 +16,7 @@ use Rattle.format.specs.Answer.{cantOf, createdOf, noticeOf}
 use Rattle.format.proofs.LayoutLaws.{length-written}
 use Rattle.rules.specs.Rule.{ruleOf, names, creates}
 use Rattle.rules.specs.Tests.{State, recordOf, lowestAbsent, requestNumber, reportNumber}
-use Rattle.rules.specs.Step.{Answer, Stepped, localOf, put, replied, replyOf, answers, grantedNamed, grantedCreate, granted, refused, requested, told, notified, noted}
+use Rattle.rules.specs.Step.{localOf, put, replied, replyOf, answers, grantedNamed, grantedCreate, granted, refused, requested, told, notified, noted}
 use Rattle.rules.specs.Total.{cantOver}
 use Rattle.rules.proofs.TotalLaws.{total}
 use Rattle.process.specs.Report.{reported}

@@ -1,5 +1,5 @@
 -- A machine report stage by stage: refused by what is lent or by its own fields, or heard at its process. Assumes nothing.
-use mathlib.Core.Path.{_≡_, refl, sym, _∙_}
+use mathlib.Core.Path.{_≡_, refl, _∙_}
 use mathlib.Core.Bool.{Bool, true, false, not, cond, _&&_}
 use mathlib.Core.List.{List}
 use Prim.Native.Nat.{ℕ, zero, suc, _<_}
@@ -14,7 +14,7 @@ use Rattle.rules.specs.Tests.{State, recordOf, noRoom, unsound, badReport, repo
 use Rattle.rules.specs.Step.{Answer, Stepped, answers, localOf, put, told, notified, noted}
 use Rattle.rules.proofs.NumberLaws.{orElse}
 use Rattle.rules.proofs.StateLaws.{put-same}
-use Rattle.service.specs.At.{Left, reportAway, heardNumber, noticeOr, reportBy, reportAt}
+use Rattle.service.specs.At.{reportAway, heardNumber, noticeOr, reportBy, reportAt}
 use Rattle.gateway.specs.Stage.{lentNumber}
 
 staged : (a b c d e f : Bool)

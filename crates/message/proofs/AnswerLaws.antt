@@ -4,7 +4,6 @@ use mathlib.Core.Path.{_≡_, refl, sym, ap, _∙_}
 use mathlib.Core.Bool.{Bool, true, false, not, cond, _&&_, _||_, false≢true}
 use mathlib.Core.List.{List, []}
 use Prim.Native.Nat.{ℕ, zero, suc, _+_, _-_, _*_, _<_, _≤_}
-use native.Mathlib.Nat.{not-suc-le-zero}
 use native.Mathlib.Omega.{arith}
 use borrow.Author.Tests.{ltb-true, lt-ltb, le-ltb, eq-eqb, ne-eqb, eqb-false, not-false}
 use lib.ListN.{length}
@@ -19,19 +18,18 @@ use Rattle.format.specs.declared.outcome.Outcome.the-variants.{Granted}
 use Rattle.format.specs.declared.outcome.Reading.the-variants.{Message}
 use Rattle.format.specs.declared.table.Carried.the-variants.{Nothing, Counted, Vector}
 use Rattle.format.specs.declared.table.Form.{Form}
-use Rattle.format.specs.declared.table.Found.{Found}
 use Rattle.format.specs.declared.table.Found.the-variants.{Known}
 use Rattle.format.specs.declared.table.Op.{Op}
 use Rattle.format.specs.declared.table.Row.the-variants.{Listed, Unlisted}
 use Rattle.format.specs.Outcome.{firstFailing}
 use Rattle.format.specs.Table.{bare, stopped, reason as reasoned, row, ops, op, asks, replies, rowOf, formOf, withoutString, requestForm, replyForm, cantForm, noticeForm, answerForm}
 use Rattle.format.specs.Layout.{headerOf, fixedRight}
-use Rattle.format.specs.Refusal.{usedOrZero, unusedZero, carriedLength, wrongLength, wrongHeader, unknown, malformed, misfits}
+use Rattle.format.specs.Refusal.{usedOrZero, unusedZero, carriedLength, wrongLength, wrongHeader, unknown, misfits}
 use Rattle.message.specs.Exchange.{writeNumber, answered, readNumber, writes, heads, reads}
 use Rattle.format.specs.Answer.{cmdOver, cantOf, createdOf, noticeOf}
 use Rattle.message.specs.Granted.{Answers, AnswersGranted}
 use Rattle.format.proofs.OutcomeLaws.{outcome-zero, message-zero, message-header}
-use Rattle.format.proofs.TestLaws.{Passed, zero-passed, passed-zero}
+use Rattle.format.proofs.TestLaws.{Passed, zero-passed}
 
 -- what test 6 asks of a message of a known form
 pub record Fits (f : Form) (h : Header) (carried : ℕ) : Type 0 where

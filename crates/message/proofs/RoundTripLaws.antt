@@ -1,8 +1,8 @@
 -- Writing and then reading, and reading and then writing, over any table of forms. Both ends use the same tests: what a writer
 -- leaves has the length and the fields that the reader tests, and what a reader accepts is the written form of what it finds.
 -- Assumes nothing.
-use mathlib.Core.Path.{_≡_, refl, sym, ap, _∙_}
-use mathlib.Core.Bool.{Bool, true, false, not, _||_, false≢true}
+use mathlib.Core.Path.{_≡_, sym, ap, _∙_}
+use mathlib.Core.Bool.{true}
 use mathlib.Core.List.{List}
 use Prim.Native.Nat.{ℕ, _+_, _≤_}
 use native.Mathlib.Omega.{arith}
@@ -14,16 +14,15 @@ use Rattle.lists.proofs.Buffer.{take-overlay}
 use Rattle.format.specs.declared.header.Header.{Header}
 use Rattle.format.specs.declared.outcome.Outcome.the-variants.{Granted}
 use Rattle.format.specs.declared.outcome.Reading.the-variants.{Message}
-use Rattle.format.specs.declared.table.Found.{Found}
 use Rattle.format.specs.Outcome.{firstFailing}
 use Rattle.format.specs.Layout.{header, written, headerOf, stringOf, fixedRight}
-use Rattle.format.specs.Refusal.{wrongHeader, layoutTests}
+use Rattle.format.specs.Refusal.{layoutTests}
 use Rattle.message.specs.Exchange.{Forms, writeNumber, answered, readNumber, writes, heads, reads}
 use Rattle.message.specs.RoundTrip.{ReadAs, WrittenAs, RoundTrip}
 use Rattle.format.proofs.OutcomeLaws.{granted-zero, granted-length, reading-zero, message-zero, message-header, rest-passes}
 use Rattle.format.proofs.TestLaws.{zero-passed, sized-between, headed-fixed}
 use Rattle.format.proofs.LayoutLaws.{headerOf-written, stringOf-written, fixedRight-written, length-written, written-headerOf, length-stringOf}
-use Rattle.message.proofs.ExchangeLaws.{Room, writeNumber-room, answered-granted}
+use Rattle.message.proofs.ExchangeLaws.{writeNumber-room, answered-granted}
 
 module _ (forms : Forms) where
   -- the written form of fields and a string whose number is 0 is read as they are

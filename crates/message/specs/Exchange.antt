@@ -1,5 +1,5 @@
 -- Writing and reading a message, for any table of forms: that of the requests, or that of the answers.
-use mathlib.Core.Bool.{Bool, true, cond}
+use mathlib.Core.Bool.{true, cond}
 use mathlib.Core.List.{List, _∷_}
 use Prim.Native.Nat.{ℕ, _+_}
 use lib.ListN.{length}

@@ -3,7 +3,7 @@
 use mathlib.Core.Path.{_≡_, refl, sym, ap, _∙_}
 use mathlib.Core.Bool.{Bool, true, false, cond}
 use mathlib.Core.List.{List, [], _∷_, map}
-use Prim.Native.Nat.{ℕ, zero, suc, _+_, _<_, _%_}
+use Prim.Native.Nat.{ℕ, zero, suc, _+_, _<_}
 use native.Mathlib.Nat.{not-suc-le-zero}
 use native.Mathlib.Omega.{arith}
 use lib.ListN.{length, take, getD, set, length-map}
@@ -12,7 +12,7 @@ use Rattle.breakpoints.specs.declared.entry.Breakpoint.{Breakpoint}
 use Rattle.breakpoints.specs.Entry.{free, withSaved}
 use Rattle.breakpoints.specs.Seen.{putWord, isPlanted, restored, seen, savedFrom}
 use Rattle.process.specs.Request.{sheltered}
-use Rattle.breakpoints.proofs.SeenLaws.{Distinct, Spaced, putWord-again, putWord-same, restored-planted, restored-not, seen-restored}
+use Rattle.breakpoints.proofs.SeenLaws.{Spaced, putWord-again, putWord-same, restored-planted, restored-not, seen-restored}
 use Rattle.process.proofs.SoundLaws.{Alike}
 
 -- ---- a byte that no planted breakpoint covers

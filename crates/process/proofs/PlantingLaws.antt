@@ -1,23 +1,23 @@
 -- Laws of planting, lifting and removing: the bytes keep their number, and breakpoints stay within them. Assumes nothing.
-use mathlib.Core.Path.{_≡_, refl, sym, ap, _∙_}
+use mathlib.Core.Path.{_≡_, refl}
 use mathlib.Core.Bool.{Bool, true, false, cond}
 use mathlib.Core.List.{List}
 use Prim.Native.Nat.{ℕ, _+_, _<_}
 use native.Mathlib.Omega.{arith}
-use borrow.Author.Tests.{eqb-true, eqb-false, ltb-true, lt-ltb, le-ltb}
-use lib.ListN.{length, getD, set, length-set}
-use lib.Seq.{getD-set-same, getD-set-other, set-out}
+use borrow.Author.Tests.{eqb-true, eqb-false, ltb-true}
+use lib.ListN.{length, length-set}
+use lib.Seq.{getD-set-same, getD-set-other}
 use lib.Dec.{eqb, ltb}
 use Rattle.breakpoints.specs.declared.entry.Breakpoint.{Breakpoint}
 use Rattle.process.specs.declared.record.Process.{Process}
-use Rattle.breakpoints.specs.declared.want.Want.the-variants.{Free, Lifted, At}
-use Rattle.breakpoints.specs.Entry.{free, planted, withLifted}
+use Rattle.breakpoints.specs.declared.want.Want.the-variants.{Lifted, At}
+use Rattle.breakpoints.specs.Entry.{free}
 use Rattle.process.specs.Record.{entry, withEntry}
 use Rattle.process.specs.Find.{find}
-use Rattle.breakpoints.specs.Seen.{putWord, restored}
+use Rattle.breakpoints.specs.Seen.{putWord}
 use Rattle.process.specs.Local.{Local, local, Inside}
 use Rattle.process.specs.Planting.{plantedIn, liftedIn, removedFrom, replanted, liftedAt}
-use Rattle.process.proofs.FindLaws.{find-matches, matches-lifted, matches-at}
+use Rattle.process.proofs.FindLaws.{find-matches, matches-lifted}
 use Rattle.breakpoints.proofs.SeenLaws.{length-restored}
 
 -- ---- the number of bytes

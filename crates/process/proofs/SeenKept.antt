@@ -2,32 +2,24 @@
 -- Assumes nothing.
 use mathlib.Core.Path.{_≡_, refl, sym, ap, _∙_}
 use mathlib.Core.Bool.{Bool, true, false, not, cond, _&&_, true≢false}
-use mathlib.Core.List.{List, [], _∷_, _++_, map}
-use mathlib.Core.Logic.{_⊎_, inl, inr, ⊎-elim}
-use Prim.Native.Nat.{ℕ, zero, suc, _+_, _-_, _≤_, _<_, _%_}
-use native.Mathlib.Nat.{not-suc-le-zero}
+use Prim.Native.Nat.{ℕ, _-_, _<_, _%_}
 use native.Mathlib.Omega.{arith}
-use borrow.Author.Tests.{ltb-true, ltb-false, eqb-true, eqb-false}
-use lib.ListN.{length, take, drop, getD, set, getD-replicate, length-append, List·getD-append}
-use lib.Seq.{paste, length-paste, length-paste-head, drop-paste, take-paste, drop-at, take-at, take-length, getD-append-add, getD-take, getD-drop, set-comm, set-set}
-use lib.Dec.{ltb, eqb}
-use Rattle.breakpoints.specs.declared.entry.Breakpoint.{Breakpoint}
+use borrow.Author.Tests.{ltb-true, ltb-false}
+use lib.ListN.{set}
+use lib.Dec.{ltb}
 use Rattle.process.specs.declared.record.Process.{Process}
-use Rattle.breakpoints.specs.declared.want.Want.{Want}
 use Rattle.breakpoints.specs.declared.want.Want.the-variants.{Free, Lifted, At}
 use Rattle.breakpoints.specs.Entry.{free, planted, withLifted, withCount}
 use Rattle.process.specs.Record.{entry, withEntry}
-use Rattle.breakpoints.specs.Want.{matches}
 use Rattle.process.specs.Find.{find}
 use Rattle.process.specs.Sound.{Sound}
-use Rattle.breakpoints.specs.Seen.{putWord, isPlanted, restored, seen, savedFrom}
-use Rattle.process.specs.Request.{sheltered}
-use Rattle.process.specs.Local.{Local, local, Tested, Proper}
+use Rattle.breakpoints.specs.Seen.{isPlanted, restored, seen}
+use Rattle.process.specs.Local.{Local, local, Proper}
 use Rattle.process.specs.Planting.{plantedIn, liftedIn, removedFrom, replanted, liftedAt}
 use Rattle.process.specs.Request.{hasBreak, hasRoom}
 use Rattle.process.specs.Theorems.{seenOf}
 use Rattle.process.proofs.FindLaws.{matches-free, matches-lifted, find-matches, find-before, at-matches}
-use Rattle.breakpoints.proofs.SeenLaws.{Distinct, Spaced, planted-used, seen-unplanted, seen-planted, seen-alike}
+use Rattle.breakpoints.proofs.SeenLaws.{Spaced, planted-used, seen-unplanted, seen-planted, seen-alike}
 use Rattle.process.proofs.SoundLaws.{sound-apart}
 use Rattle.process.proofs.TestedLaws.{tested-sound, tested-spaced}
 

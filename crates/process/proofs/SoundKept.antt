@@ -1,25 +1,24 @@
 -- A sound record stays sound when a breakpoint is planted, lifted, passed, removed or planted again. Assumes nothing.
 use mathlib.Core.Path.{_≡_, refl, sym, ap, _∙_}
-use mathlib.Core.Bool.{Bool, true, false, not, cond, _&&_, true≢false}
+use mathlib.Core.Bool.{Bool, true, false, not, cond, true≢false}
 use mathlib.Core.List.{List}
 use Prim.Native.Nat.{ℕ, _+_, _≤_, _<_, _%_}
 use native.Mathlib.Omega.{arith}
 use borrow.Author.Tests.{ltb-true, ltb-false, eqb-true, eqb-false}
-use lib.ListN.{length, getD, set, length-set}
+use lib.ListN.{length, getD, set}
 use lib.Seq.{getD-set-same, getD-set-other}
 use lib.Dec.{ltb, eqb}
 use Rattle.breakpoints.specs.declared.entry.Breakpoint.{Breakpoint}
 use Rattle.process.specs.declared.record.Process.{Process}
-use Rattle.breakpoints.specs.declared.want.Want.the-variants.{Free, Lifted, At}
+use Rattle.breakpoints.specs.declared.want.Want.the-variants.{Lifted, At}
 use Rattle.breakpoints.specs.Entry.{free, planted, withLifted, withCount}
 use Rattle.process.specs.Record.{entry, withEntry}
 use Rattle.process.specs.Find.{find}
 use Rattle.process.specs.Sound.{Sound, moving}
-use Rattle.process.specs.Local.{Local, local, Tested, Proper}
+use Rattle.process.specs.Local.{Local, local, Proper}
 use Rattle.process.specs.Planting.{plantedIn, liftedIn, replanted, liftedAt}
-use Rattle.process.specs.Request.{hasBreak}
-use Rattle.process.proofs.FindLaws.{matches-lifted, matches-at, find-matches, find-before, at-matches, lifted-matches, find-≤}
-use Rattle.process.proofs.SoundLaws.{Kept, Apart, sound-kept, sound-apart, sound-entry}
+use Rattle.process.proofs.FindLaws.{matches-lifted, matches-at, find-matches, find-before, lifted-matches}
+use Rattle.process.proofs.SoundLaws.{sound-kept, sound-apart, sound-entry}
 use Rattle.process.proofs.PlantingLaws.{length-replanted, eight-replanted}
 use Rattle.process.proofs.SoundTestLaws.{sound-passes}
 

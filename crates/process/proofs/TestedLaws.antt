@@ -1,18 +1,17 @@
 -- What the gateway's tests say of a process and its bytes. Assumes nothing.
-use mathlib.Core.Path.{_≡_, refl, sym, ap, _∙_}
-use mathlib.Core.Bool.{Bool, true, false}
+use mathlib.Core.Path.{_≡_, _∙_}
+use mathlib.Core.Bool.{true}
 use mathlib.Core.List.{List, map}
-use Prim.Native.Nat.{ℕ, _+_, _≤_, _<_, _%_}
+use Prim.Native.Nat.{ℕ, _+_, _<_}
 use native.Mathlib.Omega.{arith}
-use lib.ListN.{length, getD, length-map}
+use lib.ListN.{length, length-map}
 use Rattle.process.specs.declared.record.Process.{Process}
-use Rattle.breakpoints.specs.Entry.{free}
 use Rattle.process.specs.Record.{entry, withBreaks}
 use Rattle.process.specs.Sound.{Sound}
 use Rattle.breakpoints.specs.Seen.{savedFrom}
 use Rattle.process.specs.Local.{Tested}
 use Rattle.process.proofs.SoundTestLaws.{passes-sound, sound-passes}
-use Rattle.breakpoints.proofs.SeenLaws.{Spaced, planted-used}
+use Rattle.breakpoints.proofs.SeenLaws.{planted-used}
 use Rattle.process.proofs.DepositLaws.{AllSpaced, map-alike}
 use Rattle.process.proofs.SoundLaws.{sound-alike}
 

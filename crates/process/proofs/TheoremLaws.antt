@@ -1,6 +1,6 @@
 -- The theorems of this crate, from the laws of what is seen and of what is sound. Assumes nothing.
 use mathlib.Core.Path.{_≡_, refl, sym, ap, _∙_}
-use mathlib.Core.Bool.{Bool, true, false, not, cond, _&&_, true≢false}
+use mathlib.Core.Bool.{Bool, true, false, cond, true≢false}
 use mathlib.Core.List.{List, [], _∷_, map}
 use mathlib.Core.Logic.{_⊎_, inl, inr, ⊎-elim}
 use Prim.Native.Nat.{ℕ, zero, suc, _+_, _-_, _≤_, _<_, _%_}
@@ -21,14 +21,13 @@ use Rattle.process.specs.Record.{noBreaks, entry, fresh, withHost, withR
 use Rattle.process.specs.Find.{find}
 use Rattle.process.specs.Sound.{Sound, moving}
 use Rattle.breakpoints.specs.Seen.{putWord, isPlanted, restored, seen, savedFrom}
-use Rattle.process.specs.Request.{sheltered}
-use Rattle.process.specs.Local.{Local, local, Tested, Proper}
+use Rattle.process.specs.Local.{Local, local, Proper}
 use Rattle.process.specs.Planting.{plantedIn, liftedIn, removedFrom, replanted, liftedAt}
 use Rattle.process.specs.Request.{pc, onRecord, halted, atBreak, hasBreak, hasRoom, released, endDebugged, halt, stepped, proceeded, examined, toBeSeen, deposited, breakSet, breakRemoved, created, cleared}
 use Rattle.process.specs.Report.{accepts, stepping, isTtrap, recorded, passes, passed, runAfter, reported}
 use Rattle.process.specs.Theorems.{seenOf, DepositIsSeen, SeenStays, EndDebugRestores, StoreIsUnseen, SoundStays}
 use Rattle.process.proofs.FindLaws.{matches-at, find-matches, find-before, at-matches}
-use Rattle.breakpoints.proofs.SeenLaws.{length-seen, restored-planted, restored-not}
+use Rattle.breakpoints.proofs.SeenLaws.{length-seen, restored-planted}
 use Rattle.process.proofs.DepositLaws.{sheltered-seen, map-alike}
 use Rattle.process.proofs.SoundLaws.{sound-vector, sound-run, sound-host, sound-free, sound-alike}
 use Rattle.process.proofs.PlantingLaws.{length-entry}
@@ -36,7 +35,7 @@ use Rattle.process.proofs.SoundTestLaws.{sound-passes}
 use Rattle.process.proofs.TestedLaws.{tested-sound, tested-spaced}
 use Rattle.process.proofs.ReportLaws.{passes-found}
 use Rattle.process.proofs.SeenKept.{seen-liftedIn, seen-liftedAt, seen-replanted, seen-removed, seen-new, seen-count}
-use Rattle.process.proofs.SoundKept.{NoneLifted, still-none, sound-removed, sound-planted, sound-lifted, sound-count, sound-liftedAt, sound-replanted, none-replanted, proper-replanted}
+use Rattle.process.proofs.SoundKept.{NoneLifted, still-none, sound-removed, sound-planted, sound-lifted, sound-count, sound-replanted, none-replanted, proper-replanted}
 
 sound-of : (l : Local) → Proper l → Sound (l .process)
 sound-of l g = tested-sound (l .process) (l .bytes) (g .tested)

@@ -1,6 +1,5 @@
 -- Planting, lifting and removing a breakpoint.
 use mathlib.Core.Bool.{cond}
-use mathlib.Core.List.{List}
 use Prim.Native.Nat.{ℕ, _+_}
 use lib.ListN.{getD}
 use lib.Dec.{ltb}

@@ -1,5 +1,5 @@
 -- The process record, and the records that differ from it in one field. Nothing else writes a record anew.
-use mathlib.Core.Bool.{Bool, true, false}
+use mathlib.Core.Bool.{Bool}
 use mathlib.Core.List.{List}
 use Prim.Native.Nat.{ℕ}
 use lib.ListN.{getD, set, replicate}

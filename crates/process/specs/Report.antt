@@ -1,5 +1,5 @@
 -- 'Machine report': what a report does to the process that it is about.
-use mathlib.Core.Bool.{Bool, true, false, not, cond, _&&_, _||_}
+use mathlib.Core.Bool.{Bool, true, false, cond, _&&_}
 use mathlib.Core.List.{List}
 use Prim.Native.Nat.{ℕ, _-_}
 use lib.Dec.{ltb, eqb}
@@ -11,7 +11,7 @@ use Rattle.breakpoints.specs.Entry.{withCount}
 use Rattle.process.specs.Record.{entry, withRun, withVector, withEntry}
 use Rattle.process.specs.Find.{find}
 use Rattle.process.specs.Sound.{moving}
-use Rattle.process.specs.Local.{Local, local}
+use Rattle.process.specs.Local.{Local}
 use Rattle.process.specs.Planting.{liftedIn, replanted}
 use Rattle.process.specs.Request.{pc, onRecord, hasBreak}
 

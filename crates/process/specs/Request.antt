@@ -1,7 +1,7 @@
 -- 'What each request does' to the process that it names, and the tests that rest on the process.
 use mathlib.Core.Bool.{Bool, true, false, cond}
 use mathlib.Core.List.{List, map}
-use Prim.Native.Nat.{ℕ, _+_}
+use Prim.Native.Nat.{ℕ}
 use lib.ListN.{length, take, drop, getD, replicate}
 use lib.Seq.{paste}
 use lib.Dec.{ltb}

@@ -6,7 +6,7 @@ use words::vector_of;
 ghost use mathlib.Core.Path.{_≡_};
 ghost use Prim.Native.Nat.{_+_, _≤_, _<_};
 ghost use lib.ListN.{length};
-ghost use Rattle.process.specs.Local.{Local, local, Tested};
+ghost use Rattle.process.specs.Local.{local, Tested};
 ghost use Rattle.process.specs.Record.{withVector};
 ghost use Rattle.process.specs.Request.{entryFor, examined, deposited, vectorAfter, breakSet, created, cleared};
 

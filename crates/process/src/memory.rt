@@ -4,13 +4,11 @@
 // goes by the number of its bytes and not by bytes times breakpoints.
 use crate::record::Process;
 ghost use mathlib.Core.Path.{_≡_};
-ghost use mathlib.Core.Bool.{true};
 ghost use mathlib.Core.List.{map};
-ghost use Prim.Native.Nat.{_+_, _≤_, _<_};
-ghost use lib.ListN.{length};
+ghost use Prim.Native.Nat.{_+_, _<_};
 ghost use Rattle.process.specs.Local.{Tested};
 ghost use Rattle.process.specs.Record.{withBreaks};
-ghost use Rattle.breakpoints.specs.Seen.{putWord, isPlanted, restored, seen, savedFrom, laidByte, laidWord, laidWords};
+ghost use Rattle.breakpoints.specs.Seen.{seen, savedFrom, laidWords};
 
 impl Process {
     // The saved words are laid over a part of memory that starts at address at.

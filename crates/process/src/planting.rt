@@ -4,11 +4,10 @@ use breakpoints::Breakpoint;
 use breakpoints::Want;
 use breakpoints::put_word;
 ghost use mathlib.Core.Path.{_≡_};
-ghost use mathlib.Core.Bool.{true};
 ghost use Prim.Native.Nat.{_+_, _<_};
 ghost use lib.ListN.{length};
 ghost use Rattle.process.specs.Record.{entry};
-ghost use Rattle.process.specs.Local.{Local, local, Inside};
+ghost use Rattle.process.specs.Local.{local, Inside};
 ghost use Rattle.process.specs.Planting.{plantedIn, liftedIn, removedFrom, replanted, liftedAt};
 
 impl Process {

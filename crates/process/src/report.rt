@@ -6,7 +6,7 @@ ghost use mathlib.Core.Path.{_≡_};
 ghost use mathlib.Core.Bool.{not};
 ghost use Prim.Native.Nat.{_<_};
 ghost use Rattle.process.specs.Record.{entry};
-ghost use Rattle.process.specs.Local.{Local, local, Inside, Tested};
+ghost use Rattle.process.specs.Local.{local, Inside, Tested};
 ghost use Rattle.process.specs.Report.{stepping, accepts, recorded, passes, passedEntry, passed, runAfter, reported};
 
 // A process after a report, and whether its host is to be told. A breakpoint that is passed silently tells nobody.

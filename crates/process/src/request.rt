@@ -4,7 +4,7 @@ use crate::record::Process;
 use crate::record::Run;
 use breakpoints::Want;
 ghost use mathlib.Core.Path.{_≡_};
-ghost use Rattle.process.specs.Local.{Local, local, Tested};
+ghost use Rattle.process.specs.Local.{local, Tested};
 ghost use Rattle.process.specs.Record.{withHost, withRun};
 ghost use Rattle.process.specs.Request.{pc, halted, atBreak, entryFor, released, endDebugged, halt, stepped, proceeded};
 

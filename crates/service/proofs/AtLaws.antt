@@ -1,14 +1,13 @@
 -- A call at one process, by the number of its tests. Assumes nothing.
-use mathlib.Core.Path.{_≡_, refl, sym, _∙_}
-use mathlib.Core.Bool.{Bool, true, false, true≢false}
+use mathlib.Core.Path.{_≡_, refl, sym}
+use mathlib.Core.Bool.{true, false, true≢false}
 use mathlib.Core.List.{List}
 use Prim.Native.Nat.{ℕ, zero, suc}
-use native.Mathlib.Omega.{arith}
 use Rattle.format.specs.declared.header.Header.{Header}
 use Rattle.format.specs.declared.outcome.Outcome.the-variants.{Refused}
 use Rattle.process.specs.Local.{Local}
 use Rattle.rules.specs.Rule.{names, creates}
-use Rattle.service.specs.At.{Left, cantBy, namedBy, reportBy}
+use Rattle.service.specs.At.{cantBy, namedBy, reportBy}
 
 -- ---- NOP and EXAMINE by what they name
 

@@ -1,16 +1,14 @@
 -- Laws of the eight records. Assumes nothing.
-use mathlib.Core.Path.{_≡_, refl, sym, ap, _∙_}
+use mathlib.Core.Path.{_≡_, refl}
 use mathlib.Core.Bool.{Bool, true, false}
 use mathlib.Core.List.{List, [], _∷_, map}
 use Prim.Native.Nat.{ℕ, zero, suc, _<_}
 use native.Mathlib.Nat.{not-suc-le-zero}
 use native.Mathlib.Omega.{arith}
 use lib.ListN.{length, getD}
-use Rattle.lists.specs.Every.{below}
 use Rattle.lists.proofs.Every.{below-at, below-all}
-use Rattle.process.specs.declared.record.Process.{Process}
 use Rattle.process.specs.declared.record.Run.the-variants.{Running}
-use Rattle.process.specs.Record.{fresh, noBreaks}
+use Rattle.process.specs.Record.{fresh}
 use Rattle.process.specs.Sound.{Sound}
 use Rattle.process.specs.Sound.{soundTest as soundProcess}
 use Rattle.process.proofs.SoundTestLaws.{passes-sound, sound-passes}

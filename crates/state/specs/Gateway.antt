@@ -1,5 +1,5 @@
 -- The gateway's state: 'processes 0 to 7, each there or not'.
-use mathlib.Core.Bool.{Bool, true, false}
+use mathlib.Core.Bool.{Bool, false}
 use mathlib.Core.List.{List, [], map}
 use Prim.Native.Nat.{ℕ, _<_}
 use lib.ListN.{getD, set}

@@ -1,5 +1,5 @@
 -- `gateway::requests::answer` meets its contract: at the process that the request goes to, or at none. Assumes nothing.
-use mathlib.Core.Path.{refl, ap, sym, _∙_}
+use mathlib.Core.Path.{refl, ap, _∙_}
 use Rattle.format.specs.Layout.{stringOf}
 use Rattle.rules.specs.Tests.{lent}
 use Rattle.service.specs.At.{targetOf}

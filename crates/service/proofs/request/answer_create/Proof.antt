@@ -1,7 +1,6 @@
 -- `service::request::answer_create` meets its contract: a new process, and its number in the reply. Assumes nothing.
 use mathlib.Core.Path.{_≡_, _∙_}
 use mathlib.Core.List.{[]}
-use native.Mathlib.Omega.{arith}
 use borrow.Author.Tests.{eqb-true}
 use Rattle.format.specs.Answer.{createdOf}
 use Rattle.service.proofs.ReplyLaws.{writes-buffer}

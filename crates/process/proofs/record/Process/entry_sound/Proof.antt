@@ -1,7 +1,6 @@
 -- `process::record::Process::entry_sound` meets its contract: at each `return` the tests that led there say its value. Assumes nothing.
 use mathlib.Core.Path.{_≡_, sym, ap, _∙_}
 use mathlib.Core.Bool.{Bool}
-use Prim.Native.Nat.{ℕ}
 use borrow.Author.Tests.{not-true, not-false, eq-eqb, ne-eqb}
 use borrow.Author.Needs.{needs}
 use Rattle.breakpoints.specs.declared.entry.Breakpoint.{Breakpoint}

@@ -2,7 +2,6 @@
 use mathlib.Core.Path.{sym, _∙_}
 use borrow.Author.Tests.{not-true, not-false}
 use borrow.Author.Needs.{needs}
-use Rattle.process.specs.Record.{entry}
 use Rattle.process.specs.Sound.{liftSound}
 use Rattle.process.proofs.record.Process.lift_sound.Statement.{statement}
 use Rattle.process.proofs.record.Process.lift_sound.Tie as tie
