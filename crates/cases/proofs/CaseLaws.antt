@@ -23,7 +23,8 @@ use Rattle.state.specs.Slot.{startOf, slot, withSlot}
 use Rattle.rules.specs.Rule.{public, ruleOf, names}
 use Rattle.rules.specs.Run.{run}
 use Rattle.rules.specs.Step.{put, grantedNamed, grantedCreate, granted, refused, requested, told, notified, noted, step}
-use Rattle.rules.specs.Tests.{lowestAbsent, askedTests, requestNumber, reportNumber}
+use Rattle.state.specs.Gateway.{lowestAbsent}
+use Rattle.rules.specs.Tests.{askedTests, requestNumber, reportNumber}
 use Rattle.cases.specs.Case.{lengthWritten}
 use Rattle.cases.specs.Cases.{CasesHold}
 

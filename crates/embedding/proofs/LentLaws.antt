@@ -11,14 +11,14 @@ use Rattle.lists.specs.Word.{vectorOf}
 use Rattle.lists.proofs.Bool.{&&-left}
 use Rattle.format.specs.Outcome.{firstFailing}
 use Rattle.state.specs.Gateway.{soundTest}
-use Rattle.rules.specs.Tests.{State, lent}
+use Rattle.rules.specs.Tests.{State, lent, noRoom}
 use Rattle.rules.specs.Step.{requested, noted}
 use Rattle.rules.specs.Isolation.{isGranted}
 use Rattle.gateway.specs.Stage.{lentNumber}
 use Rattle.gateway.proofs.StageLaws.{Fit, lent-fit, request-lent}
 use Rattle.gateway.proofs.ReportLaws.{report-lent}
 use Rattle.image.specs.Form.{stateOf, stateFormed, stateSound}
-use Rattle.embedding.specs.Called.{lentShort, lentOn, signed, finished, unformed, unformedNumber, requestOn, reportOn}
+use Rattle.embedding.specs.Called.{lentOn, signed, finished, unformed, unformedNumber, requestOn, reportOn}
 
 module _ (image memory buffer : List ℕ) where
   abbrev pub s : State
@@ -27,7 +27,7 @@ module _ (image memory buffer : List ℕ) where
   -- of bytes that are a state's
   lent-number : stateFormed image ≡ true → lentOn image memory buffer ≡ lentNumber s buffer
   unfolding lentOn stateSound lentNumber firstFailing
-  lent-number f = rw f (go (lentShort memory buffer) (soundTest (stateOf image)))
+  lent-number f = rw f (go (noRoom memory buffer) (soundTest (stateOf image)))
     where
       go : (a b : Bool) → cond {A = ℕ} a 1 (cond b 0 2) ≡ cond a 1 (cond (not b) 2 0)
       go true b = refl
@@ -49,7 +49,7 @@ module _ (image memory buffer : List ℕ) where
 
       go : (t : Bool) → stateFormed image ≡ t → t ≡ true
       go true f = refl
-      go false f = absurd (none (lentShort memory buffer) (sym (unformed-number f) ∙ e))
+      go false f = absurd (none (noRoom memory buffer) (sym (unformed-number f) ∙ e))
 
   pub lent-passes : lentOn image memory buffer ≡ 0 → lentNumber s buffer ≡ 0
   lent-passes e = sym (lent-number (lent-formed e)) ∙ e

@@ -1,15 +1,15 @@
 -- A call over a state that is kept as bytes.
-use mathlib.Core.Bool.{Bool, not, cond, _||_}
+use mathlib.Core.Bool.{Bool, not, cond}
 use mathlib.Core.List.{List, [], _∷_}
 use Prim.Native.Nat.{ℕ, _<_, _/_, _%_}
 use lib.IntN.{ℤ, pos, _-ℤ_}
 use lib.ListN.{length}
-use lib.Dec.{eqb, ltb}
+use lib.Dec.{eqb}
 use Rattle.lists.specs.Word.{vectorOf}
 use Rattle.format.specs.declared.outcome.Outcome.{Outcome}
 use Rattle.format.specs.declared.outcome.Outcome.the-variants.{Granted, Refused}
 use Rattle.state.specs.Gateway.{freshStart}
-use Rattle.rules.specs.Tests.{lent}
+use Rattle.rules.specs.Tests.{lent, noRoom}
 use Rattle.rules.specs.Step.{Stepped, requested, noted}
 use Rattle.rules.specs.Isolation.{isGranted}
 use Rattle.image.specs.Form.{stateBytes, stateOf, stateFormed, stateSound}
@@ -44,28 +44,25 @@ finished image x = record {
   buffer = x .answer .buffer;
 }
 
--- 'memory not 32,768 bytes, or reply or notice buffer under 266'
-abbrev pub lentShort : List ℕ → List ℕ → Bool
-lentShort memory buffer = not (eqb (length memory) 32768) || ltb (length buffer) 266
-
 -- bytes that are no state's: refused by this number, and nothing is written
 unfoldable pub unformed : ℕ → List ℕ → List ℕ → List ℕ → Called
 unformed number image memory buffer = record { result = minus number; state = image; memory = memory; buffer = buffer }
 
 -- the tests 1 and 2 where the bytes are no state's
 unfoldable pub unformedNumber : List ℕ → List ℕ → ℕ
-unformedNumber memory buffer = cond (lentShort memory buffer) 1 2
+unformedNumber memory buffer = cond (noRoom memory buffer) 1 2
 
 -- the tests 1 and 2
 unfoldable pub lentOn : List ℕ → List ℕ → List ℕ → ℕ
-lentOn image memory buffer = cond (lentShort memory buffer) 1 (cond (stateSound image) 0 2)
+lentOn image memory buffer = cond (noRoom memory buffer) 1 (cond (stateSound image) 0 2)
 
+-- a request: the tests 1 and 2 where the bytes are no state's, else the gateway's call on the record that they are the form of
 unfoldable pub requestOn : List ℕ → List ℕ → List ℕ → List ℕ → Called
 requestOn image memory message reply =
     cond (stateFormed image) (finished image (requested message reply (lent (stateOf image) memory)))
     (unformed (unformedNumber memory reply) image memory reply)
 
--- the words are 18 bytes, low byte first; words of another length are a lent buffer of the wrong length, test 1
+-- a report, in the same way; the words are 18 bytes, low byte first, and words of another length are a lent buffer of the wrong length, test 1
 unfoldable pub reportOn : List ℕ → List ℕ → ℕ → ℕ → ℕ → List ℕ → List ℕ → Called
 reportOn image memory p kind reason words notice =
     cond (not (eqb (length words) 18)) (unformed 1 image memory notice)
@@ -89,5 +86,6 @@ bitsOf n =
 unfoldable pub startOn : ℕ → List ℕ → List ℕ
 startOn there image = cond (eqb (length image) 680) (stateBytes (freshStart (bitsOf there))) image
 
+-- 0 where the state's buffer has its length, else refused by 1
 unfoldable pub startResult : List ℕ → ℤ
 startResult image = cond (eqb (length image) 680) (pos 0) (minus 1)

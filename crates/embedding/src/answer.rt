@@ -13,13 +13,13 @@ use service::named_of;
 use service::report_at;
 use state::start;
 ghost use mathlib.Core.Path.{_≡_};
-ghost use mathlib.Core.List.{[]};
 ghost use Prim.Native.Nat.{_≤_, _<_};
 ghost use lib.ListN.{length};
 ghost use Rattle.format.specs.Layout.{stringOf};
 ghost use Rattle.format.specs.Table.{requestForm};
 ghost use Rattle.message.specs.Exchange.{reads};
-ghost use Rattle.rules.specs.Tests.{lent, lowestAbsent};
+ghost use Rattle.state.specs.Gateway.{lowestAbsent};
+ghost use Rattle.rules.specs.Tests.{lent};
 ghost use Rattle.rules.specs.Step.{noted};
 ghost use Rattle.service.specs.Reply.{Answerable};
 ghost use Rattle.service.specs.At.{targetOf, reportAway};
@@ -30,7 +30,7 @@ ghost use Rattle.embedding.specs.Called.{lentOn, finished};
 // The process that a request goes to, or 8 where there is none.
 fn target_of(h: Header, image: &[u8]) -> usize
     requires { ⌜ 680 ≤ length (now image) ⌝ }
-    ensures { λ r. ⌜ r ≡ targetOf h (lowestAbsent (lent (stateOf (now (image .entry))) [])) ⌝ }
+    ensures { λ r. ⌜ r ≡ targetOf h (lowestAbsent (stateOf (now (image .entry)))) ⌝ }
 {
     let cmd = h.cmd;
     if creates(cmd) {
@@ -48,7 +48,7 @@ fn answer_process(
     string: &[u8],
     reply: &mut [u8],
 ) -> i64
-    requires { ⌜ (p ≡ targetOf h (lowestAbsent (lent (stateOf (now image)) []))) × (p < 8) ⌝ }
+    requires { ⌜ (p ≡ targetOf h (lowestAbsent (stateOf (now image)))) × (p < 8) ⌝ }
     requires { ⌜ lentOn (now image) (now memory) (now reply) ≡ 0 ⌝ }
     requires { ⌜ length (now string) ≤ h .arg2 ⌝ }
     requires { ⌜ Answerable h ⌝ }

@@ -18,7 +18,8 @@ use Rattle.message.specs.Exchange.{readNumber, reads}
 use Rattle.format.proofs.OutcomeLaws.{message-zero, message-header}
 use Rattle.message.proofs.AnswerLaws.{answers-granted}
 use Rattle.rules.specs.Rule.{names, creates}
-use Rattle.rules.specs.Tests.{State, recordOf, lowestAbsent, askedTests}
+use Rattle.state.specs.Gateway.{lowestAbsent}
+use Rattle.rules.specs.Tests.{State, recordOf, askedTests}
 use Rattle.rules.specs.Step.{Stepped, localOf, put, grantedNamed, grantedCreate, granted, refused}
 use Rattle.rules.proofs.NumberLaws.{envelope, envelope-sent}
 use Rattle.rules.proofs.StateLaws.{put-same}
@@ -106,20 +107,20 @@ module _ (h : Header) (string buffer : List ℕ) (s : State) where
         let long = number-high (λ z. omega (arith, sym e ∙ z)) in
         rw (number-asked, e, ne-eqb (suc k) 0 (λ z. omega (arith, z)), le-ltb (suc k) 7 (rw e at long), put-same p s)
 
-  pub asked-at : (p : ℕ) → p ≡ targetOf h (lowestAbsent s) → p < 8 → asked h string buffer s ≡ stepped p (requestAt p h string buffer (localOf s p)) s
+  pub asked-at : (p : ℕ) → p ≡ targetOf h (lowestAbsent (s .gateway)) → p < 8 → asked h string buffer s ≡ stepped p (requestAt p h string buffer (localOf s p)) s
   unfolding targetOf requestAt asked granted grantedCreate askedTests firstFailing number
   asked-at p e low = go (creates (h .cmd)) refl e
     where
-      go : (t : Bool) → creates (h .cmd) ≡ t → p ≡ cond t (lowestAbsent s) (namedOf h)
+      go : (t : Bool) → creates (h .cmd) ≡ t → p ≡ cond t (lowestAbsent (s .gateway)) (namedOf h)
           → asked h string buffer s ≡ stepped p (cond t (createdAt p h buffer) (namedAt h string buffer (localOf s p))) s
       go true c i = rw (creates-unnamed (h .cmd) c, c, ← i, lt-ltb p 8 low)
       go false c i = let d = named-low h (rw i at low) in by-number p (d .0) low (d .1 ∙ sym i) _ refl
 
-  pub asked-away : 8 ≤ targetOf h (lowestAbsent s) → asked h string buffer s ≡ record { answer = awayAnswer h buffer; after = s }
+  pub asked-away : 8 ≤ targetOf h (lowestAbsent (s .gateway)) → asked h string buffer s ≡ record { answer = awayAnswer h buffer; after = s }
   unfolding targetOf namedOf awayAnswer asked granted refused askedTests firstFailing
   asked-away = go (creates (h .cmd)) refl
     where
-      go : (t : Bool) → creates (h .cmd) ≡ t → 8 ≤ cond t (lowestAbsent s) (namedOf h)
+      go : (t : Bool) → creates (h .cmd) ≡ t → 8 ≤ cond t (lowestAbsent (s .gateway)) (namedOf h)
           → asked h string buffer s ≡ record { answer = awayAnswer h buffer; after = s }
       go true c far = rw (creates-unnamed (h .cmd) c, c, le-ltb _ _ far)
       go false c far = other (names (h .cmd)) refl

@@ -1,7 +1,7 @@
 -- A process's bytes as the lent part of memory that the code takes and gives back. Assumes nothing.
-use mathlib.Core.Path.{_≡_, refl}
+use mathlib.Core.Path.{_≡_}
 use mathlib.Core.Bool.{true}
-use mathlib.Core.List.{List, [], _++_}
+use mathlib.Core.List.{List, _++_}
 use Prim.Native.Nat.{ℕ, _+_, _-_, _<_}
 use native.Mathlib.Omega.{arith}
 use lib.ListN.{length, take, drop}
@@ -14,7 +14,7 @@ use Rattle.state.specs.Gateway.{processAt}
 use Rattle.state.specs.Slot.{startOf, slot, withSlot}
 use Rattle.state.specs.Gateway.{soundTest as soundState}
 use Rattle.state.proofs.SlotLaws.{length-slot}
-use Rattle.rules.specs.Tests.{lent, lowestAbsent}
+use Rattle.rules.specs.Tests.{lent}
 use Rattle.rules.specs.Step.{localOf}
 
 module _ (p start : ℕ) (memory : List ℕ) (e : start ≡ startOf p) where
@@ -28,11 +28,6 @@ module _ (p start : ℕ) (memory : List ℕ) (e : start ≡ startOf p) where
   pub slot-back : (bytes : List ℕ) → take start memory ++ (bytes ++ drop (start + 4096 - start) (drop start memory)) ≡ withSlot p bytes memory
   unfolding withSlot
   slot-back bytes = rw (size, e)
-
--- which process is not there does not rest on memory
-pub lowest-lent : (g : Gateway) (memory : List ℕ) → lowestAbsent (lent g []) ≡ lowestAbsent (lent g memory)
-unfolding lowestAbsent
-lowest-lent g memory = refl
 
 -- a process of a sound state, with its bytes
 pub tested-part : (g : Gateway) (memory : List ℕ) (p start : ℕ) → p < 8 → start ≡ startOf p → length memory ≡ 32768 → soundState g ≡ true

@@ -36,7 +36,7 @@ either false x y s = refl
 module _ (s : State) (p kind reason : ℕ) (words buffer : List ℕ) where
   stages : reportNumber s p kind reason buffer ≡ orElse (lentNumber s buffer) (orElse (reportAway p kind reason) (heardNumber kind (recordOf s p)))
   unfolding reportNumber lentNumber reportAway heardNumber firstFailing
-  stages = staged (noRoom s buffer) (unsound s) (badReport kind reason) (ltb p 8) (recordOf s p .there) (not (accepts kind (recordOf s p .run)))
+  stages = staged (noRoom (s .memory) buffer) (unsound s) (badReport kind reason) (ltb p 8) (recordOf s p .there) (not (accepts kind (recordOf s p .run)))
 
   refused-by : (n : ℕ) → reportNumber s p kind reason buffer ≡ n → (n ≡ 0 → ⊥) → noted p kind reason words buffer s ≡ answers (Refused n) buffer s
   unfolding noted

@@ -46,7 +46,7 @@ module _ (s : State) (m buffer : List ℕ) where
   number-stages : requestNumber s m buffer ≡ orElse (lentNumber s buffer) (orElse layout (firstFailing (askedTests (headerOf m) s)))
   unfolding requestNumber lentNumber layout readNumber firstFailing
   number-stages =
-      staged (noRoom s buffer) (unsound s) (wrongLength (length m)) (wrongHeader (fixedRight m) (headerOf m .host))
+      staged (noRoom (s .memory) buffer) (unsound s) (wrongLength (length m)) (wrongHeader (fixedRight m) (headerOf m .host))
       (unknown (requestForm (headerOf m .cmd))) (malformed (requestForm (headerOf m .cmd)) (headerOf m) (length m)) (firstFailing (askedTests (headerOf m) s))
 
   -- ---- a request that is refused with nothing written
@@ -70,7 +70,7 @@ module _ (s : State) (m buffer : List ℕ) where
   pub request-lent : (n : ℕ) → n ≡ lentNumber s buffer → (n ≡ 0 → ⊥) → requested m buffer s ≡ answers (OutcomeRefused n) buffer s
   unfolding lentNumber firstFailing
   request-lent n e z =
-      silent n (number-stages ∙ rw (← e, ne-eqb n 0 z)) z (rw e (low-lent (noRoom s buffer) (unsound s)))
+      silent n (number-stages ∙ rw (← e, ne-eqb n 0 z)) z (rw e (low-lent (noRoom (s .memory) buffer) (unsound s)))
 
   -- what a reading says of its number
   Read : Reading → Type 0

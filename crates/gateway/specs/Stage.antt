@@ -10,7 +10,7 @@ use Rattle.rules.specs.Step.{Stepped, granted, refused}
 
 -- the tests 1 and 2, which every call makes first
 unfoldable pub lentNumber : State → List ℕ → ℕ
-lentNumber s buffer = firstFailing (test 1 (noRoom s buffer) ∷ test 2 (unsound s) ∷ [])
+lentNumber s buffer = firstFailing (test 1 (noRoom (s .memory) buffer) ∷ test 2 (unsound s) ∷ [])
 
 -- a request whose layout passed: the tests 7 to 13, and what is then granted or refused
 unfoldable pub asked : Header → List ℕ → List ℕ → State → Stepped

@@ -13,14 +13,14 @@ use state::Gateway;
 use state::start;
 ghost use mathlib.Core.Path.{_≡_};
 ghost use mathlib.Core.Bool.{true};
-ghost use mathlib.Core.List.{[]};
 ghost use Prim.Native.Nat.{_≤_, _<_};
 ghost use lib.ListN.{length};
 ghost use Rattle.format.specs.Layout.{stringOf};
 ghost use Rattle.format.specs.Table.{requestForm};
 ghost use Rattle.message.specs.Exchange.{reads};
 ghost use Rattle.state.specs.Gateway.{soundTest};
-ghost use Rattle.rules.specs.Tests.{lent, lowestAbsent};
+ghost use Rattle.state.specs.Gateway.{lowestAbsent};
+ghost use Rattle.rules.specs.Tests.{lent};
 ghost use Rattle.rules.specs.Step.{requested};
 ghost use Rattle.service.specs.Reply.{Answerable};
 ghost use Rattle.service.specs.At.{targetOf};
@@ -35,7 +35,7 @@ fn answer_process(
     string: &[u8],
     reply: &mut [u8],
 ) -> Answered
-    requires { ⌜ (p ≡ targetOf h (lowestAbsent (lent state []))) × (p < 8) ⌝ }
+    requires { ⌜ (p ≡ targetOf h (lowestAbsent state)) × (p < 8) ⌝ }
     requires { ⌜ (length (now memory) ≡ 32768) × (soundTest state ≡ true) ⌝ }
     requires { ⌜ length (now string) ≤ h .arg2 ⌝ }
     requires { ⌜ Answerable h ⌝ }

@@ -1,6 +1,6 @@
 -- The 680 bytes of a state: 85 for each process, and of these 8 for each of its entries.
 use mathlib.Core.Path.{_≡_}
-use mathlib.Core.Bool.{Bool, true, cond, not, _&&_, _||_}
+use mathlib.Core.Bool.{Bool, true, cond, _&&_, _||_}
 use mathlib.Core.List.{List, [], _∷_, _++_}
 use Prim.Native.Nat.{ℕ, _+_, _*_, _/_, _%_, _≤_}
 use lib.ListN.{length, take, drop, getD}
@@ -55,6 +55,7 @@ headBytes p = flag (p .there) ∷ p .host ∷ runNumber (p .run) ∷ []
 unfoldable pub processBytes : Process → List ℕ
 processBytes p = headBytes p ++ (lowFirst (p .vector) ++ joined entryBytes (p .breaks))
 
+-- the eight processes, one behind the other
 unfoldable pub stateBytes : Gateway → List ℕ
 stateBytes g = joined processBytes (g .processes)
 
@@ -64,6 +65,7 @@ withProcessBytes p q m = take (85 * p) m ++ (processBytes q ++ drop 85 (drop (85
 
 -- ---- reading
 
+-- a run state by its number; another number than 0 to 4 is tested for, and read as running
 unfoldable pub runOf : ℕ → Run
 runOf n = cond (eqb n 1) Stepping (cond (eqb n 2) Stopped (cond (eqb n 3) AtBreak (cond (eqb n 4) Ended Running)))
 
@@ -71,6 +73,7 @@ runOf n = cond (eqb n 1) Stepping (cond (eqb n 2) Stopped (cond (eqb n 3) AtBrea
 abbrev pub flagOf : ℕ → Bool
 flagOf n = eqb (n % 2) 1
 
+-- the entry whose bytes these are
 unfoldable pub entryOf : List ℕ → Breakpoint
 entryOf m = record {
   used = flagOf (getD m 0 0);
@@ -81,6 +84,7 @@ entryOf m = record {
   high = getD m 7 0;
 }
 
+-- the process whose bytes these are
 unfoldable pub processOf : List ℕ → Process
 processOf m = record {
   there = flagOf (getD m 0 0);
@@ -90,6 +94,7 @@ processOf m = record {
   breaks = chunks 8 entryOf 8 (drop 21 m);
 }
 
+-- the state whose bytes these are
 unfoldable pub stateOf : List ℕ → Gateway
 stateOf m = record { processes = chunks 85 processOf 8 m }
 
@@ -122,6 +127,7 @@ entryFormed m = leb (getD m 0 0) 1 && leb (getD m 1 0) 1
 unfoldable pub headFormed : List ℕ → Bool
 headFormed m = leb (getD m 0 0) 1 && leb (getD m 2 0) 4
 
+-- head and entries are
 unfoldable pub processFormed : List ℕ → Bool
 processFormed m = headFormed m && everyChunk 8 entryFormed 8 (drop 21 m)
 
@@ -158,9 +164,3 @@ SoundBefore n m = (n ≤ 8) × (length m ≡ 680) × (everyChunk 85 processSound
 -- the bytes are those of a sound state
 unfoldable pub stateSound : List ℕ → Bool
 stateSound m = stateFormed m && soundTest (stateOf m)
-
--- ---- the processes that are there
-
--- the lowest number of a process that is not there, or 8
-abbrev pub lowestAbsentIn : List ℕ → ℕ
-lowestAbsentIn m = first (λ (q : Process). not (q .there)) (stateOf m .processes)

@@ -5,8 +5,8 @@ use process::Process;
 ghost use mathlib.Core.Path.{_≡_};
 ghost use Prim.Native.Nat.{_≤_, _<_};
 ghost use lib.ListN.{length};
-ghost use Rattle.state.specs.Gateway.{processAt};
-ghost use Rattle.image.specs.Form.{stateOf, withProcessBytes, lowestAbsentIn};
+ghost use Rattle.state.specs.Gateway.{processAt, lowestAbsent};
+ghost use Rattle.image.specs.Form.{stateOf, withProcessBytes};
 
 // Process p of the state that these bytes are the form of.
 pub fn read_process_at(image: &[u8], p: usize) -> Process
@@ -33,7 +33,7 @@ pub fn put_process_at(q: Process, p: usize, image: &mut [u8])
 // The lowest number of a process that is not there, or 8.
 pub fn lowest_absent(image: &[u8]) -> usize
     requires { ⌜ 680 ≤ length (now image) ⌝ }
-    ensures { λ r. ⌜ r ≡ lowestAbsentIn (now (image .entry)) ⌝ }
+    ensures { λ r. ⌜ r ≡ lowestAbsent (stateOf (now (image .entry))) ⌝ }
 {
     let mut p = 0;
     while p < 8 {

@@ -11,7 +11,8 @@ use Rattle.format.specs.Answer.{createdOf}
 use Rattle.process.specs.Record.{fresh}
 use Rattle.process.specs.Request.{created}
 use Rattle.rules.specs.Rule.{public, ruleOf, names, creates}
-use Rattle.rules.specs.Tests.{State, lowestAbsent}
+use Rattle.state.specs.Gateway.{lowestAbsent}
+use Rattle.rules.specs.Tests.{State}
 use Rattle.rules.specs.Step.{Stepped, localOf, put, replied, grantedCreate, refused, requested, Call, request, report, store, step}
 use Rattle.rules.specs.Ready.{Ready}
 use Rattle.rules.specs.Isolation.{isGranted, toldOf, publicOf, Debuggers}
@@ -71,19 +72,19 @@ module _ (s : State) (r : Ready s) (m buffer : List ℕ) (p : ℕ) where
           (ap public (changed .else p (eqb-false p q e)) ∙ sym (same-cond (isGranted (requested m buffer s .answer .outcome)) (publicOf s p)))
 
   told-created : names (headerOf m .cmd) ≡ false → creates (headerOf m .cmd) ≡ true
-      → Told (cond (ltb (lowestAbsent s) 8) (grantedCreate (headerOf m) buffer s) (refused 13 (headerOf m) buffer s))
+      → Told (cond (ltb (lowestAbsent (s .gateway)) 8) (grantedCreate (headerOf m) buffer s) (refused 13 (headerOf m) buffer s))
   unfolding grantedCreate toldOf isGranted overlay written createdOf created fresh public
   told-created n c =
-      by-test Told (ltb (lowestAbsent s) 8)
+      by-test Told (ltb (lowestAbsent (s .gateway)) 8)
       (λ e.
-      let changed = put-changed s r (lowestAbsent s) (ltb-true _ 8 e) (created (headerOf m .host)) (create-proper (headerOf m .host)) in
-      go changed (eqb p (lowestAbsent s)) refl)
+      let changed = put-changed s r (lowestAbsent (s .gateway)) (ltb-true _ 8 e) (created (headerOf m .host)) (create-proper (headerOf m .host)) in
+      go changed (eqb p (lowestAbsent (s .gateway))) refl)
       (λ e. told-refused 13)
     where
-      go : Changed s (put (lowestAbsent s) (created (headerOf m .host)) s) (lowestAbsent s) (created (headerOf m .host))
-          → (t : Bool) → eqb p (lowestAbsent s) ≡ t → Told (grantedCreate (headerOf m) buffer s)
-      go changed true e = rw (n, c, e, eqb-true p (lowestAbsent s) e, changed .here)
-      go changed false e = rw (n, c, e) (ap public (changed .else p (eqb-false p (lowestAbsent s) e)))
+      go : Changed s (put (lowestAbsent (s .gateway)) (created (headerOf m .host)) s) (lowestAbsent (s .gateway)) (created (headerOf m .host))
+          → (t : Bool) → eqb p (lowestAbsent (s .gateway)) ≡ t → Told (grantedCreate (headerOf m) buffer s)
+      go changed true e = rw (n, c, e, eqb-true p (lowestAbsent (s .gateway)) e, changed .here)
+      go changed false e = rw (n, c, e) (ap public (changed .else p (eqb-false p (lowestAbsent (s .gateway)) e)))
 
   told-idle : names (headerOf m .cmd) ≡ false → creates (headerOf m .cmd) ≡ false → Told (replied (headerOf m) [] buffer s)
   unfolding toldOf isGranted

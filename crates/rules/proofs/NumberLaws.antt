@@ -47,7 +47,7 @@ staged false false false false true n = refl
 staged false false false false false n = refl
 
 module _ (s : State) (r : Ready s) where
-  room-by : (buffer : List ℕ) → noRoom s buffer ≡ ltb (length buffer) 266
+  room-by : (buffer : List ℕ) → noRoom (s .memory) buffer ≡ ltb (length buffer) 266
   room-by buffer = rw (eq-eqb (length (s .memory)) 32768 (r .memory))
 
   sound-by : unsound s ≡ false

@@ -16,7 +16,8 @@ use Rattle.process.specs.Request.{created}
 use Rattle.state.specs.Gateway.{nobody}
 use Rattle.state.proofs.GatewayLaws.{state-sound}
 use Rattle.rules.specs.Rule.{Public, public, ruleOf, names, creates}
-use Rattle.rules.specs.Tests.{State, recordOf, lowestAbsent}
+use Rattle.state.specs.Gateway.{lowestAbsent}
+use Rattle.rules.specs.Tests.{State, recordOf}
 use Rattle.rules.specs.Step.{Stepped, localOf, put, grantedCreate, refused, requested, Call, request, report, store, step}
 use Rattle.rules.specs.Ready.{Ready}
 use Rattle.rules.specs.Run.{final}
@@ -37,12 +38,12 @@ elsewhere : {s t : State} {q : ℕ} {l : Local} → Changed s t q l → (p : ℕ
 elsewhere c p low n = ap₂ (λ (r : Process) (bs : List ℕ). local r bs) (c .else p n) (c .else-bytes p low n)
 
 -- the record that CREATE takes has no host
-absent-unheld : (s : State) → Ready s → lowestAbsent s < 8 → holder s (lowestAbsent s) ≡ 0
+absent-unheld : (s : State) → Ready s → lowestAbsent (s .gateway) < 8 → holder s (lowestAbsent (s .gateway)) ≡ 0
 unfolding lowestAbsent public
 absent-unheld s r low =
     let e = r .processes in
     let gone = first-passes (λ (p : Process). not (p .there)) (s .gateway .processes) nobody (omega (arith, low, e)) in
-    state-sound (s .gateway) (r .sound) (lowestAbsent s) low .absent (not-true _ gone) .0
+    state-sound (s .gateway) (r .sound) (lowestAbsent (s .gateway)) low .absent (not-true _ gone) .0
 
 module _ (s : State) (r : Ready s) (m buffer : List ℕ) (p : ℕ) (low : p < 8) where
   abbrev Change : Stepped → Type 0
@@ -75,25 +76,25 @@ module _ (s : State) (r : Ready s) (m buffer : List ℕ) (p : ℕ) (low : p < 8)
   unfolding refused
   change-refused number out = refl
 
-  made : lowestAbsent s < 8 → Changed s (put (lowestAbsent s) (created (headerOf m .host)) s) (lowestAbsent s) (created (headerOf m .host))
-  made k = put-changed s r (lowestAbsent s) k (created (headerOf m .host)) (create-proper (headerOf m .host))
+  made : lowestAbsent (s .gateway) < 8 → Changed s (put (lowestAbsent (s .gateway)) (created (headerOf m .host)) s) (lowestAbsent (s .gateway)) (created (headerOf m .host))
+  made k = put-changed s r (lowestAbsent (s .gateway)) k (created (headerOf m .host)) (create-proper (headerOf m .host))
 
-  made-held : (k : lowestAbsent s < 8) → p ≡ lowestAbsent s → holder (put (lowestAbsent s) (created (headerOf m .host)) s) p ≡ headerOf m .host
+  made-held : (k : lowestAbsent (s .gateway) < 8) → p ≡ lowestAbsent (s .gateway) → holder (put (lowestAbsent (s .gateway)) (created (headerOf m .host)) s) p ≡ headerOf m .host
   unfolding created fresh public
   made-held k e =
-      ap (holder (put (lowestAbsent s) (created (headerOf m .host)) s)) e ∙ ap (λ (x : Process). public x .host) (made k .here)
+      ap (holder (put (lowestAbsent (s .gateway)) (created (headerOf m .host)) s)) e ∙ ap (λ (x : Process). public x .host) (made k .here)
 
-  change-created : creates (headerOf m .cmd) ≡ true → Change (cond (ltb (lowestAbsent s) 8) (grantedCreate (headerOf m) buffer s) (refused 13 (headerOf m) buffer s))
+  change-created : creates (headerOf m .cmd) ≡ true → Change (cond (ltb (lowestAbsent (s .gateway)) 8) (grantedCreate (headerOf m) buffer s) (refused 13 (headerOf m) buffer s))
   unfolding grantedCreate
   change-created c =
-      by-test Change (ltb (lowestAbsent s) 8) (λ e out. go out (ltb-true _ 8 e) (eqb p (lowestAbsent s)) refl) (λ e. change-refused 13)
+      by-test Change (ltb (lowestAbsent (s .gateway)) 8) (λ e out. go out (ltb-true _ 8 e) (eqb p (lowestAbsent (s .gateway))) refl) (λ e. change-refused 13)
     where
       after : State
-      after = put (lowestAbsent s) (created (headerOf m .host)) s
+      after = put (lowestAbsent (s .gateway)) (created (headerOf m .host)) s
 
-      go : (((holder s p ≡ headerOf m .host) ⊎ (holder after p ≡ headerOf m .host)) × ((headerOf m .pid ≡ p) ⊎ (headerOf m .cmd ≡ 12)) → ⊥) → lowestAbsent s < 8 → (t : Bool) → eqb p (lowestAbsent s) ≡ t → localOf after p ≡ localOf s p
-      go out k true e = absurd (out (inr (made-held k (eqb-true p (lowestAbsent s) e)), inr (eqb-true (headerOf m .cmd) 12 c)))
-      go out k false e = elsewhere (made k) p low (eqb-false p (lowestAbsent s) e)
+      go : (((holder s p ≡ headerOf m .host) ⊎ (holder after p ≡ headerOf m .host)) × ((headerOf m .pid ≡ p) ⊎ (headerOf m .cmd ≡ 12)) → ⊥) → lowestAbsent (s .gateway) < 8 → (t : Bool) → eqb p (lowestAbsent (s .gateway)) ≡ t → localOf after p ≡ localOf s p
+      go out k true e = absurd (out (inr (made-held k (eqb-true p (lowestAbsent (s .gateway)) e)), inr (eqb-true (headerOf m .cmd) 12 c)))
+      go out k false e = elsewhere (made k) p low (eqb-false p (lowestAbsent (s .gateway)) e)
 
   -- ---- who debugs it then
 
@@ -170,14 +171,14 @@ module _ (s : State) (r : Ready s) (m buffer : List ℕ) (p : ℕ) (low : p < 8)
       go false e u i = inl (ap (λ (x : Process). public x .host) (named-changed s r m buffer sent n near .else p (eqb-false p q e)))
 
   turns-created : creates (headerOf m .cmd) ≡ true
-      → requested m buffer s ≡ cond (ltb (lowestAbsent s) 8) (grantedCreate (headerOf m) buffer s) (refused 13 (headerOf m) buffer s) → Turns
+      → requested m buffer s ≡ cond (ltb (lowestAbsent (s .gateway)) 8) (grantedCreate (headerOf m) buffer s) (refused 13 (headerOf m) buffer s) → Turns
   unfolding grantedCreate refused isGranted
-  turns-created c e = go (ltb (lowestAbsent s) 8) refl (eqb p (lowestAbsent s)) refl
+  turns-created c e = go (ltb (lowestAbsent (s .gateway)) 8) refl (eqb p (lowestAbsent (s .gateway))) refl
     where
-      go : (t : Bool) → ltb (lowestAbsent s) 8 ≡ t → (u : Bool) → eqb p (lowestAbsent s) ≡ u → Turns
+      go : (t : Bool) → ltb (lowestAbsent (s .gateway)) 8 ≡ t → (u : Bool) → eqb p (lowestAbsent (s .gateway)) ≡ u → Turns
       go true k true i =
           let near = ltb-true _ 8 k in
-          let same = eqb-true p (lowestAbsent s) i in
+          let same = eqb-true p (lowestAbsent (s .gateway)) i in
           let whole = rw k at e in
           inr (inl (record {
             granted = rw whole;
@@ -187,7 +188,7 @@ module _ (s : State) (r : Ready s) (m buffer : List ℕ) (p : ℕ) (low : p < 8)
           }))
       go true k false i =
           let whole = rw k at e in
-          inl (ap (λ (x : Stepped). holder (x .after) p) whole ∙ ap (λ (x : Process). public x .host) (made (ltb-true _ 8 k) .else p (eqb-false p (lowestAbsent s) i)))
+          inl (ap (λ (x : Stepped). holder (x .after) p) whole ∙ ap (λ (x : Process). public x .host) (made (ltb-true _ 8 k) .else p (eqb-false p (lowestAbsent (s .gateway)) i)))
       go false k u i = turns-refused (ap (λ (x : Stepped). x .after) (rw k at e))
 
   -- ---- any request

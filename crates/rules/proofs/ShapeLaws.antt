@@ -17,7 +17,8 @@ use Rattle.process.specs.declared.record.Process.{Process}
 use Rattle.process.specs.Local.{Local, local}
 use Rattle.process.specs.Report.{accepts, reported}
 use Rattle.rules.specs.Rule.{names, creates}
-use Rattle.rules.specs.Tests.{State, recordOf, lowestAbsent, askedTests, requestNumber, badReport, reportNumber}
+use Rattle.state.specs.Gateway.{lowestAbsent}
+use Rattle.rules.specs.Tests.{State, recordOf, askedTests, requestNumber, badReport, reportNumber}
 use Rattle.rules.specs.Step.{Answer, Stepped, answers, localOf, replied, grantedCreate, granted, refused, requested, told, notified, noted, stored}
 use Rattle.rules.specs.Ready.{Ready}
 use Rattle.rules.proofs.ProperLaws.{report-proper, store-proper}
@@ -46,11 +47,11 @@ module _ (s : State) (r : Ready s) (m buffer : List ℕ) where
       rw number
 
   pub request-creates : envelope m buffer ≡ 0 → names (headerOf m .cmd) ≡ false → creates (headerOf m .cmd) ≡ true
-      → requested m buffer s ≡ cond (ltb (lowestAbsent s) 8) (grantedCreate (headerOf m) buffer s) (refused 13 (headerOf m) buffer s)
+      → requested m buffer s ≡ cond (ltb (lowestAbsent (s .gateway)) 8) (grantedCreate (headerOf m) buffer s) (refused 13 (headerOf m) buffer s)
   unfolding requested granted askedTests firstFailing
   request-creates e n c =
-      let number : requestNumber s m buffer ≡ cond (not (ltb (lowestAbsent s) 8)) 13 0 = asked-number e ∙ rw (n, c) in
-      rw (number, n, c) (go (ltb (lowestAbsent s) 8))
+      let number : requestNumber s m buffer ≡ cond (not (ltb (lowestAbsent (s .gateway)) 8)) 13 0 = asked-number e ∙ rw (n, c) in
+      rw (number, n, c) (go (ltb (lowestAbsent (s .gateway)) 8))
     where
       go : (t : Bool) → cond (eqb (cond (not t) 13 0) 0) (grantedCreate (headerOf m) buffer s) (refused (cond (not t) 13 0) (headerOf m) buffer s)
           ≡ cond t (grantedCreate (headerOf m) buffer s) (refused 13 (headerOf m) buffer s)

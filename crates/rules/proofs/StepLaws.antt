@@ -17,7 +17,8 @@ use Rattle.process.specs.Local.{Proper}
 use Rattle.process.specs.Request.{created}
 use Rattle.process.specs.Report.{accepts, reported}
 use Rattle.rules.specs.Rule.{Rule, ruleOf, names, creates}
-use Rattle.rules.specs.Tests.{State, recordOf, absent, lowestAbsent, ruleTests, askedTests, requestNumber, reportNumber}
+use Rattle.state.specs.Gateway.{lowestAbsent}
+use Rattle.rules.specs.Tests.{State, recordOf, absent, ruleTests, askedTests, requestNumber, reportNumber}
 use Rattle.rules.specs.Step.{Stepped, localOf, put, grantedNamed, grantedCreate, granted, refused, requested, told, notified, noted, stored, Call, request, report, store, step}
 use Rattle.rules.specs.Ready.{Ready}
 use Rattle.rules.proofs.ProperLaws.{create-proper, report-proper, store-proper}
@@ -85,7 +86,7 @@ rule-zero r h string p there asked carried e =
       found = passes _ (first-passes 11 _ _ e12);
     }
 
-pub create-zero : (s : State) (h : Header) → names (h .cmd) ≡ false → creates (h .cmd) ≡ true → firstFailing (askedTests h s) ≡ 0 → lowestAbsent s < 8
+pub create-zero : (s : State) (h : Header) → names (h .cmd) ≡ false → creates (h .cmd) ≡ true → firstFailing (askedTests h s) ≡ 0 → lowestAbsent (s .gateway) < 8
 unfolding askedTests
 create-zero s h n c e = ltb-true _ _ (passes _ (first-passes 12 _ _ (rw (n, c) at e)))
 
@@ -109,7 +110,7 @@ granted-ready s r m buffer a =
     by-test Stays (names (headerOf m .cmd))
     (λ n. put-ready s r (headerOf m .pid) (named-zero s (headerOf m) n (a .asked) .low) _ (effect-proper s r m a n))
     (λ n. by-test Stays (creates (headerOf m .cmd))
-    (λ c. put-ready s r (lowestAbsent s) (create-zero s (headerOf m) n c (a .asked)) (created (headerOf m .host)) (create-proper (headerOf m .host)))
+    (λ c. put-ready s r (lowestAbsent (s .gateway)) (create-zero s (headerOf m) n c (a .asked)) (created (headerOf m .host)) (create-proper (headerOf m .host)))
     (λ c. r))
 
 pub requested-ready : (s : State) → Ready s → (m buffer : List ℕ) → Ready (requested m buffer s .after)

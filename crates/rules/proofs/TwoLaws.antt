@@ -17,7 +17,8 @@ use Rattle.process.specs.Request.{created}
 use Rattle.state.specs.Gateway.{nobody}
 use Rattle.state.specs.Slot.{slot}
 use Rattle.rules.specs.Rule.{Rule, Public, public, ruleOf, names, creates}
-use Rattle.rules.specs.Tests.{State, recordOf, lowestAbsent}
+use Rattle.state.specs.Gateway.{lowestAbsent}
+use Rattle.rules.specs.Tests.{State, recordOf}
 use Rattle.rules.specs.Step.{Stepped, localOf, grantedCreate, refused, requested, noted, stored}
 use Rattle.rules.specs.Ready.{Ready}
 use Rattle.rules.specs.Isolation.{Hosts, Processes, publicOf, Apart, Free}
@@ -73,7 +74,7 @@ module _ (H : Hosts) (P : Processes) (s₁ s₂ : State) (r₁ : Ready s₁) (r�
   same-local : (p : ℕ) → p < 8 → P p ≡ false → localOf s₁ p ≡ localOf s₂ p
   same-local p low n = ap₂ (λ (q : Process) (bs : List ℕ). local q bs) (a .whole p low n) (a .bytes p low n)
 
-  same-absent : lowestAbsent s₁ ≡ lowestAbsent s₂
+  same-absent : lowestAbsent (s₁ .gateway) ≡ lowestAbsent (s₂ .gateway)
   unfolding lowestAbsent public
   same-absent =
       let e = r₁ .processes in let q = r₂ .processes in
@@ -125,16 +126,16 @@ module _ (H : Hosts) (P : Processes) (s₁ s₂ : State) (r₁ : Ready s₁) (r�
             ∙ sym (said-stranger (headerOf m .cmd) rule row (headerOf m) buffer l₂ (λ j. out (ap (λ (u : Public). u .host) (a .shown p low) ∙ j)))
         same e f false i = ap (said rule (headerOf m) buffer) (same-local p low i)
 
-    both-created : Two (cond (ltb (lowestAbsent s₁) 8) (grantedCreate (headerOf m) buffer s₁) (refused 13 (headerOf m) buffer s₁))
-        (cond (ltb (lowestAbsent s₂) 8) (grantedCreate (headerOf m) buffer s₂) (refused 13 (headerOf m) buffer s₂))
+    both-created : Two (cond (ltb (lowestAbsent (s₁ .gateway)) 8) (grantedCreate (headerOf m) buffer s₁) (refused 13 (headerOf m) buffer s₁))
+        (cond (ltb (lowestAbsent (s₂ .gateway)) 8) (grantedCreate (headerOf m) buffer s₂) (refused 13 (headerOf m) buffer s₂))
     unfolding grantedCreate
     both-created =
         rw same-absent
-        (by-test₂ Two (ltb (lowestAbsent s₂) 8)
-        (λ e. let low = ltb-true (lowestAbsent s₂) 8 e in record {
-          apart = apart-changed P s₁ _ s₂ _ (lowestAbsent s₂) (created (headerOf m .host)) (created (headerOf m .host))
-              (put-changed s₁ r₁ (lowestAbsent s₂) low _ (create-proper (headerOf m .host)))
-              (put-changed s₂ r₂ (lowestAbsent s₂) low _ (create-proper (headerOf m .host))) a (λ i. refl) (λ n. refl);
+        (by-test₂ Two (ltb (lowestAbsent (s₂ .gateway)) 8)
+        (λ e. let low = ltb-true (lowestAbsent (s₂ .gateway)) 8 e in record {
+          apart = apart-changed P s₁ _ s₂ _ (lowestAbsent (s₂ .gateway)) (created (headerOf m .host)) (created (headerOf m .host))
+              (put-changed s₁ r₁ (lowestAbsent (s₂ .gateway)) low _ (create-proper (headerOf m .host)))
+              (put-changed s₂ r₂ (lowestAbsent (s₂ .gateway)) low _ (create-proper (headerOf m .host))) a (λ i. refl) (λ n. refl);
           same = λ i f. refl;
         })
         (λ e. both-refused 13))

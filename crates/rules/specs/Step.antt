@@ -17,7 +17,8 @@ use Rattle.process.specs.Report.{recorded, passes, reported}
 use Rattle.state.specs.Gateway.{withProcess}
 use Rattle.state.specs.Slot.{slot, withSlot}
 use Rattle.rules.specs.Rule.{ruleOf, names, creates}
-use Rattle.rules.specs.Tests.{State, recordOf, lowestAbsent, requestNumber, reportNumber}
+use Rattle.state.specs.Gateway.{lowestAbsent}
+use Rattle.rules.specs.Tests.{State, recordOf, requestNumber, reportNumber}
 
 -- 'An answer is all that a call returns but the state .., and every byte of its output buffers after it.'
 pub record Answer : Type 0 where
@@ -55,7 +56,7 @@ grantedNamed h string buffer s =
 -- CREATE: 'the lowest absent number'
 unfoldable pub grantedCreate : Header → List ℕ → State → Stepped
 grantedCreate h buffer s =
-    replied (createdOf h (lowestAbsent s)) [] buffer (put (lowestAbsent s) (created (h .host)) s)
+    replied (createdOf h (lowestAbsent (s .gateway))) [] buffer (put (lowestAbsent (s .gateway)) (created (h .host)) s)
 
 -- a request whose tests all pass; NOP changes nothing
 unfoldable pub granted : Header → List ℕ → List ℕ → State → Stepped

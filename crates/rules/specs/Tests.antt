@@ -4,7 +4,6 @@ use mathlib.Core.List.{List, [], _∷_, _++_}
 use Prim.Native.Nat.{ℕ, _+_}
 use lib.ListN.{length}
 use lib.Dec.{eqb, ltb}
-use Rattle.lists.specs.First.{first}
 use Rattle.format.specs.declared.header.Header.{Header}
 use Rattle.format.specs.Outcome.{Test, test, firstFailing}
 use Rattle.format.specs.Table.{requestForm}
@@ -13,7 +12,7 @@ use Rattle.format.specs.Refusal.{layoutTests}
 use Rattle.process.specs.declared.record.Process.{Process}
 use Rattle.process.specs.Report.{accepts}
 use Rattle.state.specs.declared.gateway.Gateway.{Gateway}
-use Rattle.state.specs.Gateway.{processAt, soundTest}
+use Rattle.state.specs.Gateway.{processAt, lowestAbsent, soundTest}
 use Rattle.rules.specs.Rule.{Rule, public, ruleOf, names, creates}
 
 -- the gateway's eight records and the lent memory
@@ -26,8 +25,8 @@ abbrev pub lent : Gateway → List ℕ → State
 lent g memory = record { gateway = g; memory = memory }
 
 -- 1: 'memory not 32,768 bytes, or reply or notice buffer under 266'
-abbrev pub noRoom : State → List ℕ → Bool
-noRoom s buffer = not (eqb (length (s .memory)) 32768) || ltb (length buffer) 266
+abbrev pub noRoom : List ℕ → List ℕ → Bool
+noRoom memory buffer = not (eqb (length memory) 32768) || ltb (length buffer) 266
 
 -- 2: 'state not sound'
 abbrev pub unsound : State → Bool
@@ -40,10 +39,6 @@ recordOf s p = processAt (s .gateway) p
 -- 7: 'named process absent, or number over 7'
 abbrev pub absent : State → ℕ → Bool
 absent s p = not (ltb p 8 && recordOf s p .there)
-
--- the lowest number of a process that is not there, or 8
-unfoldable pub lowestAbsent : State → ℕ
-lowestAbsent s = first (λ (p : Process). not (p .there)) (s .gateway .processes)
 
 -- the tests of a process by the rule of the op code, 8 to 12
 abbrev pub ruleTests : Rule → Header → Process → List Test
@@ -59,12 +54,12 @@ ruleTests r h p =
 unfoldable pub askedTests : Header → State → List Test
 askedTests h s =
     cond (names (h .cmd)) (test 7 (absent s (h .pid)) ∷ ruleTests (ruleOf (h .cmd)) h (recordOf s (h .pid)))
-    (cond (creates (h .cmd)) (test 13 (not (ltb (lowestAbsent s) 8)) ∷ []) [])
+    (cond (creates (h .cmd)) (test 13 (not (ltb (lowestAbsent (s .gateway)) 8)) ∷ []) [])
 
 -- the tests of a request, in document 01's order
 abbrev pub requestTests : State → List ℕ → List ℕ → List Test
 requestTests s m buffer =
-    test 1 (noRoom s buffer)
+    test 1 (noRoom (s .memory) buffer)
     ∷ test 2 (unsound s)
     ∷ layoutTests (fixedRight m) (requestForm (headerOf m .cmd)) (headerOf m) (length m)
     ++ askedTests (headerOf m) s
@@ -80,7 +75,7 @@ badReport kind reason = ltb 3 kind || (not (eqb reason 0) && not (eqb kind 0))
 -- 'A report is tested by 1, 2, 14, 7, 9 in that order'
 abbrev pub reportTests : State → ℕ → ℕ → ℕ → List ℕ → List Test
 reportTests s p kind reason buffer =
-    test 1 (noRoom s buffer)
+    test 1 (noRoom (s .memory) buffer)
     ∷ test 2 (unsound s)
     ∷ test 14 (badReport kind reason)
     ∷ test 7 (absent s p)

@@ -1,9 +1,10 @@
 -- The gateway's state: 'processes 0 to 7, each there or not'.
-use mathlib.Core.Bool.{Bool, false}
+use mathlib.Core.Bool.{Bool, false, not}
 use mathlib.Core.List.{List, [], map}
 use Prim.Native.Nat.{ℕ, _<_}
 use lib.ListN.{getD, set}
 use Rattle.lists.specs.Every.{below}
+use Rattle.lists.specs.First.{first}
 use Rattle.process.specs.declared.record.Process.{Process}
 use Rattle.process.specs.declared.record.Run.the-variants.{Running}
 use Rattle.process.specs.Record.{fresh}
@@ -22,6 +23,10 @@ processAt g p = getD (g .processes) p nobody
 -- the state with another record of process p
 abbrev pub withProcess : ℕ → Process → Gateway → Gateway
 withProcess p q g = record { processes = set (g .processes) p q }
+
+-- 'the lowest absent number', or 8
+unfoldable pub lowestAbsent : Gateway → ℕ
+lowestAbsent g = first (λ (p : Process). not (p .there)) (g .processes)
 
 -- 'A state is sound when': each process's record is
 abbrev pub SoundState : Gateway → Type 0

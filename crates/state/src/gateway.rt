@@ -3,7 +3,7 @@ use process::Process;
 use process::Run;
 ghost use mathlib.Core.Path.{_≡_};
 ghost use Prim.Native.Nat.{_<_};
-ghost use Rattle.state.specs.Gateway.{processAt, withProcess, soundTest, freshStart};
+ghost use Rattle.state.specs.Gateway.{processAt, withProcess, lowestAbsent, soundTest, freshStart};
 
 // Process p has the record at index p.
 pub struct Gateway {
@@ -24,6 +24,21 @@ impl Gateway {
     {
         self.processes[p] = record;
         self
+    }
+
+    // The lowest number of a process that is not there, or 8.
+    pub fn lowest_absent(self) -> usize
+        ensures { λ r. ⌜ r ≡ lowestAbsent self ⌝ }
+    {
+        let mut p = 0;
+        while p < 8 {
+            let process = self.processes[p];
+            if !process.there {
+                return p;
+            }
+            p += 1;
+        }
+        p
     }
 
     // Every process record is sound.

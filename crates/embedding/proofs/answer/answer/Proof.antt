@@ -5,8 +5,7 @@ use Rattle.lists.specs.Buffer.{Bytes}
 use Rattle.format.specs.Layout.{stringOf}
 use Rattle.rules.specs.Tests.{lent}
 use Rattle.rules.specs.Isolation.{isGranted}
-use Rattle.service.specs.At.{targetOf, awayAnswer}
-use Rattle.gateway.proofs.PartLaws.{lowest-lent}
+use Rattle.service.specs.At.{awayAnswer}
 use Rattle.gateway.proofs.AskedLaws.{answerable, carried-short, asked-away}
 use Rattle.image.specs.Form.{stateOf}
 use Rattle.embedding.specs.Called.{signed, finished}
@@ -68,7 +67,7 @@ signed-requires c κs =
     let a = s .args in
     let g = stateOf (a .image .now) in
     let st = lent g (a .memory .now) in
-    let far = rw (i .before .target-of .ensures ∙ ap (targetOf (a .h)) (lowest-lent g (a .memory .now))) at (i .if1 .left) in
+    let far = rw (i .before .target-of .ensures) at (i .if1 .left) in
     let short = rw (asked-away (a .h) (stringOf (a .message .now)) (a .reply .now) st far) at (asked-short (a .h) (stringOf (a .message .now)) (a .reply .now) st) in
     rw (w .answer-away .ensures .0) short
 
@@ -87,7 +86,7 @@ returns-2 c =
     let s = k .before in
     let a = s .args in
     let g = stateOf (a .image .now) in
-    let far = rw (i .before .target-of .ensures ∙ ap (targetOf (a .h)) (lowest-lent g (a .memory .now))) at (i .if1 .left) in
+    let far = rw (i .before .target-of .ensures) at (i .if1 .left) in
     let bytes : Bytes (a .image .now) = λ i. omega (arith, k .slice-known .given i) in
     let formed = lent-formed (a .image .now) (a .memory .now) (a .reply .now) (s .pre .1) in
     let same : toZ w64 (ofZ w64 (c .signed .result)) ≡ c .signed .result = search needs in

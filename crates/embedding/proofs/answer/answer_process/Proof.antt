@@ -3,11 +3,11 @@ use mathlib.Core.Path.{_≡_, ap, _∙_}
 use native.Mathlib.Omega.{arith}
 use Rattle.lists.specs.Buffer.{Bytes}
 use Rattle.state.proofs.SlotLaws.{startOf-is}
-use Rattle.rules.specs.Tests.{lent, lowestAbsent}
+use Rattle.state.specs.Gateway.{lowestAbsent}
+use Rattle.rules.specs.Tests.{lent}
 use Rattle.rules.specs.Step.{put}
 use Rattle.rules.specs.Isolation.{isGranted}
-use Rattle.service.specs.At.{targetOf}
-use Rattle.gateway.proofs.PartLaws.{slot-back, tested-part, local-part, lowest-lent}
+use Rattle.gateway.proofs.PartLaws.{slot-back, tested-part, local-part}
 use Rattle.gateway.proofs.AskedLaws.{target-asks, asked-at}
 use Rattle.image.specs.Form.{stateOf}
 use Rattle.embedding.specs.Called.{signed, finished}
@@ -56,7 +56,7 @@ answer-at-requires c κs =
     let g = stateOf (a .image .now) in
     let fit = lent-fits (a .image .now) (a .memory .now) (a .reply .now) (s .pre .1 .0) in
     rw (q .read-process-at .ensures) (
-      target-asks (a .h) (lowestAbsent (lent g _)) (rw (s .pre .0 .0) at low),
+      target-asks (a .h) (lowestAbsent g) (rw (s .pre .0 .0) at low),
       (low, (tested-part g (a .memory .now) (a .p) (t .start .result) low (t .start .ensures) (fit .memory) (fit .sound), (s .pre .1 .1 .0, (s .pre .1 .1 .1, fit .room)))),
     )
 
@@ -70,7 +70,7 @@ finish-requires c κs =
     let g = stateOf (a .image .now) in
     let st = lent g (a .memory .now) in
     let whole = local-part g (a .memory .now) (a .p) (t .start .result) (q .read-process-at .result) (t .start .ensures) (q .read-process-at .ensures) in
-    let here = s .pre .0 .0 ∙ ap (targetOf (a .h)) (lowest-lent g (a .memory .now)) in
+    let here = s .pre .0 .0 in
     let short = rw (asked-at (a .h) (a .string .now) (a .reply .now) st (a .p) here (s .pre .0 .1)) at (asked-short (a .h) (a .string .now) (a .reply .now) st) in
     (rw (v .answer-at .ensures .0, whole) short, (s .pre .0 .1, lent-long (a .image .now) (a .memory .now) (a .reply .now) (s .pre .1 .0)))
 
@@ -97,7 +97,7 @@ returns c =
     let bytes : Bytes (a .image .now) = λ i. omega (arith, k .slice-known .given i) in
     let formed = lent-formed (a .image .now) (a .memory .now) (a .reply .now) (s .pre .1 .0) in
     let whole = local-part g (a .memory .now) (a .p) (t .start .result) (q .read-process-at .result) (t .start .ensures) (q .read-process-at .ensures) in
-    let here = s .pre .0 .0 ∙ ap (targetOf (a .h)) (lowest-lent g (a .memory .now)) in
+    let here = s .pre .0 .0 in
     let same : toZ w64 (ofZ w64 (f .finish .result)) ≡ f .finish .result = search needs in
     rw (asked-at (a .h) (a .string .now) (a .reply .now) (lent g (a .memory .now)) (a .p) here (s .pre .0 .1), ← whole) (
       same ∙ f .finish .ensures .0 ∙ ap signed (v .answer-at .ensures .0),

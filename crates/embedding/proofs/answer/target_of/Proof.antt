@@ -1,5 +1,5 @@
 -- `embedding::answer::target_of` meets its contract, by the op code. Assumes nothing.
-use Rattle.rules.specs.Tests.{lowestAbsent}
+use Rattle.state.specs.Gateway.{lowestAbsent}
 use Rattle.service.specs.At.{targetOf}
 use borrow.Author.Needs.{needs}
 use Rattle.embedding.proofs.answer.target_of.Statement.{statement}

@@ -1,9 +1,7 @@
 -- `gateway::requests::answer` meets its contract: at the process that the request goes to, or at none. Assumes nothing.
-use mathlib.Core.Path.{refl, ap, _∙_}
+use mathlib.Core.Path.{refl}
 use Rattle.format.specs.Layout.{stringOf}
 use Rattle.rules.specs.Tests.{lent}
-use Rattle.service.specs.At.{targetOf}
-use Rattle.gateway.proofs.PartLaws.{lowest-lent}
 use Rattle.gateway.proofs.AskedLaws.{answerable, carried-short, asked-away}
 use borrow.Author.Needs.{needs}
 use Rattle.gateway.proofs.requests.answer.Statement.{statement}
@@ -49,7 +47,7 @@ returns-2 c =
     let i = v .before .before in
     let s = i .before .before .before .before .before in
     let a = s .args in
-    let far = rw (i .before .target-of .ensures ∙ ap (targetOf (a .h)) (lowest-lent (a .state) (a .memory .now))) at (i .if1 .left) in
+    let far = rw (i .before .target-of .ensures) at (i .if1 .left) in
     rw (asked-away (a .h) (stringOf (a .message .now)) (a .reply .now) (lent (a .state) (a .memory .now)) far)
     (v .answer-away .ensures .0, (refl, (refl, v .answer-away .ensures .1)))
 

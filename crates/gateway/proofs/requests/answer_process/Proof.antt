@@ -4,10 +4,10 @@ use native.Mathlib.Omega.{arith}
 use Rattle.process.specs.declared.record.Process.{Process}
 use Rattle.state.specs.Gateway.{withProcess}
 use Rattle.state.proofs.SlotLaws.{startOf-is}
-use Rattle.rules.specs.Tests.{lent, lowestAbsent}
+use Rattle.state.specs.Gateway.{lowestAbsent}
+use Rattle.rules.specs.Tests.{lent}
 use Rattle.rules.specs.Step.{put}
-use Rattle.service.specs.At.{targetOf}
-use Rattle.gateway.proofs.PartLaws.{slot-back, tested-part, local-part, lowest-lent}
+use Rattle.gateway.proofs.PartLaws.{slot-back, tested-part, local-part}
 use Rattle.gateway.proofs.AskedLaws.{target-asks, asked-at}
 use borrow.Author.Needs.{needs}
 use Rattle.gateway.proofs.requests.answer_process.Statement.{statement}
@@ -43,7 +43,7 @@ answer-at-requires c κs =
     let a = s .args in
     let low = s .pre .0 .1 in
     rw (q .process .ensures) (
-      target-asks (a .h) (lowestAbsent (lent (a .state) _)) (rw (s .pre .0 .0) at low),
+      target-asks (a .h) (lowestAbsent (a .state)) (rw (s .pre .0 .0) at low),
       (low, (tested-part (a .state) (a .memory .now) (a .p) (t .start .result) low (t .start .ensures) (s .pre .1 .0 .0) (s .pre .1 .0 .1), s .pre .1 .1)),
     )
 
@@ -65,7 +65,7 @@ returns c =
     let s = q .before .before .before .before in
     let a = s .args in
     let whole = local-part (a .state) (a .memory .now) (a .p) (t .start .result) (q .process .result) (t .start .ensures) (q .process .ensures) in
-    let here = s .pre .0 .0 ∙ ap (targetOf (a .h)) (lowest-lent (a .state) (a .memory .now)) in
+    let here = s .pre .0 .0 in
     rw (asked-at (a .h) (a .string .now) (a .reply .now) (lent (a .state) (a .memory .now)) (a .p) here (s .pre .0 .1), ← whole) (
       v .answer-at .ensures .0,
       (

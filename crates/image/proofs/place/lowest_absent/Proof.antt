@@ -7,7 +7,7 @@ use lib.ListN.{length, drop, drop-of-length-le}
 use Rattle.lists.specs.First.{first}
 use Rattle.lists.proofs.First.{first-here, first-next}
 use Rattle.process.specs.declared.record.Process.{Process}
-use Rattle.state.specs.Gateway.{nobody}
+use Rattle.state.specs.Gateway.{nobody, lowestAbsent}
 use Rattle.image.specs.Form.{stateOf}
 use Rattle.image.proofs.PlaceLaws.{eight-at, absent-at, present-at}
 use Rattle.image.proofs.place.lowest_absent.Statement.{statement}
@@ -33,6 +33,7 @@ shared-slice-read-if1 : tie.Need-shared-slice-read-if1 Inv-loop μ-loop
 shared-slice-read-if1 c = omega (arith, c .before .before .before .pre)
 
 returns : tie.Need-returns Inv-loop μ-loop
+unfolding lowestAbsent
 returns c =
     let l = c .before .before .before in
     let m = l .before .args .image .now in
@@ -55,6 +56,7 @@ loop-again c =
     (omega arith, omega arith)
 
 returns-2 : tie.Need-returns-2 Inv-loop μ-loop
+unfolding lowestAbsent
 returns-2 c =
     let m = c .before .before .args .image .now in
     let past : length (stateOf m .processes) ≤ c .before .loop .p = omega (arith, eight-at m) in

@@ -1,4 +1,4 @@
--- `gateway::recipient::lowest_absent` meets its contract. The loop's invariant: the first process that is not there is the first among those not passed. Assumes nothing.
+-- `state::gateway::Gateway::lowest_absent` meets its contract. The loop's invariant: the first process that is not there is the first among those not passed. Assumes nothing.
 use mathlib.Core.Path.{_≡_, ap}
 use mathlib.Core.Bool.{Bool, not}
 use Prim.Native.Nat.{_≤_, _-_, _+_}
@@ -8,20 +8,19 @@ use lib.ListN.{length, drop, length-map, drop-of-length-le}
 use Rattle.lists.specs.First.{first}
 use Rattle.lists.proofs.First.{first-here, first-next}
 use Rattle.process.specs.declared.record.Process.{Process}
-use Rattle.state.specs.Gateway.{nobody}
-use Rattle.rules.specs.Tests.{lowestAbsent}
-use Rattle.gateway.proofs.recipient.lowest_absent.Statement.{statement}
-use Rattle.gateway.proofs.recipient.lowest_absent.Tie as tie
+use Rattle.state.specs.Gateway.{nobody, lowestAbsent}
+use Rattle.state.proofs.gateway.Gateway.lowest_absent.Statement.{statement}
+use Rattle.state.proofs.gateway.Gateway.lowest_absent.Tie as tie
 
 -- the process is not there
 abbrev away : Process → Bool
 away p = not (p .there)
 
 abbrev Inv-loop : tie.InvT-loop
-Inv-loop state p₀ p = (p ≤ 8) × (length (state .processes) ≡ 8) × (first away (state .processes) ≡ first away (drop p (state .processes)) + p)
+Inv-loop self p₀ p = (p ≤ 8) × (length (self .processes) ≡ 8) × (first away (self .processes) ≡ first away (drop p (self .processes)) + p)
 
 abbrev μ-loop : tie.MeasureT-loop
-μ-loop state p₀ p = 8 - p
+μ-loop self p₀ p = 8 - p
 
 loop-holds : tie.Need-loop-holds Inv-loop μ-loop
 loop-holds c = (omega arith, simp length-map at (c .good .0 .1 .1 .0 .1 .0 .1), omega arith)
