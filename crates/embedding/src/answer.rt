@@ -90,7 +90,7 @@ pub(crate) fn answer(
 }
 
 // A report about a process with a number under 8.
-pub(crate) fn hear(
+pub(crate) fn report_process(
     image: &mut [u8],
     memory: &mut [u8],
     process: u8,

@@ -1,6 +1,6 @@
 // The exported functions.
 use crate::answer::answer;
-use crate::answer::hear;
+use crate::answer::report_process;
 use crate::lent::lent_number;
 use crate::result::minus;
 use format::Reading;
@@ -103,7 +103,7 @@ pub extern "C" fn palustrode_report(
     if away != 0 {
         return minus(away);
     }
-    hear(
+    report_process(
         state,
         memory,
         process,

@@ -14,7 +14,7 @@ use Rattle.rules.specs.Tests.{State, recordOf, noRoom, unsound, badReport, repo
 use Rattle.rules.specs.Step.{Answer, Stepped, answers, localOf, put, told, notified, noted}
 use Rattle.rules.proofs.NumberLaws.{orElse}
 use Rattle.rules.proofs.StateLaws.{put-same}
-use Rattle.service.specs.At.{reportAway, heardNumber, noticeOr, reportBy, reportAt}
+use Rattle.service.specs.At.{reportAway, reportNumberAt, noticeOr, reportBy, reportAt}
 use Rattle.gateway.specs.Stage.{lentNumber}
 
 staged : (a b c d e f : Bool)
@@ -34,8 +34,8 @@ either true x y s = refl
 either false x y s = refl
 
 module _ (s : State) (p kind reason : ℕ) (words buffer : List ℕ) where
-  stages : reportNumber s p kind reason buffer ≡ orElse (lentNumber s buffer) (orElse (reportAway p kind reason) (heardNumber kind (recordOf s p)))
-  unfolding reportNumber lentNumber reportAway heardNumber firstFailing
+  stages : reportNumber s p kind reason buffer ≡ orElse (lentNumber s buffer) (orElse (reportAway p kind reason) (reportNumberAt kind (recordOf s p)))
+  unfolding reportNumber lentNumber reportAway reportNumberAt firstFailing
   stages = staged (noRoom (s .memory) buffer) (unsound s) (badReport kind reason) (ltb p 8) (recordOf s p .there) (not (accepts kind (recordOf s p .run)))
 
   refused-by : (n : ℕ) → reportNumber s p kind reason buffer ≡ n → (n ≡ 0 → ⊥) → noted p kind reason words buffer s ≡ answers (Refused n) buffer s
@@ -58,7 +58,7 @@ module _ (s : State) (p kind reason : ℕ) (words buffer : List ℕ) where
       unfolding reportAway
       report-low = ltb-true p 8 (not-false _ (first-passes 6 _ _ (rest-passes 13 _ _ near)))
 
-      by-number : (k : ℕ) → heardNumber kind (recordOf s p) ≡ k
+      by-number : (k : ℕ) → reportNumberAt kind (recordOf s p) ≡ k
           → noted p kind reason words buffer s ≡ record { answer = reportBy k p kind reason words buffer (localOf s p) .answer; after = put p (reportBy k p kind reason words buffer (localOf s p) .left) s }
       unfolding noted notified noticeOr reportBy told
       by-number zero e = rw (stages, fit, near, e) (either (not (eqb (recordOf s p .host) 0) && not (passes kind (recorded words (localOf s p) .process))) _ _ _)
@@ -66,4 +66,4 @@ module _ (s : State) (p kind reason : ℕ) (words buffer : List ℕ) where
 
       pub report-heard : noted p kind reason words buffer s ≡ record { answer = reportAt p kind reason words buffer (localOf s p) .answer; after = put p (reportAt p kind reason words buffer (localOf s p) .left) s }
       unfolding reportAt
-      report-heard = by-number (heardNumber kind (recordOf s p)) refl
+      report-heard = by-number (reportNumberAt kind (recordOf s p)) refl

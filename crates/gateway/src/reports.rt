@@ -13,7 +13,7 @@ ghost use Rattle.service.specs.At.{reportAway};
 ghost use Rattle.gateway.specs.Stage.{lentNumber};
 
 // A report about a process with a number under 8.
-fn hear(
+fn report_process(
     state: Gateway,
     memory: &mut [u8],
     process: u8,
@@ -79,5 +79,5 @@ pub fn report(
             state: state,
         };
     }
-    hear(state, memory, process, kind, reason, words, notice)
+    report_process(state, memory, process, kind, reason, words, notice)
 }

@@ -47,7 +47,7 @@ fn write_the_longest_string(arg2: u16) {
     write_whole(255, 4, 255, arg2, &string);
 }
 
-pub fn show_writer() {
+pub(crate) fn show_writer() {
     show::text(
         b"\nWhat the desk's writer is given, and what it writes or the number of the first test that fails:\n",
     );
@@ -67,7 +67,7 @@ fn write_strings() {
     write_the_longest_string(256);
 }
 
-pub fn show_request_reader() {
+pub(crate) fn show_request_reader() {
     show::text(b"\nWhat the gateway reads of some messages:\n");
     read_a_long_message();
     request_lengths_and_order();
@@ -116,7 +116,7 @@ fn request_strings() {
     show::request(b"\x00\x05\xff\x00\x04\xc8\xff\xff\x00\x01a");
 }
 
-pub fn show_answer_reader() {
+pub(crate) fn show_answer_reader() {
     show::text(b"\nWhat the desk reads of some messages:\n");
     answer_lengths_and_hosts();
     answer_codes();

@@ -4,11 +4,11 @@ use format::Outcome;
 use format::Reading;
 use libc::STDOUT_FILENO;
 
-pub fn text(bytes: &[u8]) {
+pub(crate) fn text(bytes: &[u8]) {
     io::write_all(STDOUT_FILENO, bytes);
 }
 
-pub fn number(n: u64) {
+pub(crate) fn number(n: u64) {
     io::print_decimal(STDOUT_FILENO, n);
 }
 
@@ -18,7 +18,7 @@ fn pair(byte: u8) {
     io::print_hex(STDOUT_FILENO, byte as u64, 2);
 }
 
-pub fn hex(bytes: &[u8]) {
+pub(crate) fn hex(bytes: &[u8]) {
     let mut i = 0;
     while i < bytes.len() {
         pair(bytes[i]);
@@ -26,12 +26,12 @@ pub fn hex(bytes: &[u8]) {
     }
 }
 
-pub fn field(name: &[u8], value: u64) {
+pub(crate) fn field(name: &[u8], value: u64) {
     text(name);
     number(value);
 }
 
-pub fn fields(h: Header) {
+pub(crate) fn fields(h: Header) {
     field(b" HOST ", h.host as u64);
     field(b" CMD ", h.cmd as u64);
     field(b" PID ", h.pid as u64);
@@ -61,19 +61,19 @@ fn reading(found: Reading, message: &[u8]) {
 }
 
 // What the gateway reads of a message.
-pub fn read_request(message: &[u8]) {
+pub(crate) fn read_request(message: &[u8]) {
     reading(message::read_request(message), message);
 }
 
 // A message, and what the gateway reads of it.
-pub fn request(message: &[u8]) {
+pub(crate) fn request(message: &[u8]) {
     hex(message);
     text(b"\n");
     read_request(message);
 }
 
 // A message, and what the desk reads of it.
-pub fn answer(message: &[u8]) {
+pub(crate) fn answer(message: &[u8]) {
     hex(message);
     text(b"\n");
     reading(message::read_answer(message), message);
@@ -85,7 +85,7 @@ fn refusal(number: u8) {
 }
 
 // A request that was written into a buffer, or its number.
-pub fn written_request(written: Outcome, buffer: &[u8]) {
+pub(crate) fn written_request(written: Outcome, buffer: &[u8]) {
     match written {
         Outcome::Granted(n) => request(front(buffer, n)),
         Outcome::Refused(n) => refusal(n),
@@ -93,7 +93,7 @@ pub fn written_request(written: Outcome, buffer: &[u8]) {
 }
 
 // An answer that was written into a buffer, or its number.
-pub fn written_answer(written: Outcome, buffer: &[u8]) {
+pub(crate) fn written_answer(written: Outcome, buffer: &[u8]) {
     match written {
         Outcome::Granted(n) => answer(front(buffer, n)),
         Outcome::Refused(n) => refusal(n),

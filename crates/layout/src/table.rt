@@ -1,10 +1,10 @@
-// The table of op codes, as the head of the message crate has it.
+// The table of op codes, as the head of the crate format has it.
 use crate::show;
 use format::Carried;
 use format::Form;
 use format::Found;
 
-pub fn show_table() {
+pub(crate) fn show_table() {
     show::text(b"CMD  request              reply\n");
     rows();
     show::text(b"CAN'T: CMD + 128, the request's fields and no string; none for NOP.\n");

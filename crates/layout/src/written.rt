@@ -8,7 +8,7 @@ use format::Header;
 use format::Outcome;
 
 // Of each op code the request, the reply that grants it and the CAN'T.
-pub fn show_ops() {
+pub(crate) fn show_ops() {
     show::text(
         b"\nOf each op code the request, the reply and the CAN'T, each with what the other end reads of it:\n",
     );
@@ -91,7 +91,7 @@ fn cant(h: Header) {
     show::written_answer(written, &buffer);
 }
 
-pub fn show_notices() {
+pub(crate) fn show_notices() {
     show::text(
         b"\nThe notices, then a reason that HALT does not carry and a kind that there is not:\n",
     );

@@ -80,9 +80,9 @@ reportBy zero p kind reason words buffer l = record {
 reportBy (suc n) p kind reason words buffer l = record { answer = record { outcome = Refused (suc n); buffer = buffer }; left = l }
 
 -- the tests 7 and 9 of a process whose number is under 8
-unfoldable pub heardNumber : ℕ → Process → ℕ
-heardNumber kind p = firstFailing (test 7 (not (p .there)) ∷ test 9 (not (accepts kind (p .run))) ∷ [])
+unfoldable pub reportNumberAt : ℕ → Process → ℕ
+reportNumberAt kind p = firstFailing (test 7 (not (p .there)) ∷ test 9 (not (accepts kind (p .run))) ∷ [])
 
 -- a report about process p, by its tests 7 and 9
 unfoldable pub reportAt : ℕ → ℕ → ℕ → List ℕ → List ℕ → Local → Left
-reportAt p kind reason words buffer l = reportBy (heardNumber kind (l .process)) p kind reason words buffer l
+reportAt p kind reason words buffer l = reportBy (reportNumberAt kind (l .process)) p kind reason words buffer l

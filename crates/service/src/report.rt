@@ -9,7 +9,7 @@ ghost use Prim.Native.Nat.{_≤_};
 ghost use lib.ListN.{length};
 ghost use Rattle.process.specs.Local.{local, Tested};
 ghost use Rattle.rules.specs.Tests.{badReport};
-ghost use Rattle.service.specs.At.{reportAway, heardNumber, noticeOr, reportAt};
+ghost use Rattle.service.specs.At.{reportAway, reportNumberAt, noticeOr, reportAt};
 
 // 14: the kind is over 3, or there is a reason with a kind that is not TRAP.
 fn bad_report(kind: u8, reason: u16) -> bool
@@ -38,8 +38,8 @@ pub fn report_away(process: u8, kind: u8, reason: u16) -> u8
 }
 
 // 7 where the process is not there, 9 where it does not accept the report, or 0.
-fn heard_number(p: Process, kind: u8) -> u8
-    ensures { λ r. ⌜ r ≡ heardNumber kind p ⌝ }
+fn report_number_at(p: Process, kind: u8) -> u8
+    ensures { λ r. ⌜ r ≡ reportNumberAt kind p ⌝ }
 {
     if !p.there {
         return 7;
@@ -93,7 +93,7 @@ pub fn report_at(
     ensures { λ _. ⌜ now (bytes .exit) ≡ reportAt process kind reason words (now (notice .entry)) (local p (now (bytes .entry))) .left .bytes ⌝ }
     ensures { λ _. ⌜ now (notice .exit) ≡ reportAt process kind reason words (now (notice .entry)) (local p (now (bytes .entry))) .answer .buffer ⌝ }
 {
-    let number = heard_number(p, kind);
+    let number = report_number_at(p, kind);
     if number != 0 {
         return Served {
             outcome: Outcome::Refused(number),

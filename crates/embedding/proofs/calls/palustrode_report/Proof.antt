@@ -83,8 +83,8 @@ returns-3 c =
 words-of-requires : tie.Need-words-of-requires
 words-of-requires c κs = c .before .before .before .before .before .before .before .before .before .if1 .left
 
-hear-requires : tie.Need-hear-requires
-hear-requires c κs =
+report-process-requires : tie.Need-report-process-requires
+report-process-requires c κs =
     let e = c .before .before .before .before in
     let r = e .before in
     let i = r .before in
@@ -110,8 +110,8 @@ returns-4 c =
     let j = n .before .before .before .before in
     let a = j .before .before .before .before .before .args in
     let zero = sym (n .lent-number .ensures) ∙ i .if2 .left in
-    let same : toZ w64 (ofZ w64 (v .hear .result)) ≡ v .hear .result = search needs in
-    let x = rw (w .words-of .ensures) at (v .hear .ensures) in
+    let same : toZ w64 (ofZ w64 (v .report-process .result)) ≡ v .report-process .result = search needs in
+    let x = rw (w .words-of .ensures) at (v .report-process .ensures) in
     rw (report-fit (a .state .now) (a .memory .now) (a .notice .now) (a .process) (a .kind) (a .reason) (a .words .now) (j .if1 .left) zero) (same ∙ x .0, x .1)
 
 pub palustrode-report-spec : {M : Type 1} → statement M
@@ -133,7 +133,7 @@ palustrode-report-spec =
     same-length-6
     returns-3
     words-of-requires
-    hear-requires
+    report-process-requires
     same-length-7
     same-length-8
     same-length-9

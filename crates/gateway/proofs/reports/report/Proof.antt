@@ -37,8 +37,8 @@ returns-2 c =
     let a = i .before .before .before .before .before .before .args in
     rw (report-away (lent (a .state) (a .memory .now)) (a .process) (a .kind) (a .reason) (a .words) (a .notice .now) (sym (i .before .lent-number .ensures) ∙ i .if1 .left) _ (n .report-away .ensures) (c .if2 .taken)) (refl, (refl, (refl, refl)))
 
-hear-requires : tie.Need-hear-requires
-hear-requires c κs =
+report-process-requires : tie.Need-report-process-requires
+report-process-requires c κs =
     let j = c .before .before in
     let i = j .before .before in
     (sym (i .before .lent-number .ensures) ∙ i .if1 .left, sym (j .before .report-away .ensures) ∙ j .if2 .left)
@@ -50,7 +50,7 @@ same-length-6 : tie.Need-same-length-6
 same-length-6 c = search needs
 
 returns-3 : tie.Need-returns-3
-returns-3 c = c .before .before .before .before .hear .ensures
+returns-3 c = c .before .before .before .before .report-process .ensures
 
 pub report-spec : {M : Type 1} → statement M
 report-spec =
@@ -64,7 +64,7 @@ report-spec =
     same-length-3
     same-length-4
     returns-2
-    hear-requires
+    report-process-requires
     same-length-5
     same-length-6
     returns-3)

@@ -7,15 +7,15 @@ use borrow.Author.Needs.{needs}
 use Rattle.service.proofs.report.report_at.Statement.{statement}
 use Rattle.service.proofs.report.report_at.Tie as tie
 
-heard-number-requires : tie.Need-heard-number-requires
-heard-number-requires c κs = search needs
+report-number-at-requires : tie.Need-report-number-at-requires
+report-number-at-requires c κs = search needs
 
 returns : tie.Need-returns
 unfolding reportAt
 returns c =
     let n = c .before in
     let a = n .before .before .before .args in
-    rw (← n .heard-number .ensures, report-refused _ (c .if1 .taken) (a .process) (a .kind) (a .reason) (a .words) (a .notice .now) (local (a .p) (a .bytes .now)))
+    rw (← n .report-number-at .ensures, report-refused _ (c .if1 .taken) (a .process) (a .kind) (a .reason) (a .words) (a .notice .now) (local (a .p) (a .bytes .now)))
     (refl, (refl, (refl, refl)))
 
 report-requires : tie.Need-report-requires
@@ -36,14 +36,14 @@ returns-2 c =
     let n = c .before .before in
     let r = n .before .before .before .before .before in
     let i = r .before .before in
-    rw (sym (i .before .heard-number .ensures) ∙ i .if1 .left, ← r .report .ensures .1 .0)
+    rw (sym (i .before .report-number-at .ensures) ∙ i .if1 .left, ← r .report .ensures .1 .0)
     (n .notify .ensures .0, (r .report .ensures .0, (r .report .ensures .1 .1, n .notify .ensures .1)))
 
 pub report-at-spec : {M : Type 1} → statement M
 report-at-spec =
     tie.close
     (tie.spec
-    heard-number-requires
+    report-number-at-requires
     returns
     report-requires
     notify-requires

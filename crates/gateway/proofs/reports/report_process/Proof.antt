@@ -1,4 +1,4 @@
--- `gateway::reports::hear` meets its contract: that of the report at its process, in the slot of the process. Assumes nothing.
+-- `gateway::reports::report_process` meets its contract: that of the report at its process, in the slot of the process. Assumes nothing.
 use mathlib.Core.Path.{ap, _∙_}
 use native.Mathlib.Omega.{arith}
 use Rattle.process.specs.declared.record.Process.{Process}
@@ -10,8 +10,8 @@ use Rattle.gateway.proofs.StageLaws.{lent-fit}
 use Rattle.gateway.proofs.PartLaws.{slot-back, tested-part, local-part}
 use Rattle.gateway.proofs.ReportLaws.{report-low, report-good, report-heard}
 use borrow.Author.Needs.{needs}
-use Rattle.gateway.proofs.reports.hear.Statement.{statement}
-use Rattle.gateway.proofs.reports.hear.Tie as tie
+use Rattle.gateway.proofs.reports.report_process.Statement.{statement}
+use Rattle.gateway.proofs.reports.report_process.Tie as tie
 
 process-requires : tie.Need-process-requires
 process-requires c κs =
@@ -99,8 +99,8 @@ returns c =
       ),
     )
 
-pub hear-spec : {M : Type 1} → statement M
-hear-spec =
+pub report-process-spec : {M : Type 1} → statement M
+report-process-spec =
     tie.close
     (tie.spec
     process-requires

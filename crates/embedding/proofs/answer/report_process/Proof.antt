@@ -1,4 +1,4 @@
--- `embedding::answer::hear` meets its contract: that of the report at its process, in the slot and the bytes of the process. Assumes nothing.
+-- `embedding::answer::report_process` meets its contract: that of the report at its process, in the slot and the bytes of the process. Assumes nothing.
 use mathlib.Core.Path.{_≡_, ap, _∙_}
 use native.Mathlib.Omega.{arith}
 use lib.ListN.{length}
@@ -17,8 +17,8 @@ use Rattle.embedding.proofs.FinishLaws.{changed-bytes}
 use mir.Syntax.{w64}
 use mir.Val.{toZ, ofZ}
 use borrow.Author.Needs.{needs}
-use Rattle.embedding.proofs.answer.hear.Statement.{statement}
-use Rattle.embedding.proofs.answer.hear.Tie as tie
+use Rattle.embedding.proofs.answer.report_process.Statement.{statement}
+use Rattle.embedding.proofs.answer.report_process.Tie as tie
 
 read-process-at-requires : tie.Need-read-process-at-requires
 read-process-at-requires c κs =
@@ -137,8 +137,8 @@ returns c =
       ),
     )
 
-pub hear-spec : {M : Type 1} → statement M
-hear-spec =
+pub report-process-spec : {M : Type 1} → statement M
+report-process-spec =
     tie.close
     (tie.spec
     read-process-at-requires
