@@ -81,7 +81,7 @@ fn is_full(phase: Phase) -> bool
 }
 
 // request: the pairs were read as they came.
-pub fn say_request(
+pub(crate) fn say_request(
     state: Gateway,
     scan: Scan,
     memory: &mut [u8],
