@@ -4,7 +4,6 @@ use mathlib.Core.Bool.{Bool, true, false, cond}
 use mathlib.Core.List.{List, [], _∷_, _++_, append-assoc, append-nil}
 use mathlib.Core.Logic.{_⊎_, ⊎-elim}
 use Prim.Native.Nat.{ℕ, suc, _+_, _-_, _≤_, _<_}
-use native.Mathlib.Numerals.{add-one}
 use native.Mathlib.Omega.{arith}
 use borrow.Author.Tests.{ltb-true, ltb-false, lt-ltb, le-ltb}
 use lib.ListN.{length, take, drop, length-append, length-drop, take-append-drop}
@@ -16,7 +15,6 @@ use Rattle.lists.proofs.Buffer.{take-overlay, laid-part}
 use Rattle.lines.specs.Scan.{isNewline}
 use Rattle.recording.specs.declared.call.Said.{Said}
 use Rattle.recording.specs.declared.heard.Heard.{Heard}
-use Rattle.recording.specs.Meaning.{Prints}
 use Rattle.recording.specs.Heard.{Room, Kept}
 use Rattle.recording.specs.Line.{Does}
 use Rattle.console.specs.declared.language.Language.{Language}

@@ -9,7 +9,6 @@ use borrow.Author.Tests.{eq-eqb, ne-eqb}
 use lib.ListN.{length, take, drop, getD, drop-of-length-le}
 use lib.Seq.{drop-cons}
 use lib.Dec.{eqb}
-use Rattle.recording.specs.declared.command.Command.{Command}
 use Rattle.recording.specs.Command.{begins, startWord, requestWord, reportWord, storeWord, memoryWord, processWord, commandOf}
 
 pub begins-short : (text line : List ℕ) → length line < length text → false ≡ begins text line

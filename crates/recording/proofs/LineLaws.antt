@@ -1,13 +1,13 @@
 -- Laws of whole lines: what is kept of a line says all that it says. Assumes nothing.
 use mathlib.Core.Path.{_≡_, refl, sym, ap, _∙_}
-use mathlib.Core.Bool.{Bool, true, false, cond, _&&_, _||_, true≢false}
-use mathlib.Core.List.{List, [], _∷_}
+use mathlib.Core.Bool.{Bool, true, false, cond, _&&_, true≢false}
+use mathlib.Core.List.{List}
 use Prim.Native.Nat.{ℕ, zero, suc, _+_, _-_, _*_, _≤_, _<_, min}
 use native.Mathlib.Omega.{arith}
 use borrow.Author.Tests.{leb-true, leb-false, lt-ltb, le-ltb, ne-eqb}
 use lib.ListN.{length, take, drop, getD, length-take}
 use lib.Seq.{take-all}
-use lib.Dec.{eqb, leb, ltb}
+use lib.Dec.{eqb, leb}
 use Rattle.lists.proofs.Bool.{&&-left, &&-right}
 use Rattle.message.specs.declared.outcome.Outcome.the-variants.{Refused}
 use Rattle.message.specs.Outcome.{firstFailing}
@@ -33,7 +33,7 @@ use Rattle.recording.specs.Roll.{empty, rolled}
 use Rattle.recording.specs.Words.{lastOf, reasonIn, reportIn}
 use Rattle.recording.specs.Meaning.{question, blank, answerText, full, requestText, requestState, requestMemory, storeP, storeAddress, storeByte, storeText, storeMemory, memoryP, memoryAddress, memoryCount, memoryText, processText, reportText, reportState, reportMemory, orQuestion}
 use Rattle.recording.specs.Command.{commandOf}
-use Rattle.recording.specs.Heard.{Held, Scanned, Kept}
+use Rattle.recording.specs.Heard.{Scanned, Kept}
 use Rattle.recording.specs.Line.{Effect, effect, effectOf, lineEffect, benchEffect, Does}
 use Rattle.recording.proofs.MeaningLaws.{store-wrong, store-asks, memory-asks, process-asks, report-wrong}
 use Rattle.recording.proofs.CommandLaws.{command-take}

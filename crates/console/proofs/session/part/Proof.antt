@@ -1,5 +1,5 @@
 -- `console::session::part` meets its contract, by whether the line ends. Assumes nothing.
-use mathlib.Core.Path.{_≡_, _∙_}
+use mathlib.Core.Path.{_∙_}
 use borrow.Author.Tests.{not-true, not-false}
 use borrow.Author.Needs.{needs}
 use Rattle.console.specs.Talk.{longer, partOf}

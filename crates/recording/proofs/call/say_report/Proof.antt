@@ -1,5 +1,5 @@
 -- `recording::call::say_report` meets its contract, by whether the numbers are right. Assumes nothing.
-use mathlib.Core.Path.{_≡_, refl, sym, ap, _∙_}
+use mathlib.Core.Path.{_∙_}
 use borrow.Author.Tests.{not-true, not-false}
 use borrow.Author.Needs.{needs}
 use Rattle.recording.specs.Meaning.{question, toldText, reportText}

@@ -1,5 +1,4 @@
 -- `recording::heard::Heard::new` meets its contract. Assumes nothing.
-use mathlib.Core.Path.{refl}
 use borrow.Author.Needs.{needs}
 use Rattle.recording.specs.Roll.{rolled}
 use Rattle.recording.proofs.HeardLaws.{held-none, scanned-none}

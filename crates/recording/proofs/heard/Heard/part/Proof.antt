@@ -4,8 +4,7 @@ use mathlib.Core.List.{List}
 use Prim.Native.Nat.{ℕ, _≤_}
 use native.Mathlib.Omega.{arith}
 use borrow.Author.Needs.{needs}
-use lib.ListN.{length, take, drop}
-use Rattle.lines.specs.Scan.{bytesOf}
+use lib.ListN.{length}
 use Rattle.lines.proofs.ScanLaws.{length-kept}
 use Rattle.recording.specs.Roll.{empty}
 use Rattle.recording.proofs.HeardLaws.{pairs-more, names-more}
