@@ -3,12 +3,12 @@ use mathlib.Core.Path.{_≡_, refl, sym, ap, _∙_}
 use mathlib.Core.Bool.{Bool, true, false, cond}
 use mathlib.Core.List.{List, [], _∷_, _++_, append-assoc, append-nil}
 use mathlib.Core.Logic.{_⊎_, ⊎-elim}
-use Prim.Native.Nat.{ℕ, suc, _+_, _-_, _≤_, _<_}
+use Prim.Native.Nat.{ℕ, suc, _+_, _-_, _≤_, _<_, min}
 use native.Mathlib.Omega.{arith}
-use borrow.Author.Tests.{ltb-true, ltb-false, lt-ltb, le-ltb}
-use lib.ListN.{length, take, drop, length-append, length-drop, take-append-drop}
+use borrow.Author.Tests.{ltb-true, ltb-false, lt-ltb, le-ltb, eq-eqb, ne-eqb}
+use lib.ListN.{length, take, drop, length-append, length-take, length-drop, take-append-drop}
 use lib.Seq.{take-add, length-take-le}
-use lib.Dec.{ltb}
+use lib.Dec.{eqb, ltb}
 use Rattle.lists.specs.Buffer.{overlay}
 use Rattle.lists.specs.First.{first}
 use Rattle.lists.proofs.Buffer.{take-overlay, laid-part}
@@ -149,6 +149,16 @@ speaks-longer s at more text line message line2 message2 A f m out t sp = record
 
 pub speaks-as : (s : Session) (line message m out : List ℕ) (t u : Talk) → t ≡ u → Speaks s line message m out t → Speaks s line message m out u
 speaks-as s line message m out t u e sp = rw e at sp
+
+-- a line of which nothing is kept is empty
+pub nothing-kept : (s : Session) (line message m out : List ℕ) (t : Talk) → Speaks s line message m out t
+    → (s .heard .len ≡ 0 → eqb (length (t .line)) 0 ≡ true) × ((s .heard .len ≡ 0 → ⊥) → eqb (length (t .line)) 0 ≡ false)
+nothing-kept s line message m out t sp =
+    let size : s .heard .len ≡ min (length line) (length (t .line)) = sp .kept .text .size ∙ length-take (length line) (t .line) in
+    let room = sp .kept .room .call in (
+      λ none. eq-eqb (length (t .line)) 0 (omega (arith, size, room, none)),
+      λ some. ne-eqb (length (t .line)) 0 (λ none. some (omega (arith, size, none))),
+    )
 
 -- what was held back is written out
 speaks-flushed : (s : Session) (line message m out : List ℕ) (t : Talk) → Speaks s line message m out t

@@ -3,7 +3,8 @@ use mathlib.Core.Path.{_≡_}
 use mathlib.Core.Bool.{Bool, true, false, cond}
 use mathlib.Core.List.{List, [], _∷_, _++_}
 use Prim.Native.Nat.{ℕ}
-use lib.ListN.{take}
+use lib.ListN.{length, take}
+use lib.Dec.{eqb}
 use Rattle.state.specs.declared.gateway.Gateway.{Gateway}
 use Rattle.state.specs.Gateway.{freshStart}
 use Rattle.lines.specs.Scan.{isNewline}
@@ -59,6 +60,10 @@ partOf l ends more t = cond ends (ended l (longer more t)) (longer more t)
 unfoldable pub talked : Language → Talk → List ℕ → Talk
 talked l t [] = t
 talked l t (c ∷ cs) = talked l (cond (isNewline c) (ended l t) (longer (c ∷ []) t)) cs
+
+-- the text is at its end: a last line needs no newline, and an empty one is none
+unfoldable pub finished : Language → Talk → Talk
+finished l t = cond (eqb (length (t .line)) 0) t (ended l t)
 
 -- a list is the end of another
 pub record Ends (end whole : List ℕ) : Type 0 where

@@ -16,7 +16,7 @@ ghost use lib.ListN.{length};
 ghost use Rattle.io.specs.Counts.{Counts};
 ghost use Rattle.recording.specs.Heard.{Room, Kept};
 ghost use Rattle.recording.specs.Line.{Does};
-ghost use Rattle.console.specs.Talk.{Talk, pairsAt, meaning, opening, longer, ended, partOf, talked, Speaks, Followed};
+ghost use Rattle.console.specs.Talk.{Talk, pairsAt, meaning, opening, longer, ended, partOf, talked, finished, Speaks, Followed};
 
 // The language; the state; what was read of a line; and how many bytes of text are held back.
 pub struct Session {
@@ -206,7 +206,26 @@ fn converse(
     session
 }
 
-// All of standard input; a last line needs no newline.
+// The text is at its end; a last line needs no newline.
+fn finish(
+    session: Session,
+    memory: &mut [u8],
+    line: &[u8],
+    message: &[u8],
+    out: &mut [u8],
+) -> Session
+    requires { ⌜ length (now memory) ≡ 32768 ⌝ }
+    requires { ⌜ 16384 ≤ length (now out) ⌝ }
+    ensures { λ r. ⌜ ((t : Talk) → Speaks session (now (line .entry)) (now (message .entry)) (now (memory .entry)) (now (out .entry)) t → Speaks r (now (line .entry)) (now (message .entry)) (now (memory .exit)) (now (out .exit)) (finished (session .language) t)) ⌝ }
+{
+    let heard = session.heard;
+    if heard.len == 0 {
+        return session;
+    }
+    end(session, memory, line, message, out)
+}
+
+// All of standard input.
 fn run(language: Language) {
     let mut memory = [0u8; 32768];
     let mut line = [0u8; 1024];
@@ -221,11 +240,8 @@ fn run(language: Language) {
         &mut block,
         &mut out,
     );
-    let heard = session.heard;
-    if heard.len != 0 {
-        let last = end(session, &mut memory, &line, &message, &mut out);
-        flush(last.held, &out);
-    }
+    let last = finish(session, &mut memory, &line, &message, &mut out);
+    flush(last.held, &out);
 }
 
 // Each line is a request.
