@@ -1,4 +1,6 @@
 // The two languages.
+ghost use mathlib.Core.Path.{_≡_};
+ghost use Rattle.console.specs.Talk.{thereAt, pairsAt};
 
 // What the lines are.
 pub enum Language {
@@ -10,7 +12,9 @@ pub enum Language {
 
 impl Language {
     // The processes that are there at first.
-    pub(crate) fn there(self) -> [bool; 8] {
+    pub(crate) fn there(self) -> [bool; 8]
+        ensures { λ r. ⌜ r ≡ thereAt self ⌝ }
+    {
         match self {
             Language::Bench => [false, false, true, false, false, false, false, false],
             Language::Recording => [false; 8],
@@ -18,7 +22,9 @@ impl Language {
     }
 
     // Where in a line the pairs of a request begin: in a recording behind the word and a blank.
-    pub(crate) fn pairs_at(self) -> usize {
+    pub(crate) fn pairs_at(self) -> usize
+        ensures { λ r. ⌜ r ≡ pairsAt self ⌝ }
+    {
         match self {
             Language::Bench => 0,
             Language::Recording => 8,

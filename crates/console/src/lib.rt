@@ -3,7 +3,6 @@
 //
 // What a person types is answered line by line; what comes through a pipe is read and written in blocks.
 mod language;
-mod line;
 mod session;
 
 pub use session::bench;

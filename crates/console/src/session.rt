@@ -1,43 +1,42 @@
 // The lines of standard input, one after another.
 use crate::language::Language;
-use crate::line::before;
-use crate::line::keep;
 use gateway::fresh_start;
-use lines::Scan;
 use lines::line_end;
 use lines::within;
-use recording::Roll;
+use recording::Heard;
 use recording::Said;
 use recording::say_line;
-use recording::say_request;
+use recording::say_pairs;
 use state::Gateway;
 ghost use mathlib.Core.Path.{_≡_};
-ghost use Prim.Native.Nat.{_+_, _≤_};
+ghost use mathlib.Core.List.{List};
+ghost use mathlib.Core.Logic.{_⊎_};
+ghost use Prim.Native.Nat.{ℕ, _+_, _≤_};
 ghost use lib.ListN.{length};
 ghost use Rattle.io.specs.Counts.{Counts};
+ghost use Rattle.recording.specs.Heard.{Room, Kept};
+ghost use Rattle.recording.specs.Line.{Does};
+ghost use Rattle.console.specs.Talk.{Talk, pairsAt, meaning, opening, longer, ended, partOf, talked, finished, Speaks, Followed};
 
-// The language; the state; how much of a line was read, at most one byte more than is kept; the pairs of its request; the processes that it
-// names if it is a start; and how many bytes of text are held back.
+// The language; the state; what was read of a line; and how many bytes of text are held back.
 pub struct Session {
     pub language: Language,
     pub state: Gateway,
-    pub len: usize,
-    pub scan: Scan,
-    pub roll: Roll,
+    pub heard: Heard,
     pub held: usize,
 }
 
 // Nothing was read yet.
-fn begin(language: Language) -> Session {
+fn begin(language: Language) -> Session
+    ensures { λ r. ⌜ r .language ≡ language ⌝ }
+    ensures { λ r. ⌜ ((line message m out : List ℕ) → Room 8 line message → Speaks r line message m out (opening language m)) ⌝ }
+{
     let state = fresh_start(language.there());
-    let scan = Scan::new();
-    let roll = Roll::new();
+    let heard = Heard::new();
     Session {
         language: language,
         state: state,
-        len: 0,
-        scan: scan,
-        roll: roll,
+        heard: heard,
         held: 0,
     }
 }
@@ -52,6 +51,7 @@ fn flush(held: usize, out: &[u8]) {
 fn make_room(held: usize, out: &[u8]) -> usize
     requires { ⌜ 16384 ≤ length (now out) ⌝ }
     ensures { λ r. ⌜ r + 16384 ≤ length (now (out .entry)) ⌝ }
+    ensures { λ r. ⌜ (r ≡ held) ⊎ (r ≡ 0) ⌝ }
 {
     if held <= out.len() - 16384 {
         return held;
@@ -65,14 +65,14 @@ fn say(session: Session, memory: &mut [u8], line: &[u8], message: &[u8], out: &m
     requires { ⌜ length (now memory) ≡ 32768 ⌝ }
     requires { ⌜ 16384 ≤ length (now out) ⌝ }
     ensures { λ r. ⌜ r .len ≤ length (now (out .entry)) ⌝ }
+    ensures { λ r. ⌜ ((whole : List ℕ) → Kept (pairsAt (session .language)) whole (session .heard) (now (line .entry)) (now (message .entry)) → Does (meaning (session .language) whole (session .state) (now (memory .entry))) r (now (memory .exit)) (now (out .entry)) (now (out .exit))) ⌝ }
 {
     let language = session.language;
     let state = session.state;
-    let scan = session.scan;
-    let roll = session.roll;
+    let heard = session.heard;
     match language {
-        Language::Bench => say_request(state, scan, memory, message, out),
-        Language::Recording => say_line(state, session.len, scan, roll, memory, line, message, out),
+        Language::Bench => say_pairs(heard, state, memory, message, out),
+        Language::Recording => say_line(heard, state, memory, line, message, out),
     }
 }
 
@@ -80,41 +80,37 @@ fn say(session: Session, memory: &mut [u8], line: &[u8], message: &[u8], out: &m
 fn end(session: Session, memory: &mut [u8], line: &[u8], message: &[u8], out: &mut [u8]) -> Session
     requires { ⌜ length (now memory) ≡ 32768 ⌝ }
     requires { ⌜ 16384 ≤ length (now out) ⌝ }
+    ensures { λ r. ⌜ r .language ≡ session .language ⌝ }
+    ensures { λ r. ⌜ ((t : Talk) → Speaks session (now (line .entry)) (now (message .entry)) (now (memory .entry)) (now (out .entry)) t → Speaks r (now (line .entry)) (now (message .entry)) (now (memory .exit)) (now (out .exit)) (ended (session .language) t)) ⌝ }
 {
     let language = session.language;
     let held = make_room(session.held, out);
     let said = say(session, memory, line, message, &mut out[held..]);
     let behind = held + said.len;
     let next = said.state;
-    let scan = Scan::new();
-    let roll = Roll::new();
+    let heard = Heard::new();
     Session {
         language: language,
         state: next,
-        len: 0,
-        scan: scan,
-        roll: roll,
+        heard: heard,
         held: behind,
     }
 }
 
 // A part of a line.
-fn read_part(session: Session, text: &[u8], line: &mut [u8], message: &mut [u8]) -> Session {
+fn read_part(session: Session, text: &[u8], line: &mut [u8], message: &mut [u8]) -> Session
+    ensures { λ r. ⌜ r .language ≡ session .language ⌝ }
+    ensures { λ r. ⌜ ((m out : List ℕ) (t : Talk) → Speaks session (now (line .entry)) (now (message .entry)) m out t → Speaks r (now (line .exit)) (now (message .exit)) m out (longer (now (text .entry)) t)) ⌝ }
+{
     let language = session.language;
     let state = session.state;
-    let scan = session.scan;
-    let len = session.len;
-    let roll = session.roll;
-    let skip = before(text, len, language.pairs_at());
-    let pairs = scan.part(&text[skip..], message);
-    let word = before(text, len, 5);
-    let named = roll.part(&text[word..]);
+    let heard = session.heard;
+    let at = language.pairs_at();
+    let more = heard.part(at, text, line, message);
     Session {
         language: language,
         state: state,
-        len: keep(text, len, line),
-        scan: pairs,
-        roll: named,
+        heard: more,
         held: session.held,
     }
 }
@@ -131,6 +127,8 @@ fn part(
 ) -> Session
     requires { ⌜ length (now memory) ≡ 32768 ⌝ }
     requires { ⌜ 16384 ≤ length (now out) ⌝ }
+    ensures { λ r. ⌜ r .language ≡ session .language ⌝ }
+    ensures { λ r. ⌜ ((t : Talk) → Speaks session (now (line .entry)) (now (message .entry)) (now (memory .entry)) (now (out .entry)) t → Speaks r (now (line .exit)) (now (message .exit)) (now (memory .exit)) (now (out .exit)) (partOf (session .language) ends (now (text .entry)) t)) ⌝ }
 {
     let next = read_part(session, text, line, message);
     if !ends {
@@ -150,6 +148,8 @@ fn feed(
 ) -> Session
     requires { ⌜ length (now memory) ≡ 32768 ⌝ }
     requires { ⌜ 16384 ≤ length (now out) ⌝ }
+    ensures { λ r. ⌜ r .language ≡ session .language ⌝ }
+    ensures { λ r. ⌜ ((t : Talk) → Speaks session (now (line .entry)) (now (message .entry)) (now (memory .entry)) (now (out .entry)) t → Speaks r (now (line .exit)) (now (message .exit)) (now (memory .exit)) (now (out .exit)) (talked (session .language) t (now (block .entry)))) ⌝ }
 {
     let mut now = session;
     let mut at = 0;
@@ -188,6 +188,8 @@ fn converse(
 ) -> Session
     requires { ⌜ length (now memory) ≡ 32768 ⌝ }
     requires { ⌜ 16384 ≤ length (now out) ⌝ }
+    requires { ⌜ Room 8 (now line) (now message) ⌝ }
+    ensures { λ r. ⌜ Followed language (opening language (now (memory .entry))) r (now (line .exit)) (now (message .exit)) (now (memory .exit)) (now (out .exit)) ⌝ }
 {
     let mut session = begin(language);
     let mut turns = 18446744073709551615u64;
@@ -204,7 +206,26 @@ fn converse(
     session
 }
 
-// All of standard input; a last line needs no newline.
+// The text is at its end; a last line needs no newline.
+fn finish(
+    session: Session,
+    memory: &mut [u8],
+    line: &[u8],
+    message: &[u8],
+    out: &mut [u8],
+) -> Session
+    requires { ⌜ length (now memory) ≡ 32768 ⌝ }
+    requires { ⌜ 16384 ≤ length (now out) ⌝ }
+    ensures { λ r. ⌜ ((t : Talk) → Speaks session (now (line .entry)) (now (message .entry)) (now (memory .entry)) (now (out .entry)) t → Speaks r (now (line .entry)) (now (message .entry)) (now (memory .exit)) (now (out .exit)) (finished (session .language) t)) ⌝ }
+{
+    let heard = session.heard;
+    if heard.len == 0 {
+        return session;
+    }
+    end(session, memory, line, message, out)
+}
+
+// All of standard input.
 fn run(language: Language) {
     let mut memory = [0u8; 32768];
     let mut line = [0u8; 1024];
@@ -219,10 +240,8 @@ fn run(language: Language) {
         &mut block,
         &mut out,
     );
-    if session.len != 0 {
-        let last = end(session, &mut memory, &line, &message, &mut out);
-        flush(last.held, &out);
-    }
+    let last = finish(session, &mut memory, &line, &message, &mut out);
+    flush(last.held, &out);
 }
 
 // Each line is a request.

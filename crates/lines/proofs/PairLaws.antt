@@ -204,7 +204,7 @@ read-is-written (c ∷ d ∷ x ∷ cs) e =
 
 -- ---- what is kept
 
-kept-rest : (bs xs buffer : List ℕ) → length xs ≤ length buffer
+pub kept-rest : (bs xs buffer : List ℕ) → length xs ≤ length buffer
     → (kept (length xs) bs (overlay xs buffer) ≡ overlay (take (length buffer) (xs ++ bs)) buffer)
     × (filled (length buffer) (length xs) bs ≡ length (take (length buffer) (xs ++ bs)))
 unfolding kept filled

@@ -1,7 +1,7 @@
 -- The statements that the contracts of theorems.rt carry.
 use mathlib.Core.Path.{_≡_}
 use mathlib.Core.List.{List, [], _∷_, _++_}
-use Prim.Native.Nat.{ℕ, _≤_}
+use Prim.Native.Nat.{ℕ}
 use lib.ListN.{length, take}
 use Rattle.lists.specs.Buffer.{Bytes}
 use Rattle.lines.specs.declared.scan.Phase.{Phase}

@@ -1,6 +1,5 @@
 // Reading a line of lower-case hex pairs parted by single blanks, in parts of any length.
 ghost use mathlib.Core.Path.{_≡_};
-ghost use Prim.Native.Nat.{_≤_};
 ghost use lib.ListN.{length};
 ghost use Rattle.lines.specs.Hex.{value};
 ghost use Rattle.lines.specs.Scan.{opened, next, made, after, bytesOf, kept, filled};

@@ -2,3 +2,6 @@
 pub mod WordsLaws
 pub mod RollLaws
 pub mod MeaningLaws
+pub mod CommandLaws
+pub mod HeardLaws
+pub mod LineLaws

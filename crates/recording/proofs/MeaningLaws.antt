@@ -1,23 +1,26 @@
 -- Laws of what lines mean. Assumes nothing.
 use mathlib.Core.Path.{_≡_, refl, sym, ap, _∙_}
-use mathlib.Core.Bool.{Bool, true, false, cond}
+use mathlib.Core.Bool.{Bool, true, false}
 use mathlib.Core.List.{List, [], _∷_, _++_}
-use Prim.Native.Nat.{ℕ, _+_, _-_, _*_, _≤_, _<_}
+use Prim.Native.Nat.{ℕ, _+_, _-_, _*_, _≤_, _<_, min}
 use native.Mathlib.Omega.{arith}
-use borrow.Author.Tests.{lt-ltb}
+use borrow.Author.Tests.{lt-ltb, leb-true, leb-false}
 use lib.ListN.{length, take, drop, set, replicate, length-drop, length-replicate, replicate-append-replicate, take-append-drop}
-use lib.Seq.{take-set-le, drop-set-add, take-set-lt, drop-set-lt, take-add, take-take, drop-drop, drop-at, length-take-le}
-use lib.Dec.{ltb}
+use lib.Seq.{take-set-le, drop-set-add, take-set-lt, drop-set-lt, take-add, take-take, take-all, drop-drop, drop-at, length-take-le}
+use lib.Dec.{leb}
 use Rattle.lists.specs.Buffer.{overlay}
 use Rattle.lists.proofs.Buffer.{overlay-snoc, overlay-all}
+use Rattle.format.specs.declared.outcome.Outcome.{Outcome}
+use Rattle.format.specs.Outcome.{numberOf}
 use Rattle.state.specs.declared.gateway.Gateway.{Gateway}
 use Rattle.state.specs.Gateway.{processAt, freshStart}
 use Rattle.state.specs.Slot.{startOf, slot, withSlot}
 use Rattle.state.proofs.SlotLaws.{startOf-is}
 use Rattle.rules.specs.Tests.{lent}
-use Rattle.rules.specs.Step.{noted, stored}
+use Rattle.rules.specs.Step.{Stepped, stored}
 use Rattle.rules.specs.Step.{put as putLocal}
-use Rattle.lines.specs.Hex.{pairsLine}
+use Rattle.lines.specs.declared.scan.Phase.{Phase}
+use Rattle.lines.specs.Hex.{answerLine, pairsLine}
 use Rattle.lines.specs.Scan.{Put}
 use Rattle.lines.proofs.PutLaws.{put-whole}
 use Rattle.decimal.specs.declared.number.Number.{Number}
@@ -26,7 +29,7 @@ use Rattle.display.specs.Line.{processLine}
 use Rattle.recording.specs.declared.roll.Roll.{Roll}
 use Rattle.recording.specs.Roll.{complete}
 use Rattle.recording.specs.Words.{processIn, kindIn, reasonIn, wordsOf, reportIn}
-use Rattle.recording.specs.Meaning.{Prints, question, storeP, storeAddress, storeByte, storeText, storeMemory, memoryLine, memoryP, memoryAddress, memoryCount, memoryText, processText, startText, startState, startMemory, reportState, reportMemory}
+use Rattle.recording.specs.Meaning.{Prints, question, storeP, storeAddress, storeByte, storeText, storeMemory, memoryLine, memoryP, memoryAddress, memoryCount, memoryText, processText, startText, startState, startMemory, answerText, asked, askedText, told, toldText, full, requestText, requestState, requestMemory, reportText, reportState, reportMemory}
 
 -- ---- text
 
@@ -177,18 +180,50 @@ zero-turn m i h =
 pub zero-all : (m : List ℕ) (i : ℕ) → i ≡ length m → overlay (zeros i) m ≡ zeros (length m)
 zero-all m i e = overlay-all (zeros i) m (omega (arith, length-replicate {A = ℕ} i 0, e)) ∙ ap zeros e
 
+-- ---- the answer of a call
+
+-- so many, or all where there are fewer
+pub take-within : (n : ℕ) (xs : List ℕ) → take (min n (length xs)) xs ≡ take n xs
+take-within n xs = go (leb n (length xs)) refl
+  where
+    go : (t : Bool) → leb n (length xs) ≡ t → take (min n (length xs)) xs ≡ take n xs
+    go true e = let k : min n (length xs) ≡ n = omega (arith, leb-true n (length xs) e) in rw k
+    go false e =
+        let few = leb-false n (length xs) e in
+        take-all (min n (length xs)) xs (omega (arith, few)) ∙ sym (take-all n xs (omega (arith, few)))
+
+-- what is put is the answer's line
+pub answer-said : (count : Outcome → ℕ) (s t : Stepped) → s ≡ t → (o : Outcome) (number k n : ℕ) (buffer : List ℕ) → o ≡ s .answer .outcome → buffer ≡ s .answer .buffer
+    → number ≡ numberOf o → k ≡ count o → n ≡ min k (length buffer) → answerLine number (take n buffer) ≡ answerText count (t .answer)
+unfolding answerText
+answer-said count s t same o number k n buffer O B N K E =
+    let outcome : o ≡ t .answer .outcome = O ∙ ap (λ (x : Stepped). x .answer .outcome) same in
+    let written : buffer ≡ t .answer .buffer = B ∙ ap (λ (x : Stepped). x .answer .buffer) same in
+    ap (λ (j : ℕ). answerLine j (take n buffer)) (N ∙ ap numberOf outcome)
+    ∙ ap (answerLine (numberOf (t .answer .outcome)))
+    (ap (λ (j : ℕ). take j buffer) E ∙ take-within k buffer ∙ ap (λ (j : ℕ). take j buffer) (K ∙ ap count outcome) ∙ ap (take (count (t .answer .outcome))) written)
+
+-- ---- request
+
+module _ (phase : Phase) (message : List ℕ) (g : Gateway) (m : List ℕ) where
+  pub request-right : full phase ≡ true
+      → (asked message g m .after .gateway ≡ requestState phase message g m) × (asked message g m .after .memory ≡ requestMemory phase message g m) × (askedText message g m ≡ requestText phase message g m)
+  unfolding requestState requestMemory requestText
+  request-right e = rw e (refl, refl, refl)
+
+  pub request-wrong : full phase ≡ false
+      → (g ≡ requestState phase message g m) × (m ≡ requestMemory phase message g m) × (question ≡ requestText phase message g m)
+  unfolding requestState requestMemory requestText
+  request-wrong e = rw e (refl, refl, refl)
+
 -- ---- report
 
 module _ (line : List ℕ) (g : Gateway) (m : List ℕ) (t : Bool) (T : t ≡ reportIn line) where
-  pub report-kept : t ≡ false → (g ≡ reportState line g m) × (m ≡ reportMemory line g m)
-  unfolding reportState reportMemory
-  report-kept e = rw (← T, e) (refl, refl)
+  pub report-wrong : t ≡ false → (g ≡ reportState line g m) × (m ≡ reportMemory line g m) × (question ≡ reportText line g m)
+  unfolding reportState reportMemory reportText
+  report-wrong e = rw (← T, e) (refl, refl, refl)
 
   module _ (p k r : ℕ) (w : List ℕ) (P : p ≡ processIn line .value) (K : k ≡ kindIn line .value) (R : r ≡ reasonIn line .value) (W : w ≡ wordsOf 9 line (reasonIn line)) where
-    pub report-state : t ≡ true → noted p k r w (replicate 266 0) (lent g m) .after .gateway ≡ reportState line g m
-    unfolding reportState
-    report-state e = rw (P, K, R, W, ← T, e)
-
-    pub report-memory : t ≡ true → noted p k r w (replicate 266 0) (lent g m) .after .memory ≡ reportMemory line g m
-    unfolding reportMemory
-    report-memory e = rw (P, K, R, W, ← T, e)
+    pub report-right : t ≡ true → (told p k r w g m .after .gateway ≡ reportState line g m) × (told p k r w g m .after .memory ≡ reportMemory line g m) × (toldText p k r w g m ≡ reportText line g m)
+    unfolding reportState reportMemory reportText
+    report-right e = rw (P, K, R, W, ← T, e) (refl, refl, refl)

@@ -1,4 +1,7 @@
--- The definitions that the contracts of this crate cite.
+-- The definitions that the contracts of this crate, and of those above it, cite.
 pub mod Words
 pub mod Roll
 pub mod Meaning
+pub mod Command
+pub mod Line
+pub mod Heard

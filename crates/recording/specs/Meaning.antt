@@ -1,16 +1,21 @@
 -- What each line means: what it does to state and memory, and what it prints. The numbers of a line are read by their bounds.
 use mathlib.Core.Path.{_≡_}
-use mathlib.Core.Bool.{Bool, cond}
+use mathlib.Core.Bool.{Bool, true, false, cond}
 use mathlib.Core.List.{List, [], _∷_}
 use Prim.Native.Nat.{ℕ, _-_}
 use lib.ListN.{length, take, drop, replicate}
 use Rattle.lists.specs.Buffer.{overlay}
+use Rattle.format.specs.declared.outcome.Outcome.{Outcome}
+use Rattle.format.specs.Outcome.{numberOf}
 use Rattle.state.specs.declared.gateway.Gateway.{Gateway}
 use Rattle.state.specs.Gateway.{processAt, freshStart}
 use Rattle.state.specs.Slot.{slot}
 use Rattle.rules.specs.Tests.{lent}
-use Rattle.rules.specs.Step.{noted, stored}
-use Rattle.lines.specs.Hex.{pairsLine}
+use Rattle.rules.specs.Step.{Answer, Stepped, requested, noted, stored}
+use Rattle.gateway.specs.Lengths.{replyLength, noticeLength, front}
+use Rattle.lines.specs.declared.scan.Phase.{Phase}
+use Rattle.lines.specs.declared.scan.Phase.the-variants.{Open, Half, Full, Bad}
+use Rattle.lines.specs.Hex.{answerLine, pairsLine}
 use Rattle.decimal.specs.declared.number.Number.{Number}
 use Rattle.decimal.specs.Read.{begun, behind, endsLine}
 use Rattle.display.specs.Line.{processLine}
@@ -81,10 +86,58 @@ module _ (r : Roll) where
   unfoldable pub startMemory : List ℕ → List ℕ
   startMemory m = cond (complete (r .place)) (replicate (length m) 0) m
 
--- report P KIND REASON W0 .. W8, with a buffer of 266 zeros
+-- the buffer that is lent to each call: 266 zeros
+unfoldable pub blank : List ℕ
+blank = replicate 266 0
+
+-- the line that answers a call: its number, and the bytes that it wrote
+unfoldable pub answerText : (Outcome → ℕ) → Answer → List ℕ
+answerText count a = answerLine (numberOf (a .outcome)) (front count a)
+
+-- a message that is asked
+module _ (message : List ℕ) (g : Gateway) (m : List ℕ) where
+  abbrev pub asked : Stepped
+  asked = requested message blank (lent g m)
+
+  abbrev pub askedText : List ℕ
+  askedText = answerText replyLength (asked .answer)
+
+-- what the machine tells
+module _ (p kind reason : ℕ) (words : List ℕ) (g : Gateway) (m : List ℕ) where
+  abbrev pub told : Stepped
+  told = noted p kind reason words blank (lent g m)
+
+  abbrev pub toldText : List ℕ
+  toldText = answerText noticeLength (told .answer)
+
+-- a line of pairs may end here
+unfoldable pub full : Phase → Bool
+full Open = false
+full (Half h) = false
+full Full = true
+full Bad = false
+
+-- request HEX HEX ..: the pairs led here, and the message is their bytes
+module _ (phase : Phase) (message : List ℕ) (g : Gateway) (m : List ℕ) where
+  unfoldable pub requestText : List ℕ
+  requestText = orQuestion (full phase) (askedText message g m)
+
+  unfoldable pub requestState : Gateway
+  requestState = cond (full phase) (asked message g m .after .gateway) g
+
+  unfoldable pub requestMemory : List ℕ
+  requestMemory = cond (full phase) (asked message g m .after .memory) m
+
+-- report P KIND REASON W0 .. W8
 module _ (line : List ℕ) (g : Gateway) (m : List ℕ) where
+  abbrev pub toldIn : Stepped
+  toldIn = told (processIn line .value) (kindIn line .value) (reasonIn line .value) (wordsOf 9 line (reasonIn line)) g m
+
+  unfoldable pub reportText : List ℕ
+  reportText = orQuestion (reportIn line) (answerText noticeLength (toldIn .answer))
+
   unfoldable pub reportState : Gateway
-  reportState = cond (reportIn line) (noted (processIn line .value) (kindIn line .value) (reasonIn line .value) (wordsOf 9 line (reasonIn line)) (replicate 266 0) (lent g m) .after .gateway) g
+  reportState = cond (reportIn line) (toldIn .after .gateway) g
 
   unfoldable pub reportMemory : List ℕ
-  reportMemory = cond (reportIn line) (noted (processIn line .value) (kindIn line .value) (reasonIn line .value) (wordsOf 9 line (reasonIn line)) (replicate 266 0) (lent g m) .after .memory) m
+  reportMemory = cond (reportIn line) (toldIn .after .memory) m

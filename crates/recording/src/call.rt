@@ -18,10 +18,8 @@ use state::Gateway;
 use state::start;
 ghost use mathlib.Core.Path.{_≡_};
 ghost use Prim.Native.Nat.{_+_, _*_, _≤_, _<_};
-ghost use lib.ListN.{length, replicate};
-ghost use Rattle.rules.specs.Tests.{lent};
-ghost use Rattle.rules.specs.Step.{requested, noted};
-ghost use Rattle.recording.specs.Meaning.{Prints, question, storeText, storeMemory, memoryText, processText, startText, startState, startMemory, reportState, reportMemory};
+ghost use lib.ListN.{length, take, replicate};
+ghost use Rattle.recording.specs.Meaning.{Prints, question, blank, asked, askedText, told, toldText, full, storeText, storeMemory, memoryText, processText, startText, startState, startMemory, requestText, requestState, requestMemory, reportText, reportState, reportMemory};
 
 // The state after a line, and how many bytes of text were put.
 pub struct Said {
@@ -43,14 +41,22 @@ pub(crate) fn unknown(state: Gateway, out: &mut [u8]) -> Said
     }
 }
 
+// The buffer that is lent to a call.
+fn blank() -> [u8; 266]
+    ensures { λ r. ⌜ r ≡ blank ⌝ }
+{
+    [0u8; 266]
+}
+
 // A message is asked, and its answer put as a line.
 fn ask(state: Gateway, memory: &mut [u8], message: &[u8], out: &mut [u8]) -> Said
     requires { ⌜ 16384 ≤ length (now out) ⌝ }
     ensures { λ r. ⌜ r .len ≤ length (now (out .entry)) ⌝ }
-    ensures { λ r. ⌜ r .state ≡ requested (now (message .entry)) (replicate 266 0) (lent state (now (memory .entry))) .after .gateway ⌝ }
-    ensures { λ _. ⌜ now (memory .exit) ≡ requested (now (message .entry)) (replicate 266 0) (lent state (now (memory .entry))) .after .memory ⌝ }
+    ensures { λ r. ⌜ r .state ≡ asked (now (message .entry)) state (now (memory .entry)) .after .gateway ⌝ }
+    ensures { λ _. ⌜ now (memory .exit) ≡ asked (now (message .entry)) state (now (memory .entry)) .after .memory ⌝ }
+    ensures { λ r. ⌜ Prints (askedText (now (message .entry)) state (now (memory .entry))) (r .len) (now (out .entry)) (now (out .exit)) ⌝ }
 {
-    let mut reply = [0u8; 266];
+    let mut reply = blank();
     let answered = request(state, memory, message, &mut reply);
     let outcome = answered.outcome;
     let next = answered.state;
@@ -62,8 +68,20 @@ fn ask(state: Gateway, memory: &mut [u8], message: &[u8], out: &mut [u8]) -> Sai
     }
 }
 
+// Whether a line of pairs may end here.
+fn is_full(phase: Phase) -> bool
+    ensures { λ r. ⌜ r ≡ full phase ⌝ }
+{
+    match phase {
+        Phase::Open => false,
+        Phase::Half(_) => false,
+        Phase::Full => true,
+        Phase::Bad => false,
+    }
+}
+
 // request: the pairs were read as they came.
-pub fn say_request(
+pub(crate) fn say_request(
     state: Gateway,
     scan: Scan,
     memory: &mut [u8],
@@ -72,13 +90,16 @@ pub fn say_request(
 ) -> Said
     requires { ⌜ 16384 ≤ length (now out) ⌝ }
     ensures { λ r. ⌜ r .len ≤ length (now (out .entry)) ⌝ }
+    ensures { λ r. ⌜ r .state ≡ requestState (scan .phase) (take (scan .len) (now (message .entry))) state (now (memory .entry)) ⌝ }
+    ensures { λ _. ⌜ now (memory .exit) ≡ requestMemory (scan .phase) (take (scan .len) (now (message .entry))) state (now (memory .entry)) ⌝ }
+    ensures { λ r. ⌜ Prints (requestText (scan .phase) (take (scan .len) (now (message .entry))) state (now (memory .entry))) (r .len) (now (out .entry)) (now (out .exit)) ⌝ }
 {
     let phase = scan.phase;
     let len = within(scan.len, message);
-    match phase {
-        Phase::Full => ask(state, memory, &message[..len], out),
-        _ => unknown(state, out),
+    if !is_full(phase) {
+        return unknown(state, out);
     }
+    ask(state, memory, &message[..len], out)
 }
 
 // What the machine tells is heard, and its answer put as a line.
@@ -93,10 +114,11 @@ fn tell(
 ) -> Said
     requires { ⌜ 16384 ≤ length (now out) ⌝ }
     ensures { λ r. ⌜ r .len ≤ length (now (out .entry)) ⌝ }
-    ensures { λ r. ⌜ r .state ≡ noted process kind reason words (replicate 266 0) (lent state (now (memory .entry))) .after .gateway ⌝ }
-    ensures { λ _. ⌜ now (memory .exit) ≡ noted process kind reason words (replicate 266 0) (lent state (now (memory .entry))) .after .memory ⌝ }
+    ensures { λ r. ⌜ r .state ≡ told process kind reason words state (now (memory .entry)) .after .gateway ⌝ }
+    ensures { λ _. ⌜ now (memory .exit) ≡ told process kind reason words state (now (memory .entry)) .after .memory ⌝ }
+    ensures { λ r. ⌜ Prints (toldText process kind reason words state (now (memory .entry))) (r .len) (now (out .entry)) (now (out .exit)) ⌝ }
 {
-    let mut notice = [0u8; 266];
+    let mut notice = blank();
     let answered = report(state, memory, process, kind, reason, words, &mut notice);
     let outcome = answered.outcome;
     let next = answered.state;
@@ -114,6 +136,7 @@ pub(crate) fn say_report(state: Gateway, memory: &mut [u8], line: &[u8], out: &m
     ensures { λ r. ⌜ r .len ≤ length (now (out .entry)) ⌝ }
     ensures { λ r. ⌜ r .state ≡ reportState (now (line .entry)) state (now (memory .entry)) ⌝ }
     ensures { λ _. ⌜ now (memory .exit) ≡ reportMemory (now (line .entry)) state (now (memory .entry)) ⌝ }
+    ensures { λ r. ⌜ Prints (reportText (now (line .entry)) state (now (memory .entry))) (r .len) (now (out .entry)) (now (out .exit)) ⌝ }
 {
     let read = read_report(line);
     let words = read.words;

@@ -1,4 +1,6 @@
 // Which call a line is.
+ghost use mathlib.Core.Path.{_≡_};
+ghost use Rattle.recording.specs.Command.{begins, commandOf};
 
 // The first word of a line.
 pub enum Command {
@@ -12,7 +14,9 @@ pub enum Command {
 }
 
 // Whether a line begins with this text.
-fn begins(line: &[u8], text: &[u8]) -> bool {
+fn begins(line: &[u8], text: &[u8]) -> bool
+    ensures { λ r. ⌜ r ≡ begins (now (text .entry)) (now (line .entry)) ⌝ }
+{
     if line.len() < text.len() {
         return false;
     }
@@ -27,7 +31,9 @@ fn begins(line: &[u8], text: &[u8]) -> bool {
 }
 
 // The call that a line begins with. What stands behind the word is not looked at.
-pub(crate) fn command_of(line: &[u8]) -> Command {
+pub(crate) fn command_of(line: &[u8]) -> Command
+    ensures { λ r. ⌜ r ≡ commandOf (now (line .entry)) ⌝ }
+{
     if begins(line, b"start") {
         return Command::Start;
     }

@@ -2,12 +2,12 @@
 // mark and changes nothing.
 mod call;
 mod command;
+mod heard;
 mod line;
 mod number;
 mod roll;
 
 pub use call::Said;
-pub use call::say_request;
+pub use heard::Heard;
 pub use line::say_line;
-pub use roll::Place;
-pub use roll::Roll;
+pub use line::say_pairs;

@@ -9,42 +9,21 @@ use crate::call::say_store;
 use crate::call::unknown;
 use crate::command::Command;
 use crate::command::command_of;
-use crate::roll::Roll;
-use lines::Scan;
+use crate::heard::Heard;
 use lines::within;
 use state::Gateway;
 ghost use mathlib.Core.Path.{_≡_};
-ghost use Prim.Native.Nat.{_≤_};
-ghost use lib.ListN.{length};
+ghost use mathlib.Core.List.{List};
+ghost use Prim.Native.Nat.{ℕ, _≤_};
+ghost use lib.ListN.{length, take};
+ghost use Rattle.recording.specs.Heard.{Kept};
+ghost use Rattle.recording.specs.Line.{Does, effectOf, lineEffect, benchEffect};
 
-// A line that is kept whole, and is no request and no start.
-fn say_whole(
+// A line by its word.
+fn say_command(
     command: Command,
+    heard: Heard,
     state: Gateway,
-    memory: &mut [u8],
-    line: &[u8],
-    out: &mut [u8],
-) -> Said
-    requires { ⌜ length (now memory) ≡ 32768 ⌝ }
-    requires { ⌜ 16384 ≤ length (now out) ⌝ }
-    ensures { λ r. ⌜ r .len ≤ length (now (out .entry)) ⌝ }
-{
-    match command {
-        Command::Report => say_report(state, memory, line, out),
-        Command::Store => say_store(state, memory, line, out),
-        Command::Memory => say_memory(state, memory, line, out),
-        Command::Process => say_process(state, line, out),
-        _ => unknown(state, out),
-    }
-}
-
-// A line of which so much was read, the pairs behind its first 8 bytes, and the processes named behind its first 5. A request or a start may
-// be of any length; no other line that is longer than what is kept is a call.
-pub fn say_line(
-    state: Gateway,
-    len: usize,
-    scan: Scan,
-    roll: Roll,
     memory: &mut [u8],
     line: &[u8],
     message: &[u8],
@@ -53,17 +32,53 @@ pub fn say_line(
     requires { ⌜ length (now memory) ≡ 32768 ⌝ }
     requires { ⌜ 16384 ≤ length (now out) ⌝ }
     ensures { λ r. ⌜ r .len ≤ length (now (out .entry)) ⌝ }
+    ensures { λ r. ⌜ Does (effectOf (heard .roll) (heard .scan .phase) (take (heard .scan .len) (now (message .entry))) (now (line .entry)) state (now (memory .entry)) command) r (now (memory .exit)) (now (out .entry)) (now (out .exit)) ⌝ }
 {
-    let n = within(len, line);
+    let scan = heard.scan;
+    let roll = heard.roll;
+    match command {
+        Command::Start => say_named(state, roll, memory, out),
+        Command::Request => say_request(state, scan, memory, message, out),
+        Command::Report => say_report(state, memory, line, out),
+        Command::Store => say_store(state, memory, line, out),
+        Command::Memory => say_memory(state, memory, line, out),
+        Command::Process => say_process(state, line, out),
+        Command::Unknown => unknown(state, out),
+    }
+}
+
+// A line of a recording that was read to its end. A request or a start may be of any length; any other line that is longer than what is kept
+// is no call, and neither is what is kept of it.
+pub fn say_line(
+    heard: Heard,
+    state: Gateway,
+    memory: &mut [u8],
+    line: &[u8],
+    message: &[u8],
+    out: &mut [u8],
+) -> Said
+    requires { ⌜ length (now memory) ≡ 32768 ⌝ }
+    requires { ⌜ 16384 ≤ length (now out) ⌝ }
+    ensures { λ r. ⌜ r .len ≤ length (now (out .entry)) ⌝ }
+    ensures { λ r. ⌜ ((whole : List ℕ) → Kept 8 whole heard (now (line .entry)) (now (message .entry)) → Does (lineEffect whole state (now (memory .entry))) r (now (memory .exit)) (now (out .entry)) (now (out .exit))) ⌝ }
+{
+    let n = within(heard.len, line);
     let command = command_of(&line[..n]);
-    if let Command::Request = command {
-        return say_request(state, scan, memory, message, out);
-    }
-    if let Command::Start = command {
-        return say_named(state, roll, memory, out);
-    }
-    if line.len() < len {
-        return unknown(state, out);
-    }
-    say_whole(command, state, memory, &line[..n], out)
+    say_command(command, heard, state, memory, &line[..n], message, out)
+}
+
+// A line of the bench that was read to its end: the pairs of a request.
+pub fn say_pairs(
+    heard: Heard,
+    state: Gateway,
+    memory: &mut [u8],
+    message: &[u8],
+    out: &mut [u8],
+) -> Said
+    requires { ⌜ 16384 ≤ length (now out) ⌝ }
+    ensures { λ r. ⌜ r .len ≤ length (now (out .entry)) ⌝ }
+    ensures { λ r. ⌜ ((whole line : List ℕ) → Kept 0 whole heard line (now (message .entry)) → Does (benchEffect whole state (now (memory .entry))) r (now (memory .exit)) (now (out .entry)) (now (out .exit))) ⌝ }
+{
+    let scan = heard.scan;
+    say_request(state, scan, memory, message, out)
 }

@@ -2,7 +2,6 @@
 ghost use mathlib.Core.Path.{_≡_};
 ghost use mathlib.Core.Bool.{true};
 ghost use Prim.Native.Nat.{_-_, _<_};
-ghost use lib.ListN.{set};
 ghost use Rattle.recording.specs.Roll.{names, empty, nextIn, nextRoll, rolled, complete};
 
 // Where in the line the reading stands.

@@ -1,13 +1,15 @@
--- `console::session::converse` is safe and ends: the buffers keep their lengths. Assumes nothing.
-use mathlib.Core.Path.{_≡_, refl}
+-- `console::session::converse` meets its contract. The loop's invariant: the session stands where the text that was read led. Assumes nothing.
+use mathlib.Core.Path.{_≡_, refl, _∙_}
 use native.Mathlib.Omega.{arith}
 use borrow.Author.Needs.{needs}
-use lib.ListN.{length}
+use lib.ListN.{length, take}
+use Rattle.console.specs.Talk.{Talk, opening, Speaks, Followed}
+use Rattle.console.proofs.TalkLaws.{followed-none, followed-more, followed-as}
 use Rattle.console.proofs.session.converse.Statement.{statement}
 use Rattle.console.proofs.session.converse.Tie as tie
 
 abbrev Inv-loop : tie.InvT-loop
-Inv-loop memory₀ line₀ message₀ block₀ out₀ session₀ turns₀ memory line message block out session turns = (length memory ≡ length memory₀) × (length line ≡ length line₀) × (length message ≡ length message₀) × (length block ≡ length block₀) × (length out ≡ length out₀)
+Inv-loop memory₀ line₀ message₀ block₀ out₀ session₀ turns₀ memory line message block out session turns = (length memory ≡ length memory₀) × (length line ≡ length line₀) × (length message ≡ length message₀) × (length block ≡ length block₀) × (length out ≡ length out₀) × (session .language ≡ session₀ .language) × ((t : Talk) → Speaks session₀ line₀ message₀ memory₀ out₀ t → Followed (session₀ .language) t session line message memory out)
 
 abbrev μ-loop : tie.MeasureT-loop
 μ-loop memory₀ line₀ message₀ block₀ out₀ session₀ turns₀ memory line message block out session turns = turns
@@ -16,7 +18,9 @@ begin-requires : tie.Need-begin-requires Inv-loop μ-loop
 begin-requires c κs = search needs
 
 loop-holds : tie.Need-loop-holds Inv-loop μ-loop
-loop-holds c = (refl, refl, refl, refl, refl)
+loop-holds c =
+    let a = c .before .before .before .before .before .before .args in
+    (refl, refl, refl, refl, refl, refl, followed-none (c .begin .result .language) (c .begin .result) (a .line .now) (a .message .now) (a .memory .now) (a .out .now))
 
 read-requires : tie.Need-read-requires Inv-loop μ-loop
 read-requires c κs = search needs
@@ -37,7 +41,12 @@ same-length-5 : tie.Need-same-length-5 Inv-loop μ-loop
 same-length-5 c = c .before .before .before .before .before .before .loop .inv .4
 
 returns : tie.Need-returns Inv-loop μ-loop
-returns c = search needs
+returns c =
+    let l = c .before .before .before .before .before .before in
+    let b = l .before in
+    let a = b .before .before .before .before .before .before .args in
+    followed-as (b .begin .result .language) (a .language) (l .loop .session) (l .loop .line) (l .loop .message) (l .loop .memory) (l .loop .out) (opening (a .language) (a .memory .now)) (b .begin .ensures .0)
+    (l .loop .inv .6 (opening (a .language) (a .memory .now)) (b .begin .ensures .1 (a .line .now) (a .message .now) (a .memory .now) (a .out .now) (b .before .before .before .before .before .before .pre .1 .1)))
 
 slice-reshare-prefix-feed : tie.Need-slice-reshare-prefix-feed Inv-loop μ-loop
 slice-reshare-prefix-feed c = search needs
@@ -46,7 +55,7 @@ slice-aggregate-feed : tie.Need-slice-aggregate-feed Inv-loop μ-loop
 slice-aggregate-feed c = search needs
 
 feed-requires : tie.Need-feed-requires Inv-loop μ-loop
-feed-requires c κs = let l = c .before .before .before .before .before .before .before .before .before .before .before in let s = l .before .before .before .before .before .before .before in (omega (arith, l .loop .inv .0, s .pre), omega (arith, l .loop .inv .4, s .pre))
+feed-requires c κs = let l = c .before .before .before .before .before .before .before .before .before .before .before in let s = l .before .before .before .before .before .before .before in (omega (arith, l .loop .inv .0, s .pre .0), omega (arith, l .loop .inv .4, s .pre .1 .0))
 
 flush-requires : tie.Need-flush-requires Inv-loop μ-loop
 flush-requires c κs = search needs
@@ -58,7 +67,23 @@ loop-less : tie.Need-loop-less Inv-loop μ-loop
 loop-less c = search needs
 
 loop-again : tie.Need-loop-again Inv-loop μ-loop
-loop-again c = (omega arith, omega arith, omega arith, omega arith, omega arith)
+loop-again c =
+    let f = c .before .before .before .before .before .before .before .before .before .before in
+    let r = c .before .before .before .before .before .before .before .before .before .before .before .before .before .before .before .before .before .before .before in
+    let l = c .before .before .before .before .before .before .before .before .before .before .before .before .before .before .before .before .before .before .before .before .before .before in
+    let b = l .before in
+    let v = l .loop .inv in
+    let last = f .feed .last in
+    let part = take (r .read .result) (r .read .last .0) in (
+      omega (arith, f .feed .kept, v .0),
+      omega (arith, f .feed .kept, v .1),
+      omega (arith, f .feed .kept, v .2),
+      omega (arith, f .feed .kept, r .read .kept, v .3),
+      omega (arith, f .feed .kept, v .4),
+      f .feed .ensures .0 ∙ v .5,
+      λ t sp. followed-more (b .begin .result .language) (l .loop .session) (f .feed .result) (l .loop .line) (l .loop .message) (l .loop .memory) (l .loop .out) (last .1 .1 .1 .0) (last .1 .1 .1 .1 .0) (last .1 .1 .0) (last .1 .1 .1 .1 .1 .0) part t
+          (v .5) (f .feed .ensures .1) (v .6 t sp),
+    )
 
 same-length-6 : tie.Need-same-length-6 Inv-loop μ-loop
 same-length-6 c = c .before .loop .inv .0
@@ -76,7 +101,12 @@ same-length-10 : tie.Need-same-length-10 Inv-loop μ-loop
 same-length-10 c = c .before .loop .inv .4
 
 returns-2 : tie.Need-returns-2 Inv-loop μ-loop
-returns-2 c = search needs
+returns-2 c =
+    let l = c .before in
+    let b = l .before in
+    let a = b .before .before .before .before .before .before .args in
+    followed-as (b .begin .result .language) (a .language) (l .loop .session) (l .loop .line) (l .loop .message) (l .loop .memory) (l .loop .out) (opening (a .language) (a .memory .now)) (b .begin .ensures .0)
+    (l .loop .inv .6 (opening (a .language) (a .memory .now)) (b .begin .ensures .1 (a .line .now) (a .message .now) (a .memory .now) (a .out .now) (b .before .before .before .before .before .before .pre .1 .1)))
 
 pub converse-spec : {M : Type 1} → statement M
 converse-spec =

@@ -1,15 +1,20 @@
--- `console::session::feed` is safe and ends: the buffers keep their lengths. Assumes nothing.
-use mathlib.Core.Path.{_≡_, refl}
-use Prim.Native.Nat.{_+_, _-_, _≤_}
+-- `console::session::feed` meets its contract. The loop's invariant: the session stands where the text that was passed led. Assumes nothing.
+use mathlib.Core.Path.{_≡_, refl, ap, _∙_}
+use Prim.Native.Nat.{_+_, _-_, _≤_, _<_}
 use native.Mathlib.Omega.{arith}
 use borrow.Author.Needs.{needs}
-use lib.ListN.{length}
+use lib.ListN.{length, take, drop}
+use lib.Seq.{take-all}
+use lib.Dec.{ltb}
 use Rattle.lines.proofs.PrintLaws.{end-within}
+use Rattle.console.specs.declared.language.Language.{Language}
+use Rattle.console.specs.Talk.{Talk, partOf, talked, Speaks}
+use Rattle.console.proofs.TalkLaws.{talked-turn, speaks-as}
 use Rattle.console.proofs.session.feed.Statement.{statement}
 use Rattle.console.proofs.session.feed.Tie as tie
 
 abbrev Inv-loop : tie.InvT-loop
-Inv-loop block memory₀ line₀ message₀ out₀ now₀ at₀ memory line message out now at = (at ≤ length block + 1) × (length memory ≡ length memory₀) × (length line ≡ length line₀) × (length message ≡ length message₀) × (length out ≡ length out₀)
+Inv-loop block memory₀ line₀ message₀ out₀ now₀ at₀ memory line message out now at = (at ≤ length block + 1) × (length memory ≡ length memory₀) × (length line ≡ length line₀) × (length message ≡ length message₀) × (length out ≡ length out₀) × (now .language ≡ now₀ .language) × ((t : Talk) → Speaks now₀ line₀ message₀ memory₀ out₀ t → Speaks now line message memory out (talked (now₀ .language) t (take at block)))
 
 abbrev μ-loop : tie.MeasureT-loop
 μ-loop block memory₀ line₀ message₀ out₀ now₀ at₀ memory line message out now at = length block + 1 - at
@@ -23,7 +28,8 @@ ended e =
     (omega (arith, e .line-end .ensures), omega (arith, e .line-end .ensures, far))
 
 loop-holds : tie.Need-loop-holds Inv-loop μ-loop
-loop-holds c = (omega arith, refl, refl, refl, refl)
+unfolding talked
+loop-holds c = (omega arith, refl, refl, refl, refl, refl, λ t sp. sp)
 
 line-end-requires : tie.Need-line-end-requires Inv-loop μ-loop
 line-end-requires c κs = search needs
@@ -47,7 +53,29 @@ loop-less : tie.Need-loop-less Inv-loop μ-loop
 loop-less c = omega (arith, ended (c .before .before .before .before .before .before .before .before .before .before .before .before .before .before))
 
 loop-again : tie.Need-loop-again Inv-loop μ-loop
-loop-again c = let e = c .before .before .before .before .before .before .before .before .before .before .before .before .before .before in let l = e .before .before in (omega (arith, ended e), omega (arith, l .loop .inv .1), omega (arith, l .loop .inv .2), omega (arith, l .loop .inv .3), omega (arith, l .loop .inv .4))
+loop-again c =
+    let p = c .before .before .before .before .before .before .before .before in
+    let e = c .before .before .before .before .before .before .before .before .before .before .before .before .before .before in
+    let l = e .before .before in
+    let a = l .before .before .before .before .before .before .args in
+    let v = l .loop .inv in
+    let block = a .block .now in
+    let k = a .session .language in
+    let last = p .part .last in
+    let stop = e .line-end .result in
+    let rest = take (stop - l .loop .at) (drop (l .loop .at) block) in
+    let low : l .loop .at < length block = omega arith in (
+      omega (arith, ended e),
+      omega (arith, v .1),
+      omega (arith, v .2),
+      omega (arith, v .3),
+      omega (arith, v .4),
+      p .part .ensures .0 ∙ v .5,
+      λ t sp.
+          let u = talked k t (take (l .loop .at) block) in
+          speaks-as (p .part .result) (last .1 .1 .1 .1 .0) (last .1 .1 .1 .1 .1 .0) (last .1 .1 .1 .0) (last .1 .1 .1 .1 .1 .1 .0) (partOf (l .loop .now .language) (ltb stop (length block)) rest u) (talked k t (take (stop + 1) block))
+          (ap (λ (x : Language). partOf x (ltb stop (length block)) rest u) (v .5) ∙ talked-turn k t block (l .loop .at) stop low (e .line-end .ensures)) (p .part .ensures .1 u (v .6 t sp)),
+    )
 
 same-length : tie.Need-same-length Inv-loop μ-loop
 same-length c = c .before .loop .inv .1
@@ -62,7 +90,13 @@ same-length-4 : tie.Need-same-length-4 Inv-loop μ-loop
 same-length-4 c = c .before .loop .inv .4
 
 returns : tie.Need-returns Inv-loop μ-loop
-returns c = search needs
+returns c =
+    let l = c .before in
+    let a = l .before .before .before .before .before .before .args in
+    let block = a .block .now in
+    let k = a .session .language in
+    let all : take (l .loop .at) block ≡ block = take-all (l .loop .at) block (omega arith) in
+    (l .loop .inv .5, λ t sp. speaks-as (l .loop .now) (l .loop .line) (l .loop .message) (l .loop .memory) (l .loop .out) (talked k t (take (l .loop .at) block)) (talked k t block) (ap (talked k t) all) (l .loop .inv .6 t sp))
 
 pub feed-spec : {M : Type 1} → statement M
 feed-spec =

@@ -3,7 +3,6 @@ use mathlib.Core.Path.{_≡_, refl, sym, ap, _∙_}
 use mathlib.Core.Bool.{true, false}
 use borrow.Author.Tests.{not-true, not-false}
 use borrow.Author.Needs.{needs}
-use Rattle.process.specs.declared.record.Process.{Process}
 use Rattle.decimal.specs.Read.{begun, behind, endsLine}
 use Rattle.display.specs.Line.{processLine}
 use Rattle.recording.specs.Meaning.{question, processText}

@@ -1,5 +1,5 @@
 -- `recording::number::read_report` meets its contract. Assumes nothing.
-use mathlib.Core.Path.{_≡_, refl, sym, ap, _∙_}
+use mathlib.Core.Path.{_≡_, ap, _∙_}
 use borrow.Author.Needs.{needs}
 use Rattle.decimal.specs.declared.number.Number.{Number}
 use Rattle.decimal.specs.Read.{behind, endsLine}

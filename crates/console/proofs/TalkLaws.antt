@@ -1,0 +1,186 @@
+-- Laws of a text that is spoken line by line. Assumes nothing.
+use mathlib.Core.Path.{_≡_, refl, sym, ap, _∙_}
+use mathlib.Core.Bool.{Bool, true, false, cond}
+use mathlib.Core.List.{List, [], _∷_, _++_, append-assoc, append-nil}
+use mathlib.Core.Logic.{_⊎_, ⊎-elim}
+use Prim.Native.Nat.{ℕ, suc, _+_, _-_, _≤_, _<_, min}
+use native.Mathlib.Omega.{arith}
+use borrow.Author.Tests.{ltb-true, ltb-false, lt-ltb, le-ltb, eq-eqb, ne-eqb}
+use lib.ListN.{length, take, drop, length-append, length-take, length-drop, take-append-drop}
+use lib.Seq.{take-add, length-take-le}
+use lib.Dec.{eqb, ltb}
+use Rattle.lists.specs.Buffer.{overlay}
+use Rattle.lists.specs.First.{first}
+use Rattle.lists.proofs.Buffer.{take-overlay, laid-part}
+use Rattle.lines.specs.Scan.{isNewline}
+use Rattle.recording.specs.declared.call.Said.{Said}
+use Rattle.recording.specs.declared.heard.Heard.{Heard}
+use Rattle.recording.specs.Heard.{Room, Kept}
+use Rattle.recording.specs.Line.{Does}
+use Rattle.console.specs.declared.language.Language.{Language}
+use Rattle.console.specs.declared.language.Language.the-variants.{Bench, Recording}
+use Rattle.console.specs.declared.session.Session.{Session}
+use Rattle.console.specs.Talk.{Talk, pairsAt, meaning, longer, answered, ended, partOf, talked, Ends, Speaks, Followed}
+
+-- room for a recording's line is room for one of either language
+pub room-either : (l : Language) (line message : List ℕ) → Room 8 line message → Room (pairsAt l) line message
+unfolding pairsAt
+room-either Bench line message r = record { word = omega arith; call = r .call; asked = r .asked }
+room-either Recording line message r = r
+
+-- ---- a text in parts
+
+longer-none : (t : Talk) → longer [] t ≡ t
+unfolding longer
+longer-none t = rw (append-nil (t .line))
+
+longer-longer : (xs ys : List ℕ) (t : Talk) → longer ys (longer xs t) ≡ longer (xs ++ ys) t
+unfolding longer
+longer-longer xs ys t = rw (append-assoc (t .line) xs ys)
+
+talked-both : (l : Language) (t : Talk) (xs ys : List ℕ) → talked l t (xs ++ ys) ≡ talked l (talked l t xs) ys
+unfolding talked
+talked-both l t [] ys = refl
+talked-both l t (x ∷ xs) ys = talked-both l (cond (isNewline x) (ended l t) (longer (x ∷ []) t)) xs ys
+
+pub talked-none : (l : Language) (t : Talk) → talked l t [] ≡ t
+unfolding talked
+talked-none l t = refl
+
+ltb-suc : (a b : ℕ) → ltb (suc a) (suc b) ≡ ltb a b
+ltb-suc a b = go (ltb a b) refl
+  where
+    go : (t : Bool) → ltb a b ≡ t → ltb (suc a) (suc b) ≡ t
+    go true e = lt-ltb (suc a) (suc b) (omega (arith, ltb-true a b e))
+    go false e = le-ltb (suc a) (suc b) (omega (arith, ltb-false a b e))
+
+-- the text up to a newline and with it, or all where there is none
+talked-part : (l : Language) (t : Talk) (ys : List ℕ)
+    → talked l t (take (suc (first isNewline ys)) ys) ≡ partOf l (ltb (first isNewline ys) (length ys)) (take (first isNewline ys) ys) t
+unfolding talked partOf
+talked-part l t [] = sym (longer-none t)
+talked-part l t (c ∷ cs) = go (isNewline c) refl (λ u. talked-part l u cs)
+  where
+    go : (b : Bool) → isNewline c ≡ b → ((u : Talk) → talked l u (take (suc (first isNewline cs)) cs) ≡ partOf l (ltb (first isNewline cs) (length cs)) (take (first isNewline cs) cs) u)
+        → talked l (cond b (ended l t) (longer (c ∷ []) t)) (take (cond b 0 (suc (first isNewline cs))) cs)
+        ≡ partOf l (ltb (cond b 0 (suc (first isNewline cs))) (suc (length cs))) (take (cond b 0 (suc (first isNewline cs))) (c ∷ cs)) t
+    go true e rest = rw (lt-ltb 0 (suc (length cs)) (omega arith), longer-none t)
+    go false e rest =
+        rest (longer (c ∷ []) t)
+        ∙ ap (λ (u : Talk). cond (ltb (first isNewline cs) (length cs)) (ended l u) u) (longer-longer (c ∷ []) (take (first isNewline cs) cs) t)
+        ∙ ap (λ (b : Bool). partOf l b (c ∷ take (first isNewline cs) cs) t) (sym (ltb-suc (first isNewline cs) (length cs)))
+
+-- a turn of the loop over the lines of a block
+pub talked-turn : (l : Language) (t : Talk) (block : List ℕ) (at stop : ℕ) → at < length block → stop ≡ at + first isNewline (drop at block)
+    → partOf l (ltb stop (length block)) (take (stop - at) (drop at block)) (talked l t (take at block)) ≡ talked l t (take (stop + 1) block)
+talked-turn l t block at stop h s =
+    let k = first isNewline (drop at block) in
+    let size : length (drop at block) ≡ length block - at = length-drop at block in
+    let part : stop - at ≡ k = omega (arith, s) in
+    let next : stop + 1 ≡ at + suc k = omega (arith, s) in
+    let u = talked l t (take at block) in
+    ap (λ (n : ℕ). partOf l (ltb stop (length block)) (take n (drop at block)) u) part
+    ∙ ap (λ (b : Bool). partOf l b (take k (drop at block)) u) (same (ltb k (length (drop at block))) refl)
+    ∙ sym (talked-part l u (drop at block))
+    ∙ sym (talked-both l t (take at block) (take (suc k) (drop at block)))
+    ∙ ap (talked l t) (sym (take-add at (suc k) block) ∙ ap (λ (n : ℕ). take n block) (sym next))
+  where
+    same : (b : Bool) → ltb (first isNewline (drop at block)) (length (drop at block)) ≡ b → ltb stop (length block) ≡ b
+    same true e = lt-ltb stop (length block) (omega (arith, s, h, length-drop at block, ltb-true (first isNewline (drop at block)) (length (drop at block)) e))
+    same false e = le-ltb stop (length block) (omega (arith, s, h, length-drop at block, ltb-false (first isNewline (drop at block)) (length (drop at block)) e))
+
+-- blocks one after another
+pub talked-more : (l : Language) (t : Talk) (xs ys : List ℕ) → talked l (talked l t xs) ys ≡ talked l t (xs ++ ys)
+talked-more l t xs ys = sym (talked-both l t xs ys)
+
+-- ---- text behind what is held back
+
+said-behind : (held len : ℕ) (text out last : List ℕ) → held ≤ length out → len ≡ length text → last ≡ overlay text (take (length out - held) (drop held out))
+    → take (held + len) (take held out ++ (last ++ drop (length out - held) (drop held out))) ≡ take held out ++ text
+unfolding overlay
+said-behind held len text out last h L T =
+    let front : length (take held out) ≡ held = length-take-le held out h in
+    let same : out ≡ take held out ++ drop (length (take held out)) out = sym (ap (λ (n : ℕ). take held out ++ drop n out) front ∙ take-append-drop held out) in
+    let size : held + len ≡ length (take held out ++ text) = omega (arith, front, L, length-append (take held out) text) in
+    ap (take (held + len)) (laid-part (take held out) text out out last held (sym front) same T)
+    ∙ ap (λ (n : ℕ). take n (overlay (take held out ++ text) out)) size
+    ∙ take-overlay (take held out ++ text) out
+
+ends-more : (before held : ℕ) (printed text out : List ℕ) → (held ≡ before) ⊎ (held ≡ 0) → Ends (take before out) printed → Ends (take held out ++ text) (printed ++ text)
+ends-more before held printed text out which e =
+    ⊎-elim
+    (λ same. record { before = e .before; is = ap (λ (n : ℕ). e .before ++ (take n out ++ text)) same ∙ sym (append-assoc (e .before) (take before out) text) ∙ ap (λ (l : List ℕ). l ++ text) (e .is) })
+    (λ none. record { before = printed; is = ap (λ (n : ℕ). printed ++ (take n out ++ text)) none })
+    which
+
+-- nothing is held back any more
+pub ends-none : (printed out : List ℕ) → Ends (take 0 out) printed
+ends-none printed out = record { before = printed; is = append-nil printed }
+
+-- ---- a session's steps
+
+module _ (s : Session) (r : Said) (heard : Heard) (held : ℕ) (line message m m2 out last : List ℕ) (t : Talk) where
+  pub speaks-ended : held ≤ length out → (held ≡ s .held) ⊎ (held ≡ 0)
+      → Does (meaning (s .language) (t .line) (s .state) m) r m2 (take (length out - held) (drop held out)) last
+      → Kept (pairsAt (s .language)) [] heard line message → Speaks s line message m out t
+      → Speaks (record { language = s .language; state = r .state; heard = heard; held = held + r .len }) line message m2
+      (take held out ++ (last ++ drop (length out - held) (drop held out))) (ended (s .language) t)
+  unfolding ended answered
+  speaks-ended h which d k sp =
+      let e : Does (meaning (s .language) (t .line) (t .state) (t .memory)) r m2 (take (length out - held) (drop held out)) last = rw (sp .state, sp .memory) at d in
+      let text = meaning (s .language) (t .line) (t .state) (t .memory) .text in record {
+        kept = k;
+        state = e .state;
+        memory = e .memory;
+        text = rw (said-behind held (r .len) text out last h (e .text .size) (e .text .laid)) (ends-more (s .held) held (t .text) text out which (sp .text));
+      }
+
+pub speaks-longer : (s : Session) (at : ℕ) (more : Heard) (text line message line2 message2 : List ℕ) → at ≡ pairsAt (s .language)
+    → ((so-far : List ℕ) → Kept at so-far (s .heard) line message → Kept at (so-far ++ text) more line2 message2)
+    → (m out : List ℕ) (t : Talk) → Speaks s line message m out t
+    → Speaks (record { language = s .language; state = s .state; heard = more; held = s .held }) line2 message2 m out (longer text t)
+unfolding longer
+speaks-longer s at more text line message line2 message2 A f m out t sp = record {
+  kept = rw A at (f (t .line) (rw (← A) at (sp .kept)));
+  state = sp .state;
+  memory = sp .memory;
+  text = sp .text;
+}
+
+pub speaks-as : (s : Session) (line message m out : List ℕ) (t u : Talk) → t ≡ u → Speaks s line message m out t → Speaks s line message m out u
+speaks-as s line message m out t u e sp = rw e at sp
+
+-- a line of which nothing is kept is empty
+pub nothing-kept : (s : Session) (line message m out : List ℕ) (t : Talk) → Speaks s line message m out t
+    → (s .heard .len ≡ 0 → eqb (length (t .line)) 0 ≡ true) × ((s .heard .len ≡ 0 → ⊥) → eqb (length (t .line)) 0 ≡ false)
+nothing-kept s line message m out t sp =
+    let size : s .heard .len ≡ min (length line) (length (t .line)) = sp .kept .text .size ∙ length-take (length line) (t .line) in
+    let room = sp .kept .room .call in (
+      λ none. eq-eqb (length (t .line)) 0 (omega (arith, size, room, none)),
+      λ some. ne-eqb (length (t .line)) 0 (λ none. some (omega (arith, size, none))),
+    )
+
+-- what was held back is written out
+speaks-flushed : (s : Session) (line message m out : List ℕ) (t : Talk) → Speaks s line message m out t
+    → Speaks (record { language = s .language; state = s .state; heard = s .heard; held = 0 }) line message m out t
+speaks-flushed s line message m out t sp = record { kept = sp .kept; state = sp .state; memory = sp .memory; text = ends-none (t .text) out }
+
+-- nothing was read since
+pub followed-none : (l : Language) (s : Session) (line message m out : List ℕ) (t : Talk) → Speaks s line message m out t → Followed l t s line message m out
+followed-none l s line message m out t sp = record { read = []; speaks = speaks-as s line message m out t (talked l t []) (sym (talked-none l t)) sp }
+
+-- another block was read, and what it prints written out
+pub followed-more : (l : Language) (s r : Session) (line message m out line2 message2 m2 out2 block : List ℕ) (t : Talk) → s .language ≡ l
+    → ((u : Talk) → Speaks s line message m out u → Speaks r line2 message2 m2 out2 (talked (s .language) u block))
+    → Followed l t s line message m out
+    → Followed l t (record { language = r .language; state = r .state; heard = r .heard; held = 0 }) line2 message2 m2 out2
+followed-more l s r line message m out line2 message2 m2 out2 block t L f g =
+    let u = talked l t (g .read) in
+    let same : talked (s .language) u block ≡ talked l t (g .read ++ block) = ap (λ (x : Language). talked x u block) L ∙ talked-more l t (g .read) block in
+    record {
+      read = g .read ++ block;
+      speaks = speaks-flushed r line2 message2 m2 out2 (talked l t (g .read ++ block)) (speaks-as r line2 message2 m2 out2 (talked (s .language) u block) (talked l t (g .read ++ block)) same (f u (g .speaks)));
+    }
+
+pub followed-as : (k l : Language) (s : Session) (line message m out : List ℕ) (t : Talk) → k ≡ l → Followed k t s line message m out → Followed l t s line message m out
+followed-as k l s line message m out t e f = rw e at f

@@ -1,0 +1,83 @@
+-- A text that is spoken to a gateway line by line, in one of the two languages, and all that it prints.
+use mathlib.Core.Path.{_≡_}
+use mathlib.Core.Bool.{Bool, true, false, cond}
+use mathlib.Core.List.{List, [], _∷_, _++_}
+use Prim.Native.Nat.{ℕ}
+use lib.ListN.{length, take}
+use lib.Dec.{eqb}
+use Rattle.state.specs.declared.gateway.Gateway.{Gateway}
+use Rattle.state.specs.Gateway.{freshStart}
+use Rattle.lines.specs.Scan.{isNewline}
+use Rattle.recording.specs.Heard.{Kept}
+use Rattle.recording.specs.Line.{Effect, lineEffect, benchEffect}
+use Rattle.console.specs.declared.language.Language.{Language}
+use Rattle.console.specs.declared.language.Language.the-variants.{Bench, Recording}
+use Rattle.console.specs.declared.session.Session.{Session}
+
+-- where in a line the pairs of a request begin
+unfoldable pub pairsAt : Language → ℕ
+pairsAt Bench = 0
+pairsAt Recording = 8
+
+-- the processes that are there at first
+unfoldable pub thereAt : Language → List Bool
+thereAt Bench = false ∷ false ∷ true ∷ false ∷ false ∷ false ∷ false ∷ false ∷ []
+thereAt Recording = false ∷ false ∷ false ∷ false ∷ false ∷ false ∷ false ∷ false ∷ []
+
+-- what a line means
+unfoldable pub meaning : Language → List ℕ → Gateway → List ℕ → Effect
+meaning Bench = benchEffect
+meaning Recording = lineEffect
+
+-- the line that has not ended yet, the state and the memory, and all that was printed
+pub record Talk : Type 0 where
+  pub line : List ℕ
+  pub state : Gateway
+  pub memory : List ℕ
+  pub text : List ℕ
+
+-- nothing was said yet
+abbrev pub opening : Language → List ℕ → Talk
+opening l m = record { line = []; state = freshStart (thereAt l); memory = m; text = [] }
+
+-- more of the line
+unfoldable pub longer : List ℕ → Talk → Talk
+longer more t = record { line = t .line ++ more; state = t .state; memory = t .memory; text = t .text }
+
+-- the line was answered so
+unfoldable pub answered : Effect → Talk → Talk
+answered e t = record { line = []; state = e .state; memory = e .memory; text = t .text ++ e .text }
+
+-- the line is at its end
+unfoldable pub ended : Language → Talk → Talk
+ended l t = answered (meaning l (t .line) (t .state) (t .memory)) t
+
+-- more of the line, and perhaps its end
+unfoldable pub partOf : Language → Bool → List ℕ → Talk → Talk
+partOf l ends more t = cond ends (ended l (longer more t)) (longer more t)
+
+-- a text, character by character: a newline ends a line
+unfoldable pub talked : Language → Talk → List ℕ → Talk
+talked l t [] = t
+talked l t (c ∷ cs) = talked l (cond (isNewline c) (ended l t) (longer (c ∷ []) t)) cs
+
+-- the text is at its end: a last line needs no newline, and an empty one is none
+unfoldable pub finished : Language → Talk → Talk
+finished l t = cond (eqb (length (t .line)) 0) t (ended l t)
+
+-- a list is the end of another
+pub record Ends (end whole : List ℕ) : Type 0 where
+  pub before : List ℕ
+  pub is : before ++ end ≡ whole
+
+-- the session stands where the talk does; of what was printed it holds the end back
+pub record Speaks (s : Session) (line message m out : List ℕ) (t : Talk) : Type 0 where
+  pub kept : Kept (pairsAt (s .language)) (t .line) (s .heard) line message
+  pub state : s .state ≡ t .state
+  pub memory : m ≡ t .memory
+  pub text : Ends (take (s .held) out) (t .text)
+
+-- the session stands where some text led, from here on, that was read
+pub record Followed (l : Language) (from : Talk) (s : Session) (line message m out : List ℕ) : Type 0 where
+  pub read : List ℕ
+  pub speaks : Speaks s line message m out (talked l from read)

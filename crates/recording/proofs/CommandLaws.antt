@@ -1,0 +1,54 @@
+-- Laws of the word that a line begins with. Assumes nothing.
+use mathlib.Core.Path.{_≡_, refl, sym, ap, _∙_}
+use mathlib.Core.Bool.{Bool, true, false, _&&_}
+use mathlib.Core.List.{List, [], _∷_}
+use Prim.Native.Nat.{ℕ, zero, suc, _+_, _≤_, _<_}
+use native.Mathlib.Numerals.{add-one}
+use native.Mathlib.Omega.{arith}
+use borrow.Author.Tests.{eq-eqb, ne-eqb}
+use lib.ListN.{length, take, drop, getD, drop-of-length-le}
+use lib.Seq.{drop-cons}
+use lib.Dec.{eqb}
+use Rattle.recording.specs.Command.{begins, startWord, requestWord, reportWord, storeWord, memoryWord, processWord, commandOf}
+
+pub begins-short : (text line : List ℕ) → length line < length text → false ≡ begins text line
+unfolding begins
+begins-short [] line h = absurd (omega (arith, h))
+begins-short (c ∷ text) [] h = refl
+begins-short (c ∷ text) (d ∷ line) h = go (eqb d c) (begins-short text line (omega (arith, h)))
+  where
+    go : (t : Bool) → false ≡ begins text line → false ≡ t && begins text line
+    go true e = e
+    go false e = refl
+
+-- a turn of the loop that compares
+module _ (text line : List ℕ) (i : ℕ) (h : i < length text) (k : i < length line) where
+  here : (xs : List ℕ) → i < length xs → drop i xs ≡ getD xs i 0 ∷ drop (i + 1) xs
+  here xs l = drop-cons xs i 0 l ∙ ap (λ (n : ℕ). getD xs i 0 ∷ drop n xs) (sym (add-one i))
+
+  turn : begins (drop i text) (drop i line) ≡ eqb (getD line i 0) (getD text i 0) && begins (drop (i + 1) text) (drop (i + 1) line)
+  unfolding begins
+  turn = rw (here text h, here line k)
+
+  pub begins-next : getD line i 0 ≡ getD text i 0 → begins (drop (i + 1) text) (drop (i + 1) line) ≡ begins (drop i text) (drop i line)
+  begins-next e = sym (turn ∙ ap (λ (t : Bool). t && begins (drop (i + 1) text) (drop (i + 1) line)) (eq-eqb (getD line i 0) (getD text i 0) e))
+
+  pub begins-other : (getD line i 0 ≡ getD text i 0 → ⊥) → false ≡ begins (drop i text) (drop i line)
+  begins-other n = sym (turn ∙ ap (λ (t : Bool). t && begins (drop (i + 1) text) (drop (i + 1) line)) (ne-eqb (getD line i 0) (getD text i 0) n))
+
+pub begins-end : (text line : List ℕ) (i : ℕ) → length text ≤ i → true ≡ begins (drop i text) line
+unfolding begins
+begins-end text line i h = rw (drop-of-length-le text h)
+
+-- a word is found in the front of a line that is long enough for it
+begins-take : (text line : List ℕ) (n : ℕ) → length text ≤ n → begins text (take n line) ≡ begins text line
+unfolding begins
+begins-take [] line n h = refl
+begins-take (c ∷ text) line zero h = absurd (omega (arith, h))
+begins-take (c ∷ text) [] (suc n) h = refl
+begins-take (c ∷ text) (d ∷ line) (suc n) h = ap (λ (t : Bool). eqb d c && t) (begins-take text line n (omega (arith, h)))
+
+pub command-take : (line : List ℕ) (n : ℕ) → 8 ≤ n → commandOf (take n line) ≡ commandOf line
+unfolding commandOf
+command-take line n h =
+    rw (begins-take startWord line n (omega (arith, h)), begins-take requestWord line n (omega (arith, h)), begins-take reportWord line n (omega (arith, h)), begins-take storeWord line n (omega (arith, h)), begins-take memoryWord line n (omega (arith, h)), begins-take processWord line n (omega (arith, h)))

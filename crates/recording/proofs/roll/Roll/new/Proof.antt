@@ -1,0 +1,10 @@
+-- `recording::roll::Roll::new` meets its contract. Assumes nothing.
+use mathlib.Core.Path.{refl}
+use Rattle.recording.proofs.roll.Roll.new.Statement.{statement}
+use Rattle.recording.proofs.roll.Roll.new.Tie as tie
+
+returns : tie.Need-returns
+returns c = refl
+
+pub new-spec : {M : Type 1} → statement M
+new-spec = tie.close (tie.spec returns)

@@ -1,0 +1,47 @@
+-- Which call a line is, by its first word.
+use mathlib.Core.Bool.{Bool, true, false, cond, _&&_}
+use mathlib.Core.List.{List, [], _∷_}
+use Prim.Native.Nat.{ℕ}
+use lib.Dec.{eqb}
+use Rattle.recording.specs.declared.command.Command.{Command}
+use Rattle.recording.specs.declared.command.Command.the-variants.{Start, Request, Report, Store, Memory, Process, Unknown}
+
+-- a line begins with this text
+unfoldable pub begins : List ℕ → List ℕ → Bool
+begins [] line = true
+begins (c ∷ text) [] = false
+begins (c ∷ text) (d ∷ line) = eqb d c && begins text line
+
+-- `start`
+abbrev pub startWord : List ℕ
+startWord = 115 ∷ 116 ∷ 97 ∷ 114 ∷ 116 ∷ []
+
+-- `request` and a blank
+abbrev pub requestWord : List ℕ
+requestWord = 114 ∷ 101 ∷ 113 ∷ 117 ∷ 101 ∷ 115 ∷ 116 ∷ 32 ∷ []
+
+-- `report`
+abbrev pub reportWord : List ℕ
+reportWord = 114 ∷ 101 ∷ 112 ∷ 111 ∷ 114 ∷ 116 ∷ []
+
+-- `store`
+abbrev pub storeWord : List ℕ
+storeWord = 115 ∷ 116 ∷ 111 ∷ 114 ∷ 101 ∷ []
+
+-- `memory`
+abbrev pub memoryWord : List ℕ
+memoryWord = 109 ∷ 101 ∷ 109 ∷ 111 ∷ 114 ∷ 121 ∷ []
+
+-- `process`
+abbrev pub processWord : List ℕ
+processWord = 112 ∷ 114 ∷ 111 ∷ 99 ∷ 101 ∷ 115 ∷ 115 ∷ []
+
+-- the call that a line begins with
+unfoldable pub commandOf : List ℕ → Command
+commandOf line =
+    cond (begins startWord line) Start
+    (cond (begins requestWord line) Request
+    (cond (begins reportWord line) Report
+    (cond (begins storeWord line) Store
+    (cond (begins memoryWord line) Memory
+    (cond (begins processWord line) Process Unknown)))))
