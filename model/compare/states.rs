@@ -52,12 +52,11 @@ fn some_run(random: &mut Random) -> Run {
 // ---------------------------------------------------------------- damage
 
 /// A kind of damage, done to the bytes of a state.
-type Damage = fn(&mut Random, &mut Vec<u8>);
+type Damage = fn(&mut Random, &mut [u8]);
 
 /// Every kind, and how often it is done.
-const DAMAGES: [(usize, Damage); 13] = [
+const DAMAGES: [(usize, Damage); 12] = [
     (4, some_bytes),
-    (1, wrong_length),
     (1, wrong_run),
     (1, wrong_flag),
     (1, absent_with_host),
@@ -71,14 +70,17 @@ const DAMAGES: [(usize, Damage); 13] = [
     (1, one_more_breakpoint),
 ];
 
-/// Changes a state's bytes by one kind of damage.
+/// Changes a state's bytes by one kind of damage, or their number.
 pub fn damage_state(random: &mut Random, state: &mut Vec<u8>) {
+    if random.one_in(20) {
+        return state.resize(random.pick(&[0, 1, 85, 679, 681, 1360]), 0);
+    }
     let kind = random.weighted(&DAMAGES.map(|(weight, _)| weight));
     DAMAGES[kind].1(random, state);
 }
 
 /// Some bits or bytes anywhere.
-fn some_bytes(random: &mut Random, state: &mut Vec<u8>) {
+fn some_bytes(random: &mut Random, state: &mut [u8]) {
     for _ in 0..=random.below(3) {
         let at = random.below(state.len());
         let flipped = state[at] ^ 1 << random.below(8);
@@ -86,43 +88,39 @@ fn some_bytes(random: &mut Random, state: &mut Vec<u8>) {
     }
 }
 
-fn wrong_length(random: &mut Random, state: &mut Vec<u8>) {
-    state.resize(random.pick(&[0, 1, 85, 679, 681, 1360]), 0);
-}
-
 /// A run state that there is not.
-fn wrong_run(random: &mut Random, state: &mut Vec<u8>) {
+fn wrong_run(random: &mut Random, state: &mut [u8]) {
     state[some_record(random) + 2] = random.pick(&[5, 6, 128, 255]);
 }
 
 /// A flag that is neither 0 nor 1.
-fn wrong_flag(random: &mut Random, state: &mut Vec<u8>) {
+fn wrong_flag(random: &mut Random, state: &mut [u8]) {
     let record = some_record(random);
     let entry = some_entry(random, record);
     let at = random.pick(&[record, entry, entry + 1]);
     state[at] = random.pick(&[2, 3, 128, 255]);
 }
 
-fn absent_with_host(random: &mut Random, state: &mut Vec<u8>) {
+fn absent_with_host(random: &mut Random, state: &mut [u8]) {
     let record = some_record(random);
     state[record..record + 2].copy_from_slice(&[0, random.pick(&HOSTS)]);
 }
 
 /// A breakpoint of an absent process, or of one with no host.
-fn breakpoint_with_no_host(random: &mut Random, state: &mut Vec<u8>) {
+fn breakpoint_with_no_host(random: &mut Random, state: &mut [u8]) {
     let record = some_record(random);
     state[record..record + 2].copy_from_slice(&[random.below(2) as u8, NOBODY]);
     put_entry(state, some_entry(random, record), 0, 1000);
 }
 
-fn wrong_address(random: &mut Random, state: &mut Vec<u8>) {
+fn wrong_address(random: &mut Random, state: &mut [u8]) {
     let record = some_debugged(random, state);
     let wrong = [1, 7, 4093, 4095, 4096, 4097, 4098, 8192, 65534, 65535];
     put_entry(state, some_entry(random, record), 0, random.pick(&wrong));
 }
 
 /// The same address twice, unless both are the same entry.
-fn same_address(random: &mut Random, state: &mut Vec<u8>) {
+fn same_address(random: &mut Random, state: &mut [u8]) {
     let record = some_debugged(random, state);
     let address = random.pick(&[0, 2, 4092, 4094]);
     put_entry(state, some_entry(random, record), 0, address);
@@ -130,7 +128,7 @@ fn same_address(random: &mut Random, state: &mut Vec<u8>) {
 }
 
 /// One lifted or two, in any run state.
-fn one_or_two_lifted(random: &mut Random, state: &mut Vec<u8>) {
+fn one_or_two_lifted(random: &mut Random, state: &mut [u8]) {
     let record = some_debugged(random, state);
     state[record + 2] = some_run(random) as u8;
     put_entry(state, some_entry(random, record), 1, 1000);
@@ -139,7 +137,7 @@ fn one_or_two_lifted(random: &mut Random, state: &mut Vec<u8>) {
 
 /// Sound: a process with no host in any run state, or an absent one with a run
 /// state and a vector.
-fn no_host(random: &mut Random, state: &mut Vec<u8>) {
+fn no_host(random: &mut Random, state: &mut [u8]) {
     let record = some_record(random);
     let run = if random.one_in(2) { some_run(random) } else { Run::Stepping };
     let there = u8::from(!random.one_in(4));
@@ -149,7 +147,7 @@ fn no_host(random: &mut Random, state: &mut Vec<u8>) {
 }
 
 /// Sound: bytes in the free entries of a process.
-fn old_bytes(random: &mut Random, state: &mut Vec<u8>) {
+fn old_bytes(random: &mut Random, state: &mut [u8]) {
     let record = some_record(random);
     let entries = &mut state[record + ENTRIES_AT..record + RECORD_BYTES];
     for entry in entries.chunks_exact_mut(ENTRY_BYTES).filter(|entry| entry[0] == 0) {
@@ -159,12 +157,12 @@ fn old_bytes(random: &mut Random, state: &mut Vec<u8>) {
 }
 
 /// Sound where the process is there.
-fn another_host(random: &mut Random, state: &mut Vec<u8>) {
+fn another_host(random: &mut Random, state: &mut [u8]) {
     state[some_record(random) + 1] = random.pick(&HOSTS);
 }
 
 /// Mostly sound: a planted breakpoint more.
-fn one_more_breakpoint(random: &mut Random, state: &mut Vec<u8>) {
+fn one_more_breakpoint(random: &mut Random, state: &mut [u8]) {
     let record = some_debugged(random, state);
     let address = 2 * random.below(SPACE / 2) as u16;
     put_entry(state, some_entry(random, record), 0, address);

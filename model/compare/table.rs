@@ -126,10 +126,9 @@ impl Table {
     pub fn print(&self) {
         let names = (0..COLUMNS).map(|c| format!("{:>1$}", column_name(c), column_width(c)));
         println!("{:>16}{}", "", names.collect::<String>());
-        for row in 0..ROW_COUNT {
-            let counts =
-                (0..COLUMNS).map(|c| format!("{:>1$}", self.cell(row, c), column_width(c)));
-            println!("{:>16}{}", ROWS[row].name, counts.collect::<String>());
+        for (i, row) in ROWS.iter().enumerate() {
+            let counts = (0..COLUMNS).map(|c| format!("{:>1$}", self.cell(i, c), column_width(c)));
+            println!("{:>16}{}", row.name, counts.collect::<String>());
         }
     }
 
