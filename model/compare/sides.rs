@@ -164,7 +164,7 @@ fn first_difference(name: &str, model: &Lent, library: &Lent) -> Option<String> 
     let place = match i.checked_sub(GUARD) {
         None => format!("{} before the buffer", GUARD - i),
         Some(at) if at >= model.bytes().len() => {
-            format!("{} behind the buffer", at - model.bytes().len())
+            format!("{} behind the buffer", at + 1 - model.bytes().len())
         }
         Some(at) if name == "state" => {
             format!("{at} (process {}, byte {})", at / RECORD_BYTES, at % RECORD_BYTES)

@@ -142,10 +142,11 @@ impl Table {
     /// The possible answers that were never met, and the impossible ones that
     /// were.
     pub fn wrong(&self) -> Vec<String> {
+        let table = if self.damaged { "damaged" } else { "fresh" };
         let cells = (0..ROW_COUNT).flat_map(|row| (0..COLUMNS).map(move |column| (row, column)));
         cells
             .filter(|&(row, column)| self.feasible(row, column) != (self.counts[row][column] > 0))
-            .map(|(row, column)| format!("{}, {}", ROWS[row].name, column_name(column)))
+            .map(|(row, column)| format!("{table}: {}, {}", ROWS[row].name, column_name(column)))
             .collect()
     }
 }
