@@ -1,11 +1,12 @@
 //! Compares a library with the model, call by call, on random call lists.
 //!
-//! Arguments: the number of calls (200000 if not given), a seed (1 if not
-//! given) and the word `each`, with which every call is printed before it is
-//! made (should the library not come back from one). The same seed always gives
-//! the same calls. The program ends with 1 at the first difference, and with 1
-//! if a kind of answer that the paper makes possible, or one of the passages
-//! that are counted, was never met; otherwise with 0.
+//! Arguments: the number of calls (200000 if not given), which are made without
+//! damage to the state and as many again with it; a seed (1 if not given); and
+//! the word `each`, with which every call is printed before it is made (should
+//! the library not come back from one). The same seed always gives the same
+//! calls. The program ends with 1 at the first difference, and with 1 if a kind
+//! of answer that the paper makes possible, or one of the passages that are
+//! counted, was never met; otherwise with 0.
 //!
 //! The library is given to the linker (`-L DIR -l static=embedding`); with the
 //! feature `standin` the model itself takes its place. If the library was built

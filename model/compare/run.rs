@@ -1,10 +1,11 @@
 //! The run: lists of calls, each on what the one before left, and what was met.
 //!
-//! A list begins with a fresh start. In half of the lists the bytes of the state
-//! are damaged now and then, some from the first call on. Where they are still
-//! those of a sound state, the list goes on from it; where not, the call has to
-//! be refused by 2, and the bytes are put back. Calls on damaged states, and on
-//! what follows from them, are counted apart.
+//! A list begins with a fresh start. First come lists without damage, then lists
+//! in which the bytes of the state are damaged now and then, in some from the
+//! first call on. Where they are still those of a sound state, the list goes on
+//! from it; where not, the call has to be refused by 2, and the bytes are put
+//! back. Calls on damaged states, and on what follows from them, are counted
+//! apart.
 
 use crate::calls::{make_call, some_output, used_address, Mood, MOODS};
 use crate::passages::{self, open, Open, Passages};
@@ -50,19 +51,25 @@ impl Comparison {
         }
     }
 
-    /// Makes so many calls: nothing, or the first difference.
+    /// Makes so many calls in lists without damage, and as many in lists with
+    /// it: nothing, or the first difference.
     pub fn run(&mut self, limit: u64) -> Result<(), String> {
+        self.lists(limit, false)?;
+        self.lists(2 * limit, true)
+    }
+
+    /// Lists up to so many calls in all.
+    fn lists(&mut self, limit: u64, with_damage: bool) -> Result<(), String> {
         while self.calls < limit {
             let length = 100 + self.random.below(500) as u64;
-            self.list(limit.min(self.calls + length))?;
+            self.list(limit.min(self.calls + length), with_damage)?;
         }
         Ok(())
     }
 
     /// One list, up to so many calls in all.
-    fn list(&mut self, end: u64) -> Result<(), String> {
+    fn list(&mut self, end: u64, with_damage: bool) -> Result<(), String> {
         self.start()?;
-        let with_damage = self.random.one_in(2);
         if with_damage && self.random.one_in(3) {
             let state = some_sound_state(&mut self.random);
             self.lend_state(&encode(&state));
