@@ -1,4 +1,4 @@
-# make test   the gate: layout of the files, every proof, must-fail edit and program, then the library from outside
+# make test   the gate: layout of the files, every proof, must-fail edit and program, then a recording and the library from outside
 # make model  the library against the model; CALLS=2000000 SEED=7 for a longer run
 # make bench  instructions a call, stack and code size of the library, beside the model
 # make fuzz   a coverage-guided fuzzer on library and model; SECONDS=600 for a longer run
@@ -27,11 +27,8 @@ bench: library
 fuzz: library
 	@sh fuzz/run $(SECONDS)
 
-# A comment of the recording is printed as it is, a call behind a mark, and what came of it below.
 run: target/bin/replay
-	@grep -v '^#' examples/handover.txt | target/bin/replay >target/handover.out
-	@awk 'NR == FNR { came[NR] = $$0; next } /^#/ { print; next } { print "> " $$0 } !/^start/ { print "  " came[++n] }' \
-	  target/handover.out examples/handover.txt
+	@sh examples/play examples/handover.txt
 
 target/bin/%: crates.txt $(shell find crates -type f)
 	@mkdir -p target

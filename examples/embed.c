@@ -3,14 +3,28 @@
 #include <stdio.h>
 #include <string.h>
 
+enum {
+    SPACE = PALUSTRODE_MEMORY_BYTES / 8,                               /* a process's bytes of memory */
+    HOST = 1,                                                          /* in a process's bytes of the state */
+    ENTRIES = PALUSTRODE_PROCESS_BYTES - 8 * PALUSTRODE_ENTRY_BYTES,   /* and where its breakpoints begin */
+    PC = 7                                                             /* among the nine words */
+};
+
 static uint8_t state[PALUSTRODE_STATE_BYTES];
 static uint8_t memory[PALUSTRODE_MEMORY_BYTES];
 static uint8_t out[PALUSTRODE_BUFFER_BYTES];
 
+static uint8_t *process(int p) { return state + p * PALUSTRODE_PROCESS_BYTES; }
+
 static void show(const char *what, int64_t result, size_t written) {
-    printf("%-28s %4lld ", what, (long long)result);
+    printf("%-28s %4lld%s", what, (long long)result, written > 0 ? " " : "");
     for (size_t i = 0; i < written; i++) printf(" %02x", out[i]);
     printf("\n");
+}
+
+static void show_word(const char *what, int address) {
+    const uint8_t *word = memory + 2 * SPACE + address;
+    printf("%-28s       %02x %02x\n", what, word[0], word[1]);
 }
 
 static void ask(const char *what, const uint8_t *message, size_t length) {
@@ -20,10 +34,25 @@ static void ask(const char *what, const uint8_t *message, size_t length) {
 
 static void report(const char *what, uint8_t kind, uint16_t pc) {
     uint8_t words[PALUSTRODE_WORDS_BYTES] = {0};
-    words[14] = pc & 255;
-    words[15] = pc >> 8;
+    words[2 * PC] = pc & 255;
+    words[2 * PC + 1] = pc >> 8;
     int64_t r = palustrode_report(state, sizeof state, memory, sizeof memory, 2, kind, 0, words, sizeof words, out, sizeof out);
     show(what, r, r >= 0 ? (size_t)r : 0);
+}
+
+/* A request while one byte of the state is wrong, and whether it left everything as it was; then the byte is put right. */
+static void ask_on_wrong(const char *what, uint8_t *byte, uint8_t wrong, const uint8_t *message, size_t length) {
+    static uint8_t state_was[sizeof state], memory_was[sizeof memory], out_was[sizeof out];
+    uint8_t right = *byte;
+    *byte = wrong;
+    memcpy(state_was, state, sizeof state);
+    memcpy(memory_was, memory, sizeof memory);
+    memcpy(out_was, out, sizeof out);
+    ask(what, message, length);
+    int same = memcmp(state_was, state, sizeof state) == 0 && memcmp(memory_was, memory, sizeof memory) == 0 &&
+               memcmp(out_was, out, sizeof out) == 0;
+    printf("%-28s       %s\n", "state, memory and output", same ? "as before" : "changed");
+    *byte = right;
 }
 
 int main(void) {
@@ -33,24 +62,21 @@ int main(void) {
     static const uint8_t set[] = {0, 5, 255, 0, 8, 2, 1, 0, 0, 1};
     static const uint8_t examine[] = {0, 5, 255, 0, 6, 2, 1, 0, 0, 2};
     static const uint8_t end[] = {0, 5, 255, 0, 2, 2, 0, 0, 0, 0};
-    uint8_t before[PALUSTRODE_STATE_BYTES];
 
     show("fresh start, process 2", palustrode_fresh_start(1 << 2, state, sizeof state), 0);
     ask("host 5 debugs it", debug5, sizeof debug5);
     ask("host 6 asks for it", debug6, sizeof debug6);
     ask("host 5 deposits 18, 52", deposit, sizeof deposit);
     ask("breakpoint there, count 1", set, sizeof set);
-    printf("%-28s       %02x %02x\n", "memory holds", memory[2 * 4096 + 256], memory[2 * 4096 + 257]);
+    show_word("memory holds", 256);
     ask("host 5 examines it", examine, sizeof examine);
     report("BPT there, passed silently", 2, 256);
     report("BPT there, and a notice", 2, 256);
     ask("a message of no bytes", debug5, 0);
-    memcpy(before, state, sizeof state);
-    state[2 * 85 + 21] = 7; /* no flag: not a state */
-    ask("damaged state", debug5, sizeof debug5);
-    memcpy(state, before, sizeof state);
+    ask_on_wrong("flag of a breakpoint is 7", process(2) + ENTRIES, 7, debug5, sizeof debug5);
+    ask_on_wrong("absent process with a host", process(3) + HOST, 6, debug5, sizeof debug5);
     ask("END DEBUG", end, sizeof end);
-    printf("%-28s       %02x %02x\n", "memory holds", memory[2 * 4096 + 256], memory[2 * 4096 + 257]);
+    show_word("memory holds", 256);
     ask("host 6 debugs it", debug6, sizeof debug6);
     return 0;
 }

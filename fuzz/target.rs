@@ -1,5 +1,5 @@
 //! What the fuzzer runs: its bytes are read as a list of calls, the proved library and the model make each of them, and the program aborts
-//! at the first difference of result, state bytes, memory or output buffer.
+//! at the first difference of result, state, memory, message, words or output buffer, or of the bytes around one of them.
 //!
 //! The first byte says which processes are there. Then come records of eight bytes; the low three bits of the first say what it is:
 //!
@@ -15,158 +15,27 @@
 //! together, bit 4 makes the string a byte too long, bit 5 takes the arguments from the edges of the ranges; of damage, it makes an entry.
 #![no_main]
 
+#[path = "../model/compare/library.rs"]
+mod library;
+#[path = "../model/compare/sides.rs"]
+mod sides;
+
 use model::*;
+use sides::{is_sound, Call, Pair, Side};
 use std::os::raw::c_int;
 
-extern "C" {
-    fn palustrode_fresh_start(there: u8, state: *mut u8, state_len: usize) -> i64;
-    fn palustrode_request(
-        state: *mut u8,
-        state_len: usize,
-        memory: *mut u8,
-        memory_len: usize,
-        message: *const u8,
-        message_len: usize,
-        reply: *mut u8,
-        reply_len: usize,
-    ) -> i64;
-    fn palustrode_report(
-        state: *mut u8,
-        state_len: usize,
-        memory: *mut u8,
-        memory_len: usize,
-        process: u8,
-        kind: u8,
-        reason: u16,
-        words: *const u8,
-        words_len: usize,
-        notice: *mut u8,
-        notice_len: usize,
-    ) -> i64;
-}
-
-// ---------------------------------------------------------------- buffers
-
-/// Bytes in front of and behind each lent buffer, compared like the rest.
-const GUARD: usize = 64;
-
-#[derive(Clone, PartialEq)]
-struct Lent(Vec<u8>);
-
-impl Lent {
-    fn new(bytes: &[u8]) -> Lent {
-        Lent([&[0x5a; GUARD], bytes, &[0x5a; GUARD]].concat())
-    }
-
-    fn bytes(&self) -> &[u8] {
-        &self.0[GUARD..self.0.len() - GUARD]
-    }
-
-    fn change(&mut self) -> &mut [u8] {
-        let end = self.0.len() - GUARD;
-        &mut self.0[GUARD..end]
-    }
-
-    /// A copy with another length.
-    fn resized(&self, length: usize) -> Lent {
-        let mut bytes = self.bytes().to_vec();
-        bytes.resize(length, 0);
-        Lent::new(&bytes)
-    }
-}
-
-#[derive(Clone, PartialEq)]
-struct Side {
-    state: Lent,
-    memory: Lent,
-    output: Lent,
-}
-
-enum Call {
-    Request(Vec<u8>),
-    Report { process: u8, kind: u8, reason: u16, words: Vec<u8> },
-}
-
-fn by_model(call: &Call, side: &mut Side) -> i64 {
-    let (s, m, o) = (side.state.change(), side.memory.change(), side.output.change());
-    match call {
-        Call::Request(message) => request_bytes(s, m, message, o),
-        Call::Report { process, kind, reason, words } => {
-            report_bytes(s, m, *process, *kind, *reason, words, o)
-        }
-    }
-}
-
-fn by_library(call: &Call, side: &mut Side) -> i64 {
-    let (s, m, o) = (side.state.change(), side.memory.change(), side.output.change());
-    let (s_len, m_len, o_len) = (s.len(), m.len(), o.len());
-    let (s, m, o) = (s.as_mut_ptr(), m.as_mut_ptr(), o.as_mut_ptr());
-    match call {
-        Call::Request(a) => unsafe {
-            palustrode_request(s, s_len, m, m_len, a.as_ptr(), a.len(), o, o_len)
-        },
-        Call::Report { process, kind, reason, words: w } => unsafe {
-            let (p, k, r) = (*process, *kind, *reason);
-            palustrode_report(s, s_len, m, m_len, p, k, r, w.as_ptr(), w.len(), o, o_len)
-        },
-    }
-}
-
-// ---------------------------------------------------------------- comparing
-
-fn stop(what: &str, call: &Call, answers: [i64; 2], model: &Side, library: &Side) -> ! {
-    eprintln!("fuzz: {what}; model {}, library {}", answers[0], answers[1]);
-    match call {
-        Call::Request(message) => eprintln!("request {message:?}"),
-        Call::Report { process, kind, reason, words } => {
-            eprintln!("report of process {process}, kind {kind}, reason {reason}, words {words:?}")
-        }
-    }
-    let parts = [
-        ("state", &model.state, &library.state),
-        ("memory", &model.memory, &library.memory),
-        ("output", &model.output, &library.output),
-    ];
-    for (name, a, b) in parts {
-        if let Some(at) = a.0.iter().zip(&b.0).position(|(a, b)| a != b) {
-            let place = at as i64 - GUARD as i64;
-            eprintln!("{name} byte {place}: model {}, library {}", a.0[at], b.0[at]);
-        }
-    }
+/// Prints what is wrong and aborts, which is how the fuzzer learns of it.
+fn stop(text: &str) -> ! {
+    eprintln!("{text}");
     std::process::abort()
 }
 
-/// On damaged states alone: bytes in entries that were free already when END DEBUG or CREATE was granted are left by one side and cleared
-/// by the other; document 01 says nothing of them. They are passed over.
-fn pass_over_free(call: &Call, before: &Side, side: &mut Side) {
-    let Call::Request(message) = call else { return };
-    if !matches!(message[4], END_DEBUG | CREATE_PROCESS) {
-        return;
-    }
-    let p = usize::from(side.output.bytes()[5]) % PROCESSES;
-    let state = side.state.change();
-    for at in (0..BREAKPOINTS).map(|e| RECORD_BYTES * p + ENTRIES_AT + ENTRY_BYTES * e) {
-        if before.state.bytes()[at] == 0 && state[at] == 0 {
-            state[at..at + ENTRY_BYTES].fill(0);
-        }
-    }
-}
-
-/// Makes the call on both sides, which are alike before it and have to be alike after it.
-fn compare(call: &Call, model: &mut Side, library: &mut Side, damaged: bool) {
-    let before = damaged.then(|| model.clone());
-    let answer = by_library(call, library);
-    note(call, model, answer);
-    let answers = [by_model(call, model), answer];
-    if answers[0] != answers[1] {
-        stop("results differ", call, answers, model, library);
-    }
-    if let Some(before) = before.filter(|_| answers[0] > 0) {
-        pass_over_free(call, &before, model);
-        pass_over_free(call, &before, library);
-    }
-    if model != library {
-        stop("bytes differ", call, answers, model, library);
+/// Makes the call on both sides.
+fn compare(call: &Call, pair: &mut Pair) {
+    let found = condition_for(call, pair.model.state.bytes());
+    match pair.call(call) {
+        Ok(answer) => note(call, found, answer),
+        Err(text) => stop(&text),
     }
 }
 
@@ -190,18 +59,26 @@ fn condition(state: &[u8], p: u8) -> usize {
     usize::from(record[2]).min(4) * 3 + breaks
 }
 
-fn note(call: &Call, before: &Side, answer: i64) {
-    let (what, process) = match call {
-        Call::Request(m) if m.len() >= HEAD => (usize::from(m[4]).min(14), m[5]),
-        Call::Request(_) => (15, 0),
-        Call::Report { kind, process, .. } => (16 + usize::from(*kind).min(3), *process),
+/// The condition of the process that a call names.
+fn condition_for(call: &Call, state: &[u8]) -> usize {
+    match call {
+        Call::Request { message } => condition(state, message.get(5).copied().unwrap_or(0)),
+        Call::Report { process, .. } => condition(state, *process),
+    }
+}
+
+fn note(call: &Call, found: usize, answer: i64) {
+    let what = match call {
+        Call::Request { message: m } if m.len() >= HEAD => usize::from(m[4]).min(14),
+        Call::Request { .. } => 15,
+        Call::Report { kind, .. } => 16 + usize::from(*kind).min(3),
     };
     let answered = match answer {
         1.. => 0,
         0 => 1,
         refused => 1 + (-refused).clamp(1, 15) as usize,
     };
-    let index = (what * ANSWERS + answered) * CONDITIONS + condition(before.state.bytes(), process);
+    let index = (what * ANSWERS + answered) * CONDITIONS + found;
     unsafe { SEEN[index] = 1 };
 }
 
@@ -267,7 +144,7 @@ fn request_from(r: [u8; 8]) -> Call {
     let [c, d] = arg2.to_be_bytes();
     let mut message = vec![0, host, 255, 0, cmd, pid, a, b, c, d];
     message.extend((0..string + usize::from(longer)).map(|i| (i as u8).wrapping_mul(7) ^ r[1]));
-    Call::Request(message)
+    Call::Request { message }
 }
 
 fn report_from(r: [u8; 8]) -> Call {
@@ -327,17 +204,15 @@ impl Spoiled {
         self.damage.is_empty() && self.lengths.is_none()
     }
 
-    fn copy_of(&self, side: &Side) -> Side {
-        let mut copy = side.clone();
+    fn change(&self, side: &mut Side) {
         for &(at, value) in &self.damage {
-            copy.state.change()[at % STATE_BYTES] = value;
+            side.state.change()[at % STATE_BYTES] = value;
         }
         if let Some([state, memory, output, _]) = self.lengths {
-            copy.state = copy.state.resized(other(STATE_BYTES, state));
-            copy.memory = copy.memory.resized(other(MEMORY, memory));
-            copy.output = copy.output.resized(other(LONGEST, output));
+            side.state = side.state.resized(other(STATE_BYTES, state));
+            side.memory = side.memory.resized(other(MEMORY, memory));
+            side.output = side.output.resized(other(LONGEST, output));
         }
-        copy
     }
 
     fn words(&self, call: &mut Call) {
@@ -347,67 +222,51 @@ impl Spoiled {
     }
 }
 
-struct Pair {
-    model: Side,
-    library: Side,
-    damaged: bool,
+// ---------------------------------------------------------------- the list
+
+/// Both sides after a fresh start into a buffer that is not zero.
+fn started(there: u8) -> Pair {
+    let memory: Vec<u8> = (0..MEMORY).map(|i| (i / 2 % 251) as u8).collect();
+    let mut pair = Pair::new(Side::new(&[1; STATE_BYTES], &memory, &[0xee; LONGEST]));
+    if let Err(text) = pair.fresh_start(there) {
+        stop(&text);
+    }
+    pair
 }
 
-impl Pair {
-    fn new(there: u8) -> Pair {
-        let memory: Vec<u8> = (0..MEMORY).map(|i| (i / 2 % 251) as u8).collect();
-        let (mut model, mut library) = ([1; STATE_BYTES], [2; STATE_BYTES]);
-        fresh_start_bytes(there, &mut model);
-        unsafe { palustrode_fresh_start(there, library.as_mut_ptr(), STATE_BYTES) };
-        let side = |state: &[u8]| Side {
-            state: Lent::new(state),
-            memory: Lent::new(&memory),
-            output: Lent::new(&[0xee; LONGEST]),
-        };
-        let pair = Pair { model: side(&model), library: side(&library), damaged: false };
-        if pair.model != pair.library {
-            eprintln!("fuzz: fresh start of {there} differs");
-            std::process::abort();
-        }
-        pair
+fn make(pair: &mut Pair, mut call: Call, spoiled: Spoiled) {
+    if spoiled.is_nothing() {
+        return compare(&call, pair);
     }
+    spoiled.words(&mut call);
+    let mut copy = pair.clone();
+    copy.change(|side| spoiled.change(side));
+    let keep = spoiled.keep && spoiled.lengths.is_none() && is_sound(copy.model.state.bytes());
+    compare(&call, &mut copy);
+    if keep {
+        *pair = copy;
+    }
+}
 
-    fn make(&mut self, mut call: Call, spoiled: Spoiled) {
-        if spoiled.is_nothing() {
-            return compare(&call, &mut self.model, &mut self.library, self.damaged);
-        }
-        spoiled.words(&mut call);
-        let (mut model, mut library) =
-            (spoiled.copy_of(&self.model), spoiled.copy_of(&self.library));
-        let whole = spoiled.lengths.is_none();
-        let keep = whole && spoiled.keep && decode(model.state.bytes()).is_some_and(|s| sound(&s));
-        compare(&call, &mut model, &mut library, true);
-        if keep {
-            *self = Pair { model, library, damaged: true };
-        }
-    }
-
-    fn store(&mut self, r: [u8; 8]) {
-        let at = (usize::from(r[1]) << 12 | usize::from(word(r[2], r[3])) & 0xfff) % MEMORY;
-        self.model.memory.change()[at] = r[4];
-        self.library.memory.change()[at] = r[4];
-    }
+fn store(pair: &mut Pair, r: [u8; 8]) {
+    let at = (usize::from(r[1]) << 12 | usize::from(word(r[2], r[3])) & 0xfff) % MEMORY;
+    pair.change(|side| side.memory.change()[at] = r[4]);
 }
 
 fn run(data: &[u8]) {
     let Some((&there, rest)) = data.split_first() else { return };
-    let mut pair = Pair::new(there);
+    let mut pair = started(there);
     let mut records = Records(rest);
     let mut spoiled = Spoiled::default();
     while let Some(r) = records.next() {
         match r[0] & 7 {
-            0..=2 => pair.make(request_from(r), std::mem::take(&mut spoiled)),
+            0..=2 => make(&mut pair, request_from(r), std::mem::take(&mut spoiled)),
             3 => {
                 let message = records.take(usize::from(word(r[1] & 1, r[2]))).to_vec();
-                pair.make(Call::Request(message), std::mem::take(&mut spoiled));
+                make(&mut pair, Call::Request { message }, std::mem::take(&mut spoiled));
             }
-            4 => pair.make(report_from(r), std::mem::take(&mut spoiled)),
-            5 => pair.store(r),
+            4 => make(&mut pair, report_from(r), std::mem::take(&mut spoiled)),
+            5 => store(&mut pair, r),
             6 => spoiled.damage_from(r),
             _ => spoiled.lengths = Some([r[1], r[2], r[3], r[4]]),
         }

@@ -5,7 +5,10 @@
 #include <stddef.h>
 #include <stdint.h>
 
+/* A state is eight processes of 85 bytes; the last 64 of these are eight breakpoint entries of 8 bytes. */
 #define PALUSTRODE_STATE_BYTES 680
+#define PALUSTRODE_PROCESS_BYTES 85
+#define PALUSTRODE_ENTRY_BYTES 8
 #define PALUSTRODE_MEMORY_BYTES 32768
 #define PALUSTRODE_BUFFER_BYTES 266
 #define PALUSTRODE_WORDS_BYTES 18
@@ -14,7 +17,13 @@
 extern "C" {
 #endif
 
-/* Each call returns the length granted, 0 or more, or minus the number of the refusal. */
+/* Each call returns the length granted, 0 or more, or minus the number of the refusal. Any bytes in the buffers are safe, and any lengths.
+ *
+ * What a caller must not do:
+ * - lend a pointer that is not valid for its length; nothing is promised of NULL, even with a length of 0;
+ * - lend buffers that overlap in one call, least of all the reply where the message is;
+ * - make two calls at a time on one state or one memory;
+ * - make a request or a report before the first fresh start. */
 
 /* A fresh start: process p is there where bit p of `there` is set. 0, or -1 where the state has not its 680 bytes. */
 int64_t palustrode_fresh_start(uint8_t there, uint8_t *state, size_t state_length);

@@ -9,37 +9,14 @@
 //! is made; what is left is the harness).
 #![no_main]
 
+use library::*;
 use model::{Run, State, LONGEST, MEMORY, STATE_BYTES, VECTOR, WORDS};
 use std::arch::asm;
 use std::ffi::{c_char, c_int, CStr};
 use std::hint::black_box;
 
-extern "C" {
-    fn palustrode_fresh_start(there: u8, state: *mut u8, state_len: usize) -> i64;
-    fn palustrode_request(
-        state: *mut u8,
-        state_len: usize,
-        memory: *mut u8,
-        memory_len: usize,
-        message: *const u8,
-        message_len: usize,
-        reply: *mut u8,
-        reply_len: usize,
-    ) -> i64;
-    fn palustrode_report(
-        state: *mut u8,
-        state_len: usize,
-        memory: *mut u8,
-        memory_len: usize,
-        process: u8,
-        kind: u8,
-        reason: u16,
-        words: *const u8,
-        words_len: usize,
-        notice: *mut u8,
-        notice_len: usize,
-    ) -> i64;
-}
+#[path = "../model/compare/library.rs"]
+mod library;
 
 // ---------------------------------------------------------------- rows
 

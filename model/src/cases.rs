@@ -218,6 +218,23 @@ fn end_debug_leaves_no_bpt_in_memory() {
     assert_eq!(*g.process(), Process { there: true, ..CLEARED });
 }
 
+/// An entry that is free and not all zero, as no call leaves one.
+const OLD: Breakpoint =
+    Breakpoint { used: false, lifted: true, address: 7, remaining: 8, saved: [9, 10] };
+
+#[test]
+fn end_debug_and_create_leave_eight_entries_of_zeros() {
+    let mut g = Gateway::debugged();
+    g.ask(5, BREAK, 2, 0, 0, &[]);
+    g.process().breakpoints[3] = OLD;
+    assert_eq!(g.ask(5, END_DEBUG, 2, 0, 0, &[]), 10);
+    assert_eq!(*g.process(), Process { there: true, ..CLEARED });
+    g.state.processes[0] = Process { vector: [1; WORDS], breakpoints: [OLD; 8], ..CLEARED };
+    assert_eq!(g.ask(5, CREATE_PROCESS, 0, 0, 0, &[]), 10);
+    let created = Process { there: true, host: 5, run: Run::Stopped, ..CLEARED };
+    assert_eq!(g.state.processes[0], created);
+}
+
 #[test]
 fn end_debug_leaves_ended_as_it_is() {
     let mut g = Gateway::debugged();

@@ -539,11 +539,10 @@ impl Process {
 
     /// "END DEBUG: all breakpoints go, planted words put back; nobody debugs
     /// it. Stopped, at a breakpoint or stepping becomes running; ended stays."
+    /// "a freed entry is all zero": so are all eight.
     fn end_debug(&mut self, space: &mut [u8]) {
         for breakpoint in &mut self.breakpoints {
-            if breakpoint.used {
-                breakpoint.free(space);
-            }
+            breakpoint.free(space);
         }
         self.host = NOBODY;
         if self.run != Run::Ended {

@@ -1,0 +1,319 @@
+//! Random calls, most of them such as can be granted in the state at hand.
+
+use crate::random::Random;
+use crate::sides::Call;
+use model::*;
+
+/// Hosts that meet at the same processes.
+pub const HOSTS: [u8; 3] = [5, 6, 7];
+
+/// Numbers at the edges of the paper's ranges.
+const EDGES: [u16; 18] =
+    [0, 1, 2, 16, 17, 18, 255, 256, 257, 4092, 4093, 4094, 4095, 4096, 4097, 32768, 65534, 65535];
+
+/// Ranges of memory, first byte and count, at the edges of what is granted. A
+/// DEPOSIT of 257 bytes is a message of 267.
+const RANGES: [(u16, u16); 9] = [
+    (4092, 4),
+    (4093, 4),
+    (4096, 0),
+    (4096, 1),
+    (65535, 2),
+    (0, 256),
+    (3840, 256),
+    (0, 257),
+    (3839, 257),
+];
+
+/// The same of the vector.
+const VECTOR_RANGES: [(u16, u16); 6] = [(0, 18), (16, 2), (17, 2), (18, 0), (18, 1), (65535, 2)];
+
+/// What a list tends to: the weights of the fourteen op codes, and how many of
+/// sixteen calls are reports.
+pub struct Mood {
+    weights: [usize; 14],
+    reports: usize,
+}
+
+pub const MOODS: [Mood; 4] = [
+    // a little of everything
+    Mood { weights: [1, 6, 2, 2, 4, 3, 4, 2, 5, 2, 3, 3, 2, 2], reports: 4 },
+    // all eight breakpoints of a process
+    Mood { weights: [1, 6, 0, 1, 4, 1, 4, 1, 24, 2, 1, 1, 1, 1], reports: 2 },
+    // all eight processes
+    Mood { weights: [1, 2, 1, 1, 1, 1, 1, 1, 1, 1, 1, 1, 5, 2], reports: 2 },
+    // running, stepping, proceeding
+    Mood { weights: [1, 6, 1, 4, 3, 9, 3, 2, 8, 2, 9, 9, 2, 2], reports: 8 },
+];
+
+pub fn make_call(random: &mut Random, state: &State, mood: &Mood) -> Call {
+    if random.below(16) < mood.reports {
+        return make_report(random, state);
+    }
+    let mut message = make_request(random, state, mood);
+    let mut spoil = random.one_in(8);
+    while spoil {
+        spoil_message(random, &mut message);
+        spoil = random.one_in(3);
+    }
+    if random.one_in(200) {
+        let length = random.below(300);
+        message = random.bytes(length);
+    }
+    Call::Request { message }
+}
+
+/// Mostly a process that the test picks out, else any number, at times over 7.
+fn some_process(random: &mut Random, state: &State, test: impl Fn(&Process) -> bool) -> u8 {
+    let fit: Vec<u8> = (0..8).filter(|&p| test(&state.processes[usize::from(p)])).collect();
+    if !fit.is_empty() && !random.one_in(8) {
+        return random.pick(&fit);
+    }
+    match random.below(16) {
+        0 => random.pick(&[8, 9, 10, 15, 16, 127, 128, 254, 255]),
+        1 => random.byte(),
+        _ => random.below(8) as u8,
+    }
+}
+
+/// A process to which the request fits; at times, one with a lifted breakpoint.
+fn process_for(random: &mut Random, state: &State, cmd: u8) -> u8 {
+    let has_lifted = |p: &Process| p.breakpoints.iter().any(|b| b.used && b.lifted);
+    if state.processes.iter().any(has_lifted) && random.one_in(2) {
+        return some_process(random, state, has_lifted);
+    }
+    let narrow = !random.one_in(4);
+    some_process(random, state, |p| {
+        let fits = match cmd {
+            DEBUG => return p.there && (p.host == NOBODY || !narrow),
+            STOP => p.run.goes(),
+            RESUME | SINGLE_STEP => p.run.waits(),
+            PROCEED_BPT => p.run == Run::AtBreakpoint,
+            DESTROY_PROCESS => p.run == Run::Ended,
+            BREAK | UNBREAK | EXAMINE | DEPOSIT => p.breakpoints.iter().any(|b| b.used),
+            _ => true,
+        };
+        p.host != NOBODY && (fits || !narrow)
+    })
+}
+
+/// A well-formed request, mostly one that can be granted.
+fn make_request(random: &mut Random, state: &State, mood: &Mood) -> Vec<u8> {
+    let cmd = random.weighted(&mood.weights) as u8;
+    let pid = match cmd {
+        NOP | CREATE_PROCESS => 0,
+        _ => process_for(random, state, cmd),
+    };
+    let process = &state.processes[usize::from(pid) % PROCESSES];
+    let host = some_host(random, process.host);
+    let (arg1, arg2, string) = make_arguments(random, process, cmd);
+    let mut message = vec![0, host, 255, 0, cmd, pid];
+    message.extend_from_slice(&arg1.to_be_bytes());
+    message.extend_from_slice(&arg2.to_be_bytes());
+    message.extend_from_slice(&string);
+    message
+}
+
+/// Mostly the host that debugs the process.
+fn some_host(random: &mut Random, debugging: u8) -> u8 {
+    match random.below(24) {
+        0 => random.pick(&[0, 1, 4, 8, 254, 255]),
+        1..=5 => random.pick(&HOSTS),
+        _ if debugging != NOBODY => debugging,
+        _ => random.pick(&HOSTS),
+    }
+}
+
+fn make_arguments(random: &mut Random, process: &Process, cmd: u8) -> (u16, u16, Vec<u8>) {
+    match cmd {
+        DEPOSIT => {
+            let (first, count) = some_range(random, process);
+            (first, count, some_string(random, count))
+        }
+        EXAMINE => {
+            let (first, count) = some_range(random, process);
+            (first, count, Vec::new())
+        }
+        DEPOSIT_STATE_VECTOR => vector_arguments(random, process),
+        BREAK => {
+            let address = breakpoint_address(random, process);
+            (address, random.pick(&[0, 0, 1, 1, 2, 3, 256, 65535]), Vec::new())
+        }
+        UNBREAK if random.one_in(2) => (used_address(random, process), 0, Vec::new()),
+        UNBREAK => (some_address(random, process), 0, Vec::new()),
+        _ => (0, 0, Vec::new()),
+    }
+}
+
+fn some_range(random: &mut Random, process: &Process) -> (u16, u16) {
+    if random.one_in(5) {
+        return random.pick(&RANGES);
+    }
+    let count = some_count(random);
+    (some_first(random, process, count), count)
+}
+
+/// As many bytes as the count says; of a count over 257, no more than a message
+/// can have.
+fn some_string(random: &mut Random, count: u16) -> Vec<u8> {
+    let length = if count == 257 { 257 } else { usize::from(count).min(LONGEST_STRING) };
+    random.bytes(length)
+}
+
+/// Mostly one that a string can have.
+fn some_count(random: &mut Random) -> u16 {
+    match random.below(4) {
+        0 => random.pick(&EDGES),
+        1 => random.below(257) as u16,
+        _ => random.pick(&[0, 1, 1, 2, 2, 3, 4, 8, 64, 255, 256]),
+    }
+}
+
+/// The first byte of a range: near a breakpoint, or so that the range ends
+/// near the end of memory, or any.
+fn some_first(random: &mut Random, process: &Process, count: u16) -> u16 {
+    match random.below(4) {
+        0 => {
+            let end = random.pick(&[4095u16, 4096, 4096, 4097]);
+            end.wrapping_sub(count)
+        }
+        1 => {
+            let inside = random.below(usize::from(count) + 1) as u16;
+            some_address(random, process).wrapping_sub(inside)
+        }
+        _ => some_address(random, process),
+    }
+}
+
+fn vector_arguments(random: &mut Random, process: &Process) -> (u16, u16, Vec<u8>) {
+    // PC set to a breakpoint
+    if random.one_in(4) {
+        let pc = used_address(random, process);
+        return (2 * PC as u16, 2, pc.to_le_bytes().to_vec());
+    }
+    let (first, count) = some_vector_range(random);
+    (first, count, some_string(random, count))
+}
+
+fn some_vector_range(random: &mut Random) -> (u16, u16) {
+    if random.one_in(4) {
+        return random.pick(&VECTOR_RANGES);
+    }
+    let first = match random.below(4) {
+        0 => random.pick(&EDGES),
+        _ => random.below(20) as u16,
+    };
+    let count = match random.below(4) {
+        0 => random.pick(&[0, 1, 2, 16, 17, 18, 19, 255, 256]),
+        1 => 18u16.wrapping_sub(first).wrapping_add(random.pick(&[0, 0, 1])),
+        _ => random.below(4) as u16,
+    };
+    (first, count)
+}
+
+/// The address of one of the process's breakpoints, if it has any; often of
+/// the lifted one.
+pub fn used_address(random: &mut Random, process: &Process) -> u16 {
+    let addresses = |test: &dyn Fn(&Breakpoint) -> bool| -> Vec<u16> {
+        process.breakpoints.iter().filter(|b| b.used && test(b)).map(|b| b.address).collect()
+    };
+    let (used, lifted) = (addresses(&|_| true), addresses(&|b| b.lifted));
+    if used.is_empty() {
+        return 2 * random.below(24) as u16;
+    }
+    if !lifted.is_empty() && random.one_in(3) {
+        return lifted[0];
+    }
+    random.pick(&used)
+}
+
+/// An address at or beside a breakpoint, in a small range, or at an edge.
+fn some_address(random: &mut Random, process: &Process) -> u16 {
+    match random.below(8) {
+        0 | 1 => random.pick(&EDGES),
+        2..=4 => {
+            let address = used_address(random, process);
+            address.wrapping_add(random.pick(&[0, 0, 0, 1, 1, 2, u16::MAX]))
+        }
+        5 => random.below(SPACE) as u16,
+        _ => random.below(48) as u16,
+    }
+}
+
+/// Mostly an even address in a small range, so that breakpoints lie side by
+/// side and ranges run over several of them.
+pub fn breakpoint_address(random: &mut Random, process: &Process) -> u16 {
+    match random.below(8) {
+        0 => used_address(random, process),
+        1 => random.pick(&EDGES),
+        2 => random.word(),
+        3 => 2 * random.below(SPACE / 2) as u16,
+        _ => 2 * random.below(24) as u16,
+    }
+}
+
+/// Breaks the layout of a message in one place.
+fn spoil_message(random: &mut Random, message: &mut Vec<u8>) {
+    let choice = random.below(13);
+    if message.len() < HEAD {
+        return;
+    }
+    match choice {
+        0 => message.truncate(random.below(HEAD)),
+        1 => message.resize(LONGEST + random.pick(&[0, 1, 2, 34, 1000]), 1),
+        2 => message[0] = random.pick(&[1, 4, 128, 255]),
+        3 => message[1] = 0,
+        4 => message[2] = random.pick(&[0, 1, 127, 254]),
+        5 => message[3] = random.pick(&[1, 2, 128, 255]),
+        6 => message[4] = random.pick(&[14, 15, 16, 63, 64, 66, 127, 128, 129, 141, 142, 255]),
+        7 => message[4] = random.below(14) as u8,
+        8 => message[5] = random.pick(&[0, 1, 7, 8, 255]),
+        9 => message[6..8].copy_from_slice(&random.pick(&EDGES).to_be_bytes()),
+        10 => message[8..10].copy_from_slice(&random.pick(&EDGES).to_be_bytes()),
+        11 => message.push(random.byte()),
+        _ => message.truncate(HEAD.max(message.len() - 1)),
+    }
+}
+
+fn make_report(random: &mut Random, state: &State) -> Call {
+    let kind = match random.below(32) {
+        0 => random.pick(&[4, 5, 64, 66, 128, 255]),
+        1..=3 => TRAP,
+        4 | 5 => HALT,
+        6..=24 => BPT,
+        _ => TTRAP,
+    };
+    // rather one with breakpoints than any
+    let narrow = random.one_in(2);
+    let process = some_process(random, state, |p| {
+        let fits = p.run == Run::Stepping || p.run == Run::Running && kind != TTRAP;
+        p.there && fits && (!narrow || p.breakpoints.iter().any(|b| b.used))
+    });
+    let reason = match kind {
+        TRAP => random.pick(&[0, 1, 4, 255, 256, 257, 4660, 65535]),
+        _ if random.one_in(10) => random.pick(&[1, 256, 65535]),
+        _ => 0,
+    };
+    let mut words = [0; WORDS];
+    words.fill_with(|| random.word());
+    words[PC] = report_pc(random, &state.processes[usize::from(process) % PROCESSES]);
+    Call::Report { process, kind, reason, words: vector_bytes(&words).to_vec() }
+}
+
+/// Mostly the address of a breakpoint.
+fn report_pc(random: &mut Random, process: &Process) -> u16 {
+    if random.one_in(4) {
+        return some_address(random, process);
+    }
+    used_address(random, process)
+}
+
+/// An output buffer with random bytes in it, often longer than it need be.
+pub fn some_output(random: &mut Random) -> Vec<u8> {
+    let more = match random.below(4) {
+        0 => random.below(400),
+        1 => 1,
+        _ => 0,
+    };
+    random.bytes(LONGEST + more)
+}

@@ -1,0 +1,53 @@
+//! Compares a library with the model, call by call, on random call lists.
+//!
+//! Arguments: the number of calls (200000 if not given), which are made without
+//! damage to the state and as many again with it; a seed (1 if not given); and
+//! the word `each`, with which every call is printed before it is made (should
+//! the library not come back from one). The same seed always gives the same
+//! calls. The program ends with 1 at the first difference, and with 1 if a kind
+//! of answer that the paper makes possible, or one of the passages that are
+//! counted, was never met; otherwise with 0.
+//!
+//! The library is given to the linker (`-L DIR -l static=embedding`); with the
+//! feature `standin` the model itself takes its place. If the library was built
+//! by another compiler, or has a panic handler of its own, the linker needs
+//! `-C link-arg=-Wl,--allow-multiple-definition` besides.
+
+mod calls;
+mod library;
+mod passages;
+mod random;
+mod run;
+mod sides;
+#[cfg(feature = "standin")]
+mod standin;
+mod states;
+mod table;
+
+use run::Comparison;
+use std::process::ExitCode;
+
+fn main() -> ExitCode {
+    let mut arguments = std::env::args().skip(1);
+    let mut number = |otherwise: u64| match arguments.next() {
+        None => Some(otherwise),
+        Some(text) => text.parse().ok(),
+    };
+    let (Some(limit), Some(seed)) = (number(200_000), number(1)) else {
+        eprintln!("arguments: [number of calls] [seed] [each]");
+        return ExitCode::from(2);
+    };
+    let print_each = arguments.next().is_some_and(|word| word == "each");
+    let mut comparison = Comparison::new(seed, print_each);
+    if let Err(text) = comparison.run(limit) {
+        println!("{text}\nseed {seed}, call number {}", comparison.calls);
+        return ExitCode::from(1);
+    }
+    let wrong = comparison.print();
+    println!("\n{} calls, seed {seed}: no difference", comparison.calls);
+    if !wrong.is_empty() {
+        println!("but possible and never met, or met and impossible:\n{}", wrong.join("\n"));
+        return ExitCode::from(1);
+    }
+    ExitCode::SUCCESS
+}

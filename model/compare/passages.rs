@@ -1,0 +1,318 @@
+//! Rare ways through the rules and the edges of their ranges, and how often a
+//! call took each of them.
+
+use crate::sides::Call;
+use model::*;
+
+/// A way through the rules: a call takes it if the test holds before the call
+/// and the answer is the one named, 0 for granted or the refusal's number.
+struct Passage {
+    name: &'static str,
+    by: i64,
+    /// Whether calls from a fresh start can take it, or damaged states alone.
+    damaged_alone: bool,
+    test: fn(&About) -> bool,
+}
+
+const fn granted(name: &'static str, test: fn(&About) -> bool) -> Passage {
+    Passage { name, by: 0, damaged_alone: false, test }
+}
+
+const fn refused(by: i64, name: &'static str, test: fn(&About) -> bool) -> Passage {
+    Passage { name, by, damaged_alone: false, test }
+}
+
+const fn damaged(name: &'static str, test: fn(&About) -> bool) -> Passage {
+    Passage { name, by: 0, damaged_alone: true, test }
+}
+
+const PASSAGES: &[Passage] = &[
+    // the edges of memory, of a string, of the vector and of a message
+    granted("EXAMINE at 4092 of 4", |a| a.asks(EXAMINE, 4092, 4)),
+    refused(OUTSIDE, "EXAMINE at 4093 of 4", |a| a.asks(EXAMINE, 4093, 4)),
+    granted("EXAMINE at 4096 of 0", |a| a.asks(EXAMINE, 4096, 0)),
+    refused(OUTSIDE, "EXAMINE at 4096 of 1", |a| a.asks(EXAMINE, 4096, 1)),
+    refused(OUTSIDE, "EXAMINE at 65535 of 2", |a| a.asks(EXAMINE, 65535, 2)),
+    granted("EXAMINE of 256", |a| a.is(EXAMINE) && a.count == 256),
+    refused(OUTSIDE, "EXAMINE of 257, inside memory", |a| {
+        a.is(EXAMINE) && a.count == 257 && a.end() <= SPACE
+    }),
+    granted("DEPOSIT at 4092 of 4", |a| a.asks(DEPOSIT, 4092, 4)),
+    refused(OUTSIDE, "DEPOSIT at 4093 of 4", |a| a.asks(DEPOSIT, 4093, 4)),
+    granted("DEPOSIT at 4096 of 0", |a| a.asks(DEPOSIT, 4096, 0)),
+    refused(OUTSIDE, "DEPOSIT at 4096 of 1", |a| a.asks(DEPOSIT, 4096, 1)),
+    refused(OUTSIDE, "DEPOSIT at 65535 of 2", |a| a.asks(DEPOSIT, 65535, 2)),
+    granted("DEPOSIT of 256, a message of 266 bytes", |a| a.is(DEPOSIT) && a.length == 266),
+    refused(WRONG_LENGTH, "a message of 267 bytes", |a| a.length == 267),
+    granted("DEPOSIT VECTOR at 16 of 2", |a| a.asks(DEPOSIT_STATE_VECTOR, 16, 2)),
+    refused(OUTSIDE, "DEPOSIT VECTOR at 17 of 2", |a| a.asks(DEPOSIT_STATE_VECTOR, 17, 2)),
+    refused(OUTSIDE, "DEPOSIT VECTOR at 65535 of 2", |a| a.asks(DEPOSIT_STATE_VECTOR, 65535, 2)),
+    granted("BREAK at 4094", |a| a.is(BREAK) && a.first == 4094),
+    refused(OUTSIDE, "BREAK at 4095", |a| a.is(BREAK) && a.first == 4095),
+    refused(OUTSIDE, "BREAK at 4096", |a| a.is(BREAK) && a.first == 4096),
+    refused(NO_BREAKPOINT, "UNBREAK at an odd address", |a| a.is(UNBREAK) && a.first % 2 == 1),
+    // setting and removing breakpoints
+    granted("BREAK plants", |a| a.is(BREAK) && !a.known()),
+    granted("BREAK plants the eighth", |a| a.is(BREAK) && !a.known() && a.used() == 7),
+    granted("BREAK, new count for a planted one", |a| a.is(BREAK) && a.here(Breakpoint::planted)),
+    granted("BREAK, new count for a lifted one", |a| a.is(BREAK) && a.here(|b| b.lifted)),
+    granted("BREAK, new count for one of eight", |a| a.is(BREAK) && a.known() && a.used() == 8),
+    granted("BREAK into a freed entry before others", |a| a.is(BREAK) && a.gap() && !a.known()),
+    granted("UNBREAK of a planted one", |a| a.is(UNBREAK) && a.here(Breakpoint::planted)),
+    granted("UNBREAK of one written over", |a| a.is(UNBREAK) && a.here(|b| a.written_over(b))),
+    granted("UNBREAK of a lifted one", |a| a.is(UNBREAK) && a.here(|b| b.lifted)),
+    // reports
+    granted("BPT passed in silence", |a| a.passes()),
+    granted("BPT passed at the lifted one itself", |a| a.passes() && a.lifted_at_pc()),
+    granted("BPT passed while another is lifted", |a| {
+        a.passes() && a.lifted() && !a.lifted_at_pc()
+    }),
+    granted("BPT passed while stepping", |a| a.passes() && a.process.run == Run::Stepping),
+    granted("BPT at a breakpoint with count 0", |a| a.bpt() && a.at_pc() && !a.passes()),
+    granted("BPT where there is no breakpoint", |a| a.bpt() && !a.at_pc()),
+    granted("stopping report plants the lifted one", |a| {
+        a.kind.is_some() && a.lifted() && !a.passes()
+    }),
+    // the run state
+    granted("STOP plants the lifted one", |a| a.is(STOP) && a.lifted()),
+    granted("PROCEED BPT lifts", |a| a.is(PROCEED_BPT) && a.at_pc()),
+    granted("PROCEED BPT with none at PC", |a| a.is(PROCEED_BPT) && !a.at_pc()),
+    granted("SINGLE STEP lifts", |a| {
+        a.is(SINGLE_STEP) && a.at_pc() && a.process.run == Run::AtBreakpoint
+    }),
+    granted("SINGLE STEP from stopped, one at PC", |a| {
+        a.is(SINGLE_STEP) && a.at_pc() && a.process.run == Run::Stopped
+    }),
+    granted("RESUME with one at PC", |a| a.is(RESUME) && a.at_pc()),
+    // memory under breakpoints
+    granted("EXAMINE of a planted word", |a| a.is(EXAMINE) && a.over(2, Breakpoint::planted)),
+    granted("EXAMINE of half a planted word", |a| a.is(EXAMINE) && a.over(1, Breakpoint::planted)),
+    granted("EXAMINE of one written over", |a| a.is(EXAMINE) && a.over(2, |b| a.written_over(b))),
+    granted("EXAMINE of a lifted word", |a| a.is(EXAMINE) && a.over(2, |b| b.lifted)),
+    granted("DEPOSIT into a planted word", |a| a.is(DEPOSIT) && a.over(2, Breakpoint::planted)),
+    granted("DEPOSIT into half a planted word", |a| {
+        a.is(DEPOSIT) && a.over(1, Breakpoint::planted)
+    }),
+    granted("DEPOSIT into one written over", |a| a.is(DEPOSIT) && a.over(2, |b| a.written_over(b))),
+    granted("DEPOSIT into a lifted word", |a| a.is(DEPOSIT) && a.over(2, |b| b.lifted)),
+    // ends and beginnings
+    granted("END DEBUG with a planted one", |a| a.is(END_DEBUG) && a.some(Breakpoint::planted)),
+    granted("END DEBUG with one written over", |a| {
+        a.is(END_DEBUG) && a.some(|b| a.written_over(b))
+    }),
+    granted("END DEBUG with a lifted one", |a| a.is(END_DEBUG) && a.lifted()),
+    granted("END DEBUG while stepping", |a| a.is(END_DEBUG) && a.process.run == Run::Stepping),
+    granted("END DEBUG when ended", |a| a.is(END_DEBUG) && a.process.run == Run::Ended),
+    damaged("END DEBUG with bytes in a free entry", |a| a.is(END_DEBUG) && old(a.process)),
+    granted("DESTROY with a planted one", |a| a.is(DESTROY_PROCESS) && a.some(Breakpoint::planted)),
+    granted("DESTROY with a lifted one", |a| a.is(DESTROY_PROCESS) && a.lifted()),
+    damaged("DESTROY with bytes in a free entry", |a| a.is(DESTROY_PROCESS) && old(a.process)),
+    granted("CREATE below a process that is there", |a| {
+        a.is(CREATE_PROCESS)
+            && a.created().is_some_and(|p| a.state.processes[p..].iter().any(|q| q.there))
+    }),
+    granted("CREATE where memory is not zero", |a| {
+        a.is(CREATE_PROCESS) && a.created().is_some_and(|p| a.space(p).iter().any(|&b| b != 0))
+    }),
+    damaged("CREATE over a record with a vector", |a| {
+        a.is(CREATE_PROCESS)
+            && a.created().is_some_and(|p| a.state.processes[p].vector != [0; WORDS])
+    }),
+    damaged("CREATE over a record with bytes in an entry", |a| {
+        a.is(CREATE_PROCESS) && a.created().is_some_and(|p| old(&a.state.processes[p]))
+    }),
+    damaged("BREAK into an entry with bytes in it", |a| {
+        a.is(BREAK) && !a.known() && a.lowest_free().is_some_and(has_bytes)
+    }),
+];
+
+/// What a call is about: the process, PC as the call finds or brings it, and the
+/// range from ARG1 of ARG2 bytes. `cmd` is that of a request that passes tests
+/// 3, 4 and 5.
+struct About<'a> {
+    state: &'a State,
+    memory: &'a [u8],
+    length: usize,
+    cmd: Option<u8>,
+    kind: Option<u8>,
+    p: usize,
+    process: &'a Process,
+    pc: u16,
+    first: usize,
+    count: usize,
+}
+
+/// The op code of a message that passes tests 3, 4 and 5.
+fn cmd_of(m: &[u8]) -> Option<u8> {
+    let right = (HEAD..=LONGEST).contains(&m.len())
+        && [m[0], m[2], m[3]] == [0, 255, 0]
+        && m[1] != NOBODY
+        && m[4] <= DESTROY_PROCESS;
+    right.then(|| m[4])
+}
+
+impl<'a> About<'a> {
+    fn new(state: &'a State, memory: &'a [u8], call: &Call) -> About<'a> {
+        match call {
+            Call::Report { process, kind, words, .. } => {
+                let about = About::process(state, memory, *process);
+                let pc = u16::from_le_bytes([words[2 * PC], words[2 * PC + 1]]);
+                About { kind: Some(*kind), pc, ..about }
+            }
+            Call::Request { message: m } => {
+                let cmd = cmd_of(m);
+                let byte = |at: usize| if cmd.is_some() { m[at] } else { 0 };
+                let word = |at: usize| usize::from(byte(at)) << 8 | usize::from(byte(at + 1));
+                let about = About::process(state, memory, byte(5));
+                About { length: m.len(), cmd, first: word(6), count: word(8), ..about }
+            }
+        }
+    }
+
+    fn process(state: &'a State, memory: &'a [u8], p: u8) -> About<'a> {
+        let p = usize::from(p) % PROCESSES;
+        let process = &state.processes[p];
+        let (cmd, kind, pc) = (None, None, process.vector[PC]);
+        About { state, memory, length: 0, cmd, kind, p, process, pc, first: 0, count: 0 }
+    }
+
+    fn is(&self, cmd: u8) -> bool {
+        self.cmd == Some(cmd)
+    }
+
+    fn asks(&self, cmd: u8, first: usize, count: usize) -> bool {
+        self.is(cmd) && self.first == first && self.count == count
+    }
+
+    fn end(&self) -> usize {
+        self.first + self.count
+    }
+
+    fn some(&self, test: impl Fn(&Breakpoint) -> bool) -> bool {
+        self.process.breakpoints.iter().any(|b| b.used && test(b))
+    }
+
+    fn used(&self) -> usize {
+        self.process.breakpoints.iter().filter(|b| b.used).count()
+    }
+
+    fn lifted(&self) -> bool {
+        self.some(|b| b.lifted)
+    }
+
+    fn at_pc(&self) -> bool {
+        self.some(|b| b.address == self.pc)
+    }
+
+    fn lifted_at_pc(&self) -> bool {
+        self.some(|b| b.lifted && b.address == self.pc)
+    }
+
+    fn bpt(&self) -> bool {
+        self.kind == Some(BPT)
+    }
+
+    /// Whether a BPT report is passed in silence.
+    fn passes(&self) -> bool {
+        self.bpt() && self.some(|b| b.address == self.pc && b.remaining > 0)
+    }
+
+    /// Whether there is such a breakpoint at ARG1.
+    fn here(&self, test: impl Fn(&Breakpoint) -> bool) -> bool {
+        self.some(|b| usize::from(b.address) == self.first && test(b))
+    }
+
+    fn known(&self) -> bool {
+        self.here(|_| true)
+    }
+
+    /// Whether so many bytes of such a breakpoint's word lie in the range.
+    fn over(&self, bytes: usize, test: impl Fn(&Breakpoint) -> bool) -> bool {
+        let inside = |b: &Breakpoint| {
+            let word = usize::from(b.address)..usize::from(b.address) + 2;
+            word.filter(|at| (self.first..self.end()).contains(at)).count()
+        };
+        self.some(|b| inside(b) == bytes && test(b))
+    }
+
+    /// Whether the machine has stored into a planted word.
+    fn written_over(&self, b: &Breakpoint) -> bool {
+        let at = usize::from(b.address);
+        b.planted() && self.space(self.p)[at..at + 2] != BPT_WORD
+    }
+
+    fn space(&self, p: usize) -> &[u8] {
+        &self.memory[SPACE * p..SPACE * (p + 1)]
+    }
+
+    /// Whether a free entry stands before one in use.
+    fn gap(&self) -> bool {
+        self.process.breakpoints.windows(2).any(|pair| !pair[0].used && pair[1].used)
+    }
+
+    fn lowest_free(&self) -> Option<&Breakpoint> {
+        self.process.breakpoints.iter().find(|b| !b.used)
+    }
+
+    /// The number that CREATE gives.
+    fn created(&self) -> Option<usize> {
+        self.state.processes.iter().position(|process| !process.there)
+    }
+}
+
+fn has_bytes(b: &Breakpoint) -> bool {
+    b.lifted || b.address != 0 || b.remaining != 0 || b.saved != [0, 0]
+}
+
+/// Whether a free entry of the process is not all zero.
+fn old(process: &Process) -> bool {
+    process.breakpoints.iter().any(|b| !b.used && has_bytes(b))
+}
+
+// ---------------------------------------------------------------- counting
+
+/// The passages whose test holds before a call.
+pub struct Open(Vec<bool>);
+
+pub fn open(state: &State, memory: &[u8], call: &Call) -> Open {
+    let about = About::new(state, memory, call);
+    Open(PASSAGES.iter().map(|passage| (passage.test)(&about)).collect())
+}
+
+/// How often each passage was taken.
+pub struct Passages(Vec<u64>);
+
+impl Passages {
+    pub fn new() -> Passages {
+        Passages(vec![0; PASSAGES.len()])
+    }
+
+    pub fn count(&mut self, open: &Open, answer: i64) {
+        let by = answer.min(0).abs();
+        for (i, n) in self.0.iter_mut().enumerate() {
+            *n += u64::from(open.0[i] && PASSAGES[i].by == by);
+        }
+    }
+}
+
+/// Prints how often each was taken on states that a fresh start leads to, and
+/// on damaged ones.
+pub fn print(fresh: &Passages, damaged: &Passages) {
+    for (i, passage) in PASSAGES.iter().enumerate() {
+        let by = match passage.by {
+            0 => String::new(),
+            number => format!(", refused by {number}"),
+        };
+        let fresh = match fresh.0[i] {
+            0 if passage.damaged_alone => ".".to_string(),
+            n => n.to_string(),
+        };
+        println!("{fresh:>8} {:>8}  {}{by}", damaged.0[i], passage.name);
+    }
+}
+
+/// The passages never taken that can be.
+pub fn wrong(fresh: &Passages, damaged: &Passages) -> Vec<String> {
+    let missed = |i: usize| fresh.0[i] == 0 && !PASSAGES[i].damaged_alone || damaged.0[i] == 0;
+    (0..PASSAGES.len()).filter(|&i| missed(i)).map(|i| PASSAGES[i].name.to_string()).collect()
+}

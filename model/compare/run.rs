@@ -1,0 +1,261 @@
+//! The run: lists of calls, each on what the one before left, and what was met.
+//!
+//! A list begins with a fresh start. First come lists without damage, then lists
+//! in which the bytes of the state are damaged now and then, in some from the
+//! first call on. Where they are still those of a sound state, the list goes on
+//! from it; where not, the call has to be refused by 2, and the bytes are put
+//! back. Calls on damaged states, and on what follows from them, are counted
+//! apart.
+
+use crate::calls::{make_call, some_output, used_address, Mood, MOODS};
+use crate::passages::{self, open, Open, Passages};
+use crate::random::Random;
+use crate::sides::{describe, is_sound, Call, Lent, Pair, Side};
+use crate::states::{damage_state, some_sound_state};
+use crate::table::Table;
+use model::*;
+
+/// What was met, on states that a fresh start leads to or on damaged ones.
+struct Met {
+    table: Table,
+    passages: Passages,
+    /// Stores by the machine into a planted word.
+    stores: u64,
+}
+
+impl Met {
+    fn new(damaged: bool) -> Met {
+        Met { table: Table::new(damaged), passages: Passages::new(), stores: 0 }
+    }
+}
+
+pub struct Comparison {
+    random: Random,
+    pair: Pair,
+    pub calls: u64,
+    print_each: bool,
+    /// Whether the list goes on from a damaged state.
+    damaged: bool,
+    met: [Met; 2],
+}
+
+impl Comparison {
+    pub fn new(seed: u64, print_each: bool) -> Comparison {
+        Comparison {
+            random: Random(seed),
+            pair: Pair::new(Side::new(&[0; STATE_BYTES], &[0; MEMORY], &[0; LONGEST])),
+            calls: 0,
+            print_each,
+            damaged: false,
+            met: [false, true].map(Met::new),
+        }
+    }
+
+    /// Makes so many calls in lists without damage, and as many in lists with
+    /// it: nothing, or the first difference.
+    pub fn run(&mut self, limit: u64) -> Result<(), String> {
+        self.lists(limit, false)?;
+        self.lists(2 * limit, true)
+    }
+
+    /// Lists up to so many calls in all.
+    fn lists(&mut self, limit: u64, with_damage: bool) -> Result<(), String> {
+        while self.calls < limit {
+            let length = 100 + self.random.below(500) as u64;
+            self.list(limit.min(self.calls + length), with_damage)?;
+        }
+        Ok(())
+    }
+
+    /// One list, up to so many calls in all.
+    fn list(&mut self, end: u64, with_damage: bool) -> Result<(), String> {
+        self.start()?;
+        if with_damage && self.random.one_in(3) {
+            let state = some_sound_state(&mut self.random);
+            self.lend_state(&encode(&state));
+            self.damaged = true;
+        }
+        let mood = &MOODS[self.random.below(MOODS.len())];
+        while self.calls < end {
+            self.stores();
+            self.calls += 1;
+            match self.random.below(40) {
+                0 => self.call_with_wrong_buffers(mood)?,
+                1..=8 if with_damage => self.call_on_damage(mood)?,
+                _ => self.call(mood)?,
+            }
+        }
+        Ok(())
+    }
+
+    /// A fresh start into a buffer with random bytes in it, at times after one
+    /// into a buffer of another length.
+    fn start(&mut self) -> Result<(), String> {
+        let there = match self.random.below(6) {
+            0 => 0,
+            1 => 255,
+            _ => self.random.byte(),
+        };
+        if self.random.one_in(4) {
+            let length = self.random.pick(&[0, 1, 85, 679, 681, 1360]);
+            self.fresh_start(there, length)?;
+        }
+        self.fresh_start(there, STATE_BYTES)?;
+        let mut memory = vec![0; MEMORY];
+        if !self.random.one_in(4) {
+            self.random.fill(&mut memory);
+        }
+        self.pair.change(|side| side.memory = Lent::new(&memory));
+        self.damaged = false;
+        Ok(())
+    }
+
+    fn fresh_start(&mut self, there: u8, length: usize) -> Result<(), String> {
+        let state = self.random.bytes(length);
+        self.lend_state(&state);
+        self.pair.fresh_start(there)
+    }
+
+    fn lend_state(&mut self, state: &[u8]) {
+        self.pair.change(|side| side.state = Lent::new(state));
+    }
+
+    fn state_bytes(&self) -> &[u8] {
+        self.pair.model.state.bytes()
+    }
+
+    fn state(&self) -> State {
+        decode(self.state_bytes()).expect("between calls the state is sound")
+    }
+
+    fn met(&mut self) -> &mut Met {
+        &mut self.met[usize::from(self.damaged)]
+    }
+
+    /// "Between calls the machine may store into memory"
+    fn stores(&mut self) {
+        while self.random.one_in(4) {
+            self.store();
+        }
+    }
+
+    /// One store, often into a word under a breakpoint.
+    fn store(&mut self) {
+        let p = self.random.below(PROCESSES);
+        let process = self.state().processes[p];
+        let a = match self.random.below(3) {
+            0 => self.random.below(SPACE),
+            1 => self.random.below(48),
+            _ => usize::from(used_address(&mut self.random, &process)) + self.random.below(2),
+        };
+        let byte = self.random.byte();
+        self.pair.change(|side| side.memory.change()[SPACE * p + a] = byte);
+        let planted = |b: &Breakpoint| b.planted() && usize::from(b.address) == a & !1;
+        self.met().stores += u64::from(process.breakpoints.iter().any(planted));
+    }
+
+    fn call(&mut self, mood: &Mood) -> Result<(), String> {
+        let state = self.state();
+        let call = make_call(&mut self.random, &state, mood);
+        self.lend_output();
+        let open = open(&state, self.pair.model.memory.bytes(), &call);
+        self.compare(&call, Some(&open))
+    }
+
+    /// A call on damaged bytes. Where they are those of a sound state the list
+    /// goes on from it.
+    fn call_on_damage(&mut self, mood: &Mood) -> Result<(), String> {
+        let (before, was_damaged) = (self.state_bytes().to_vec(), self.damaged);
+        let mut state = before.clone();
+        damage_state(&mut self.random, &mut state);
+        self.lend_state(&state);
+        self.damaged = true;
+        if is_sound(&state) {
+            return self.call(mood);
+        }
+        let near = decode(&state).or_else(|| decode(&before));
+        let call = make_call(&mut self.random, &near.unwrap_or_else(|| fresh_start(0)), mood);
+        self.lend_output();
+        self.compare(&call, None)?;
+        self.lend_state(&before);
+        self.damaged = was_damaged;
+        Ok(())
+    }
+
+    /// A call with buffers of a wrong length, at times on damaged bytes; then
+    /// back to the right ones.
+    fn call_with_wrong_buffers(&mut self, mood: &Mood) -> Result<(), String> {
+        let (before, was_damaged) = (self.pair.clone(), self.damaged);
+        let state = self.state();
+        let mut call = make_call(&mut self.random, &state, mood);
+        self.lend_output();
+        if self.random.one_in(4) {
+            let mut state = self.state_bytes().to_vec();
+            damage_state(&mut self.random, &mut state);
+            self.lend_state(&state);
+            self.damaged = true;
+        }
+        self.spoil_buffer(&mut call);
+        if self.random.one_in(2) {
+            self.spoil_buffer(&mut call);
+        }
+        self.compare(&call, None)?;
+        (self.pair, self.damaged) = (before, was_damaged);
+        Ok(())
+    }
+
+    /// Makes one of the lent buffers shorter or longer than test 1 allows.
+    fn spoil_buffer(&mut self, call: &mut Call) {
+        let random = &mut self.random;
+        match (random.below(3), call) {
+            (0, _) => {
+                let length = random.pick(&[0, 1, 4096, 32767, 32769, 65536]);
+                self.pair.change(|side| side.memory = side.memory.resized(length));
+            }
+            (1, Call::Report { words, .. }) => {
+                words.resize(random.pick(&[0, 1, 16, 17, 19, 20, 36]), 0);
+            }
+            _ => {
+                let length = random.pick(&[0, 1, 9, 10, 27, 28, 265]);
+                self.pair.change(|side| side.output = side.output.resized(length));
+            }
+        }
+    }
+
+    fn lend_output(&mut self) {
+        let output = some_output(&mut self.random);
+        self.pair.change(|side| side.output = Lent::new(&output));
+    }
+
+    /// Makes the call on both sides and counts what was met.
+    fn compare(&mut self, call: &Call, open: Option<&Open>) -> Result<(), String> {
+        if self.print_each {
+            println!("{} {}", self.calls, describe(call, &self.pair.model));
+        }
+        let answer = self.pair.call(call)?;
+        let met = self.met();
+        met.table.count(call, answer);
+        if let Some(open) = open {
+            met.passages.count(open, answer);
+        }
+        Ok(())
+    }
+
+    /// Prints what was met; returns what should have been and was not, or the
+    /// other way round.
+    pub fn print(&self) -> Vec<String> {
+        let [fresh, damaged] = &self.met;
+        println!("calls on states that a fresh start leads to");
+        fresh.table.print();
+        println!("\ncalls on damaged states and on what follows from them");
+        damaged.table.print();
+        println!("\n   fresh  damaged");
+        passages::print(&fresh.passages, &damaged.passages);
+        println!("{:>8} {:>8}  store into a planted word", fresh.stores, damaged.stores);
+        let mut wrong = passages::wrong(&fresh.passages, &damaged.passages);
+        if fresh.stores == 0 || damaged.stores == 0 {
+            wrong.push("store into a planted word".to_string());
+        }
+        [fresh.table.wrong(), damaged.table.wrong(), wrong].concat()
+    }
+}
