@@ -1,4 +1,4 @@
--- Bytes as text: 'lower-case hex pairs parted by single blanks', and the line that answers a call.
+-- Bytes as text: 'lower-case hex pairs parted by single blanks'.
 use mathlib.Core.Bool.{cond}
 use mathlib.Core.List.{List, [], _∷_, _++_}
 use Prim.Native.Nat.{ℕ, _+_, _-_, _/_, _%_}
@@ -40,11 +40,3 @@ spaced (b ∷ bs) = 32 ∷ pair b ++ spaced bs
 unfoldable pub spacedOrDash : List ℕ → List ℕ
 spacedOrDash [] = 32 ∷ 45 ∷ []
 spacedOrDash (b ∷ bs) = spaced (b ∷ bs)
-
--- a number under 100
-unfoldable pub decimal : ℕ → List ℕ
-decimal n = cond (ltb n 10) ((48 + n) ∷ []) ((48 + n / 10) ∷ (48 + n % 10) ∷ [])
-
--- 'prints the number and the reply, or `-` where nothing is written': a line with its newline
-unfoldable pub answerLine : ℕ → List ℕ → List ℕ
-answerLine number bytes = (decimal number ++ spacedOrDash bytes) ++ (10 ∷ [])

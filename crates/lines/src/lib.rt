@@ -1,4 +1,4 @@
-// Text for people and pipes: hex pairs, and the line that answers a call. Lines may be of any length and come in parts.
+// Text for people and pipes: bytes as hex pairs. Lines may be of any length and come in parts.
 mod count;
 mod print;
 mod scan;
@@ -7,7 +7,7 @@ pub mod theorems;
 
 pub use count::within;
 pub use print::line_end;
-pub use print::put_answer;
+pub use print::put_bytes;
 pub use print::put_pairs;
 pub use scan::Phase;
 pub use scan::Scan;

@@ -1,10 +1,10 @@
-// The line that answers a call, and the ends of lines.
+// Bytes as text, and the ends of lines.
 ghost use mathlib.Core.Path.{_≡_};
 ghost use Prim.Native.Nat.{_+_, _*_, _≤_, _<_};
 ghost use lib.ListN.{length, drop};
 ghost use Rattle.lists.specs.Buffer.{overlay};
 ghost use Rattle.lists.specs.First.{first};
-ghost use Rattle.lines.specs.Hex.{digit, decimal, pair, pairAt, pairs, spaced, spacedOrDash, answerLine, pairsLine};
+ghost use Rattle.lines.specs.Hex.{digit, pair, pairAt, pairs, spaced, spacedOrDash, pairsLine};
 ghost use Rattle.lines.specs.Scan.{isNewline};
 
 // The index of the first newline from this one on, or where the text ends.
@@ -54,8 +54,8 @@ fn put_spaced(bytes: &[u8], out: &mut [u8])
     }
 }
 
-// Each byte behind a blank, or a dash where there is none.
-fn put_bytes(bytes: &[u8], out: &mut [u8]) -> usize
+// Each byte behind a blank, or a dash where there is none; the length of the text.
+pub fn put_bytes(bytes: &[u8], out: &mut [u8]) -> usize
     requires { ⌜ 2 + 3 * length (now bytes) ≤ length (now out) ⌝ }
     ensures { λ r. ⌜ r ≡ length (spacedOrDash (now (bytes .entry))) ⌝ }
     ensures { λ _. ⌜ now (out .exit) ≡ overlay (spacedOrDash (now (bytes .entry))) (now (out .entry)) ⌝ }
@@ -67,34 +67,6 @@ fn put_bytes(bytes: &[u8], out: &mut [u8]) -> usize
     }
     put_spaced(bytes, out);
     3 * bytes.len()
-}
-
-// A number under 100.
-fn put_decimal(number: u8, out: &mut [u8]) -> usize
-    requires { ⌜ 2 ≤ length (now out) ⌝ }
-    ensures { λ r. ⌜ r ≡ length (decimal number) ⌝ }
-    ensures { λ _. ⌜ now (out .exit) ≡ overlay (decimal number) (now (out .entry)) ⌝ }
-{
-    if number < 10 {
-        out[0] = 48 + number;
-        return 1;
-    }
-    out[0] = 48 + number / 10;
-    out[1] = 48 + number % 10;
-    2
-}
-
-// The number and the bytes, or a dash where there is none, as a line; the length of the line.
-pub fn put_answer(number: u8, bytes: &[u8], out: &mut [u8]) -> usize
-    requires { ⌜ 5 + 3 * length (now bytes) ≤ length (now out) ⌝ }
-    ensures { λ r. ⌜ r ≡ length (answerLine number (now (bytes .entry))) ⌝ }
-    ensures { λ r. ⌜ r ≤ length (now (out .entry)) ⌝ }
-    ensures { λ _. ⌜ now (out .exit) ≡ overlay (answerLine number (now (bytes .entry))) (now (out .entry)) ⌝ }
-{
-    let at = put_decimal(number, out);
-    let end = at + put_bytes(bytes, &mut out[at..]);
-    out[end] = 10;
-    end + 1
 }
 
 // The two digits of a byte.

@@ -20,7 +20,8 @@ use Rattle.rules.specs.Tests.{lent}
 use Rattle.rules.specs.Step.{Stepped, stored}
 use Rattle.rules.specs.Step.{put as putLocal}
 use Rattle.lines.specs.declared.scan.Phase.{Phase}
-use Rattle.lines.specs.Hex.{answerLine, pairsLine}
+use Rattle.lines.specs.Hex.{pairsLine}
+use Rattle.display.specs.Answer.{answerLine}
 use Rattle.lines.specs.Scan.{Put}
 use Rattle.lines.proofs.PutLaws.{put-whole}
 use Rattle.decimal.specs.declared.number.Number.{Number}

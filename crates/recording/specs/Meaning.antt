@@ -15,7 +15,8 @@ use Rattle.rules.specs.Step.{Answer, Stepped, requested, noted, stored}
 use Rattle.gateway.specs.Lengths.{replyLength, noticeLength, front}
 use Rattle.lines.specs.declared.scan.Phase.{Phase}
 use Rattle.lines.specs.declared.scan.Phase.the-variants.{Open, Half, Full, Bad}
-use Rattle.lines.specs.Hex.{answerLine, pairsLine}
+use Rattle.lines.specs.Hex.{pairsLine}
+use Rattle.display.specs.Answer.{answerLine}
 use Rattle.decimal.specs.declared.number.Number.{Number}
 use Rattle.decimal.specs.Read.{begun, behind, endsLine}
 use Rattle.display.specs.Line.{processLine}

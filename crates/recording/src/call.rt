@@ -2,6 +2,7 @@
 use crate::number::read_report;
 use crate::roll::Roll;
 use decimal::Number;
+use display::put_answer;
 use display::put_process;
 use gateway::fresh_start;
 use gateway::notice_length;
@@ -11,7 +12,6 @@ use gateway::request;
 use lines::Phase;
 use lines::Scan;
 use lines::put;
-use lines::put_answer;
 use lines::put_pairs;
 use lines::within;
 use state::Gateway;

@@ -7,7 +7,7 @@ use lib.ListN.{take}
 use Rattle.rules.specs.Tests.{lent}
 use Rattle.rules.specs.Step.{Stepped, requested}
 use Rattle.gateway.specs.Lengths.{replyLength}
-use Rattle.lines.specs.Hex.{answerLine}
+use Rattle.display.specs.Answer.{answerLine}
 use Rattle.recording.specs.Meaning.{asked, askedText}
 use Rattle.recording.proofs.MeaningLaws.{prints-as, answer-said}
 use Rattle.recording.proofs.call.ask.Statement.{statement}
