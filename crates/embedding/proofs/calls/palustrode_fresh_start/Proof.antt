@@ -1,6 +1,7 @@
 -- `embedding::calls::palustrode_fresh_start` meets its contract, by the length of the buffer. Assumes nothing.
 use mathlib.Core.Path.{refl, ap, _∙_}
 use native.Mathlib.Omega.{arith}
+use lib.ListN.{length}
 use borrow.Author.Needs.{needs}
 use borrow.Author.Tests.{eq-eqb, ne-eqb}
 use Rattle.lists.proofs.Buffer.{overlay-all}
@@ -16,7 +17,7 @@ minus-requires c κs = search needs
 
 returns : tie.Need-returns
 unfolding startOn startResult
-returns c = rw (c .minus .ensures, ne-eqb _ _ (c .before .if1 .taken)) (minus-again 1 (omega arith), refl)
+returns c = rw (c .minus .ensures, ne-eqb (length (c .before .before .before .args .state .now)) 680 (c .before .if1 .taken)) (minus-again 1 (omega arith), refl)
 
 bits-requires : tie.Need-bits-requires
 bits-requires c κs = search needs

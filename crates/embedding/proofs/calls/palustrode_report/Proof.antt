@@ -11,6 +11,7 @@ use Rattle.embedding.proofs.LentLaws.{lent-passes, report-unfit, report
 use mir.Syntax.{w64}
 use mir.Val.{toZ, ofZ}
 use borrow.Author.Needs.{needs}
+use lib.ListN.{length}
 use Rattle.embedding.proofs.calls.palustrode_report.Statement.{statement}
 use Rattle.embedding.proofs.calls.palustrode_report.Tie as tie
 
@@ -21,7 +22,7 @@ returns : tie.Need-returns
 unfolding reportOn unformed
 returns c =
     let same : toZ w64 (ofZ w64 (c .minus .result)) ≡ c .minus .result = search needs in
-    rw (ne-eqb _ _ (c .before .if1 .taken)) (same ∙ c .minus .ensures, (refl, (refl, refl)))
+    rw (ne-eqb (length (c .before .before .before .before .before .before .args .words .now)) 18 (c .before .if1 .taken)) (same ∙ c .minus .ensures, (refl, (refl, refl)))
 
 lent-number-requires : tie.Need-lent-number-requires
 lent-number-requires c κs = search needs

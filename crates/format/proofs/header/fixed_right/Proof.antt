@@ -1,4 +1,6 @@
 -- `format::header::fixed_right` meets its contract: at each `return` the tests that led there say its value. Assumes nothing.
+use mathlib.Core.Path.{refl}
+use lib.ListN.{getD}
 use borrow.Author.Tests.{eq-eqb, ne-eqb}
 use borrow.Author.Needs.{needs}
 use Rattle.format.specs.Layout.{fixedRight}
@@ -17,14 +19,18 @@ shared-slice-read-if2 c = search needs
 
 returns-2 : tie.Need-returns-2
 unfolding fixedRight
-returns-2 c = rw (eq-eqb _ _ (c .before .before .if1 .left), ne-eqb _ _ (c .if2 .taken))
+returns-2 c =
+    let m = c .before .before .before .before .args .message .now in
+    rw (eq-eqb (getD m 0 0) 0 (c .before .before .if1 .left), ne-eqb (getD m 2 0) 255 (c .if2 .taken))
 
 shared-slice-read-result : tie.Need-shared-slice-read-result
 shared-slice-read-result c = search needs
 
 returns-3 : tie.Need-returns-3
 unfolding fixedRight
-returns-3 c = rw (eq-eqb _ _ (c .before .before .before .if1 .left), eq-eqb _ _ (c .before .if2 .left))
+returns-3 c =
+    let m = c .before .before .before .before .before .args .message .now in
+    rw (eq-eqb (getD m 0 0) 0 (c .before .before .before .if1 .left), eq-eqb (getD m 2 0) 255 (c .before .if2 .left)) refl
 
 pub fixed-right-spec : {M : Type 1} → statement M
 fixed-right-spec =

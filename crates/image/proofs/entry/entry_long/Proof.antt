@@ -107,8 +107,12 @@ returns c =
     let second = address .before in
     let first = second .before in
     let b = getD (first .before .args .t1) (first .before .args .k) free in
-    rw (first .flag .ensures, second .flag2 .ensures, ← address .wide .ensures .0, ← count .wide2 .ensures .0, ← low .wide-byte .ensures .0, ← c .wide-byte2 .ensures .0)
-    (packed-bytes (flag (b .used)) (flag (b .lifted)) _ _ _ _ (flag-byte (b .used)) (flag-byte (b .lifted)) (address .wide .ensures .1) (count .wide2 .ensures .1) (low .wide-byte .ensures .1) (c .wide-byte2 .ensures .1))
+    let word-a = rw (address .wide .ensures .0) at (address .wide .ensures .1) in
+    let word-n = rw (count .wide2 .ensures .0) at (count .wide2 .ensures .1) in
+    let byte-l = rw (low .wide-byte .ensures .0) at (low .wide-byte .ensures .1) in
+    let byte-h = rw (c .wide-byte2 .ensures .0) at (c .wide-byte2 .ensures .1) in
+    rw (first .flag .ensures, second .flag2 .ensures, address .wide .ensures .0, count .wide2 .ensures .0, low .wide-byte .ensures .0, c .wide-byte2 .ensures .0)
+    (packed-bytes (flag (b .used)) (flag (b .lifted)) (b .address) (b .count) (b .low) (b .high) (flag-byte (b .used)) (flag-byte (b .lifted)) word-a word-n byte-l byte-h)
 
 pub entry-long-spec : {M : Type 1} → statement M
 entry-long-spec =

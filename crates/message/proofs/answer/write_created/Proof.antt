@@ -16,7 +16,7 @@ returns : tie.Need-returns
 returns c =
     let w = c .before .before in
     let h = w .before .before in
-    rw (← h .created .ensures) (w .write-reply .ensures)
+    rw (h .created .ensures) at (w .write-reply .ensures)
 
 pub write-created-spec : {M : Type 1} → statement M
 write-created-spec = tie.close (tie.spec created-requires write-reply-requires same-length returns)

@@ -29,7 +29,7 @@ returns c =
     let f = w .before .before .before in
     let v = f .before in
     let n = v .before in
-    rw (← n .notice .ensures, ← v .vector-bytes .ensures, ← f .answer-form .ensures) (w .write .ensures)
+    rw (f .answer-form .ensures, n .notice .ensures, v .vector-bytes .ensures) at (w .write .ensures)
 
 pub write-notice-spec : {M : Type 1} → statement M
 write-notice-spec =

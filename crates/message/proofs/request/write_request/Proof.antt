@@ -18,7 +18,7 @@ unfolding writes
 returns c =
     let w = c .before .before in
     let f = w .before .before in
-    rw (← f .request-form .ensures) (w .write .ensures)
+    rw (f .request-form .ensures) at (w .write .ensures)
 
 pub write-request-spec : {M : Type 1} → statement M
 write-request-spec = tie.close (tie.spec request-form-requires write-requires same-length returns)
