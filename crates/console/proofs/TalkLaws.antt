@@ -20,7 +20,7 @@ use Rattle.recording.specs.Line.{Does}
 use Rattle.console.specs.declared.language.Language.{Language}
 use Rattle.console.specs.declared.language.Language.the-variants.{Bench, Recording}
 use Rattle.console.specs.declared.session.Session.{Session}
-use Rattle.console.specs.Talk.{Talk, pairsAt, meaning, longer, answered, ended, partOf, talked, Ends, Speaks, Followed}
+use Rattle.console.specs.Talk.{Talk, pairsAt, meaning, longer, answered, ended, partOf, talked, Speaks, Written, Followed}
 
 -- room for a recording's line is room for one of either language
 pub room-either : (l : Language) (line message : List ℕ) → Room 8 line message → Room (pairsAt l) line message
@@ -106,72 +106,77 @@ said-behind held len text out last h L T =
     ∙ ap (λ (n : ℕ). take n (overlay (take held out ++ text) out)) size
     ∙ take-overlay (take held out ++ text) out
 
-ends-more : (before held : ℕ) (printed text out : List ℕ) → (held ≡ before) ⊎ (held ≡ 0) → Ends (take before out) printed → Ends (take held out ++ text) (printed ++ text)
-ends-more before held printed text out which e =
-    ⊎-elim
-    (λ same. record { before = e .before; is = ap (λ (n : ℕ). e .before ++ (take n out ++ text)) same ∙ sym (append-assoc (e .before) (take before out) text) ∙ ap (λ (l : List ℕ). l ++ text) (e .is) })
-    (λ none. record { before = printed; is = ap (λ (n : ℕ). printed ++ (take n out ++ text)) none })
-    which
-
--- nothing is held back any more
-pub ends-none : (printed out : List ℕ) → Ends (take 0 out) printed
-ends-none printed out = record { before = printed; is = append-nil printed }
-
 -- ---- a session's steps
 
-module _ (s : Session) (r : Said) (heard : Heard) (held : ℕ) (line message m m2 out last : List ℕ) (t : Talk) where
-  pub speaks-ended : held ≤ length out → (held ≡ s .held) ⊎ (held ≡ 0)
-      → Does (meaning (s .language) (t .line) (s .state) m) r m2 (take (length out - held) (drop held out)) last
-      → Kept (pairsAt (s .language)) [] heard line message → Speaks s line message m out t
-      → Speaks (record { language = s .language; state = r .state; heard = heard; held = held + r .len }) line message m2
-      (take held out ++ (last ++ drop (length out - held) (drop held out))) (ended (s .language) t)
+-- the line was answered behind what is held back
+module _ (s : Session) (r : Said) (heard : Heard) (printed line message m m2 out last : List ℕ) (t : Talk) where
+  pub speaks-ended : s .held ≤ length out → Does (meaning (s .language) (t .line) (s .state) m) r m2 (take (length out - s .held) (drop (s .held) out)) last
+      → Kept (pairsAt (s .language)) [] heard line message → Speaks s printed line message m out t
+      → Speaks (record { language = s .language; state = r .state; heard = heard; held = s .held + r .len }) printed line message m2
+      (take (s .held) out ++ (last ++ drop (length out - s .held) (drop (s .held) out))) (ended (s .language) t)
   unfolding ended answered
-  speaks-ended h which d k sp =
-      let e : Does (meaning (s .language) (t .line) (t .state) (t .memory)) r m2 (take (length out - held) (drop held out)) last = rw (sp .state, sp .memory) at d in
+  speaks-ended h d k sp =
+      let e : Does (meaning (s .language) (t .line) (t .state) (t .memory)) r m2 (take (length out - s .held) (drop (s .held) out)) last = rw (sp .state, sp .memory) at d in
       let text = meaning (s .language) (t .line) (t .state) (t .memory) .text in record {
         kept = k;
         state = e .state;
         memory = e .memory;
-        text = rw (said-behind held (r .len) text out last h (e .text .size) (e .text .laid)) (ends-more (s .held) held (t .text) text out which (sp .text));
+        text = ap (λ (l : List ℕ). printed ++ l) (said-behind (s .held) (r .len) text out last h (e .text .size) (e .text .laid)) ∙ sym (append-assoc printed (take (s .held) out) text) ∙ ap (λ (l : List ℕ). l ++ text) (sp .text);
       }
 
+-- a part of the line was read
 pub speaks-longer : (s : Session) (at : ℕ) (more : Heard) (text line message line2 message2 : List ℕ) → at ≡ pairsAt (s .language)
     → ((so-far : List ℕ) → Kept at so-far (s .heard) line message → Kept at (so-far ++ text) more line2 message2)
-    → (m out : List ℕ) (t : Talk) → Speaks s line message m out t
-    → Speaks (record { language = s .language; state = s .state; heard = more; held = s .held }) line2 message2 m out (longer text t)
+    → (printed m out : List ℕ) (t : Talk) → Speaks s printed line message m out t
+    → Speaks (record { language = s .language; state = s .state; heard = more; held = s .held }) printed line2 message2 m out (longer text t)
 unfolding longer
-speaks-longer s at more text line message line2 message2 A f m out t sp = record {
+speaks-longer s at more text line message line2 message2 A f printed m out t sp = record {
   kept = rw A at (f (t .line) (rw (← A) at (sp .kept)));
   state = sp .state;
   memory = sp .memory;
   text = sp .text;
 }
 
-pub speaks-as : (s : Session) (line message m out : List ℕ) (t u : Talk) → t ≡ u → Speaks s line message m out t → Speaks s line message m out u
-speaks-as s line message m out t u e sp = rw e at sp
-
 -- a line of which nothing is kept is empty
-pub nothing-kept : (s : Session) (line message m out : List ℕ) (t : Talk) → Speaks s line message m out t
+pub nothing-kept : (s : Session) (printed line message m out : List ℕ) (t : Talk) → Speaks s printed line message m out t
     → (s .heard .len ≡ 0 → eqb (length (t .line)) 0 ≡ true) × ((s .heard .len ≡ 0 → ⊥) → eqb (length (t .line)) 0 ≡ false)
-nothing-kept s line message m out t sp =
+nothing-kept s printed line message m out t sp =
     let size : s .heard .len ≡ min (length line) (length (t .line)) = sp .kept .text .size ∙ length-take (length line) (t .line) in
     let room = sp .kept .room .call in (
       λ none. eq-eqb (length (t .line)) 0 (omega (arith, size, room, none)),
       λ some. ne-eqb (length (t .line)) 0 (λ none. some (omega (arith, size, none))),
     )
 
+-- ---- text that is written out
+
 -- what was held back is written out
-speaks-flushed : (s : Session) (line message m out : List ℕ) (t : Talk) → Speaks s line message m out t
-    → Speaks (record { language = s .language; state = s .state; heard = s .heard; held = 0 }) line message m out t
-speaks-flushed s line message m out t sp = record { kept = sp .kept; state = sp .state; memory = sp .memory; text = ends-none (t .text) out }
+speaks-flushed : (s : Session) (printed line message m out : List ℕ) (t : Talk) → Speaks s printed line message m out t
+    → Speaks (record { language = s .language; state = s .state; heard = s .heard; held = 0 }) (printed ++ take (s .held) out) line message m out t
+speaks-flushed s printed line message m out t sp = record { kept = sp .kept; state = sp .state; memory = sp .memory; text = append-nil (printed ++ take (s .held) out) ∙ sp .text }
+
+written-flushed : (s : Session) (line message m out : List ℕ) (t : Talk) → Written s line message m out t
+    → Written (record { language = s .language; state = s .state; heard = s .heard; held = 0 }) line message m out t
+written-flushed s line message m out t w = record { printed = w .printed ++ take (s .held) out; speaks = speaks-flushed s (w .printed) line message m out t (w .speaks) }
+
+-- it is held back still, or written out
+pub written-room : (s : Session) (held : ℕ) (line message m out : List ℕ) (t : Talk) → (held ≡ s .held) ⊎ (held ≡ 0) → Written s line message m out t
+    → Written (record { language = s .language; state = s .state; heard = s .heard; held = held }) line message m out t
+written-room s held line message m out t which w =
+    ⊎-elim
+    (λ same. rw same w)
+    (λ none. rw none (written-flushed s line message m out t w))
+    which
+
+pub written-as : (s : Session) (line message m out : List ℕ) (t u : Talk) → t ≡ u → Written s line message m out t → Written s line message m out u
+written-as s line message m out t u e w = rw e at w
 
 -- nothing was read since
-pub followed-none : (l : Language) (s : Session) (line message m out : List ℕ) (t : Talk) → Speaks s line message m out t → Followed l t s line message m out
-followed-none l s line message m out t sp = record { read = []; speaks = speaks-as s line message m out t (talked l t []) (sym (talked-none l t)) sp }
+pub followed-none : (l : Language) (s : Session) (line message m out : List ℕ) (t : Talk) → Written s line message m out t → Followed l t s line message m out
+followed-none l s line message m out t w = record { read = []; written = written-as s line message m out t (talked l t []) (sym (talked-none l t)) w }
 
 -- another block was read, and what it prints written out
 pub followed-more : (l : Language) (s r : Session) (line message m out line2 message2 m2 out2 block : List ℕ) (t : Talk) → s .language ≡ l
-    → ((u : Talk) → Speaks s line message m out u → Speaks r line2 message2 m2 out2 (talked (s .language) u block))
+    → ((u : Talk) → Written s line message m out u → Written r line2 message2 m2 out2 (talked (s .language) u block))
     → Followed l t s line message m out
     → Followed l t (record { language = r .language; state = r .state; heard = r .heard; held = 0 }) line2 message2 m2 out2
 followed-more l s r line message m out line2 message2 m2 out2 block t L f g =
@@ -179,7 +184,7 @@ followed-more l s r line message m out line2 message2 m2 out2 block t L f g =
     let same : talked (s .language) u block ≡ talked l t (g .read ++ block) = ap (λ (x : Language). talked x u block) L ∙ talked-more l t (g .read) block in
     record {
       read = g .read ++ block;
-      speaks = speaks-flushed r line2 message2 m2 out2 (talked l t (g .read ++ block)) (speaks-as r line2 message2 m2 out2 (talked (s .language) u block) (talked l t (g .read ++ block)) same (f u (g .speaks)));
+      written = written-flushed r line2 message2 m2 out2 (talked l t (g .read ++ block)) (written-as r line2 message2 m2 out2 (talked (s .language) u block) (talked l t (g .read ++ block)) same (f u (g .written)));
     }
 
 pub followed-as : (k l : Language) (s : Session) (line message m out : List ℕ) (t : Talk) → k ≡ l → Followed k t s line message m out → Followed l t s line message m out

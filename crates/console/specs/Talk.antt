@@ -65,19 +65,19 @@ talked l t (c ∷ cs) = talked l (cond (isNewline c) (ended l t) (longer (c ∷ 
 unfoldable pub finished : Language → Talk → Talk
 finished l t = cond (eqb (length (t .line)) 0) t (ended l t)
 
--- a list is the end of another
-pub record Ends (end whole : List ℕ) : Type 0 where
-  pub before : List ℕ
-  pub is : before ++ end ≡ whole
-
--- the session stands where the talk does; of what was printed it holds the end back
-pub record Speaks (s : Session) (line message m out : List ℕ) (t : Talk) : Type 0 where
+-- the session stands where the talk does: what was written out before, and behind it the bytes that are held back, is all that was printed
+pub record Speaks (s : Session) (printed line message m out : List ℕ) (t : Talk) : Type 0 where
   pub kept : Kept (pairsAt (s .language)) (t .line) (s .heard) line message
   pub state : s .state ≡ t .state
   pub memory : m ≡ t .memory
-  pub text : Ends (take (s .held) out) (t .text)
+  pub text : printed ++ take (s .held) out ≡ t .text
+
+-- the same with some text that was written out before: no contract can say what a system call writes, so where one stands between, that text is not known
+pub record Written (s : Session) (line message m out : List ℕ) (t : Talk) : Type 0 where
+  pub printed : List ℕ
+  pub speaks : Speaks s printed line message m out t
 
 -- the session stands where some text led, from here on, that was read
 pub record Followed (l : Language) (from : Talk) (s : Session) (line message m out : List ℕ) : Type 0 where
   pub read : List ℕ
-  pub speaks : Speaks s line message m out (talked l from read)
+  pub written : Written s line message m out (talked l from read)

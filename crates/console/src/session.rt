@@ -9,14 +9,14 @@ use recording::say_line;
 use recording::say_pairs;
 use state::Gateway;
 ghost use mathlib.Core.Path.{_≡_};
-ghost use mathlib.Core.List.{List};
+ghost use mathlib.Core.List.{List, []};
 ghost use mathlib.Core.Logic.{_⊎_};
 ghost use Prim.Native.Nat.{ℕ, _+_, _≤_};
 ghost use lib.ListN.{length};
 ghost use Rattle.io.specs.Counts.{Counts};
 ghost use Rattle.recording.specs.Heard.{Room, Kept};
 ghost use Rattle.recording.specs.Line.{Does};
-ghost use Rattle.console.specs.Talk.{Talk, pairsAt, meaning, opening, longer, ended, partOf, talked, finished, Speaks, Followed};
+ghost use Rattle.console.specs.Talk.{Talk, pairsAt, meaning, opening, longer, ended, partOf, talked, finished, Speaks, Written, Followed};
 
 // The language; the state; what was read of a line; and how many bytes of text are held back.
 pub struct Session {
@@ -29,7 +29,8 @@ pub struct Session {
 // Nothing was read yet.
 fn begin(language: Language) -> Session
     ensures { λ r. ⌜ r .language ≡ language ⌝ }
-    ensures { λ r. ⌜ ((line message m out : List ℕ) → Room 8 line message → Speaks r line message m out (opening language m)) ⌝ }
+    ensures { λ r. ⌜ r .held ≡ 0 ⌝ }
+    ensures { λ r. ⌜ ((line message m out : List ℕ) → Room 8 line message → Speaks r [] line message m out (opening language m)) ⌝ }
 {
     let state = fresh_start(language.there());
     let heard = Heard::new();
@@ -76,15 +77,15 @@ fn say(session: Session, memory: &mut [u8], line: &[u8], message: &[u8], out: &m
     }
 }
 
-// The line that was read to its end is answered.
+// The line that was read to its end is answered, behind what is held back.
 fn end(session: Session, memory: &mut [u8], line: &[u8], message: &[u8], out: &mut [u8]) -> Session
     requires { ⌜ length (now memory) ≡ 32768 ⌝ }
-    requires { ⌜ 16384 ≤ length (now out) ⌝ }
+    requires { ⌜ session .held + 16384 ≤ length (now out) ⌝ }
     ensures { λ r. ⌜ r .language ≡ session .language ⌝ }
-    ensures { λ r. ⌜ ((t : Talk) → Speaks session (now (line .entry)) (now (message .entry)) (now (memory .entry)) (now (out .entry)) t → Speaks r (now (line .entry)) (now (message .entry)) (now (memory .exit)) (now (out .exit)) (ended (session .language) t)) ⌝ }
+    ensures { λ r. ⌜ ((printed : List ℕ) (t : Talk) → Speaks session printed (now (line .entry)) (now (message .entry)) (now (memory .entry)) (now (out .entry)) t → Speaks r printed (now (line .entry)) (now (message .entry)) (now (memory .exit)) (now (out .exit)) (ended (session .language) t)) ⌝ }
 {
     let language = session.language;
-    let held = make_room(session.held, out);
+    let held = session.held;
     let said = say(session, memory, line, message, &mut out[held..]);
     let behind = held + said.len;
     let next = said.state;
@@ -100,7 +101,8 @@ fn end(session: Session, memory: &mut [u8], line: &[u8], message: &[u8], out: &m
 // A part of a line.
 fn read_part(session: Session, text: &[u8], line: &mut [u8], message: &mut [u8]) -> Session
     ensures { λ r. ⌜ r .language ≡ session .language ⌝ }
-    ensures { λ r. ⌜ ((m out : List ℕ) (t : Talk) → Speaks session (now (line .entry)) (now (message .entry)) m out t → Speaks r (now (line .exit)) (now (message .exit)) m out (longer (now (text .entry)) t)) ⌝ }
+    ensures { λ r. ⌜ r .held ≡ session .held ⌝ }
+    ensures { λ r. ⌜ ((printed m out : List ℕ) (t : Talk) → Speaks session printed (now (line .entry)) (now (message .entry)) m out t → Speaks r printed (now (line .exit)) (now (message .exit)) m out (longer (now (text .entry)) t)) ⌝ }
 {
     let language = session.language;
     let state = session.state;
@@ -126,9 +128,9 @@ fn part(
     out: &mut [u8],
 ) -> Session
     requires { ⌜ length (now memory) ≡ 32768 ⌝ }
-    requires { ⌜ 16384 ≤ length (now out) ⌝ }
+    requires { ⌜ session .held + 16384 ≤ length (now out) ⌝ }
     ensures { λ r. ⌜ r .language ≡ session .language ⌝ }
-    ensures { λ r. ⌜ ((t : Talk) → Speaks session (now (line .entry)) (now (message .entry)) (now (memory .entry)) (now (out .entry)) t → Speaks r (now (line .exit)) (now (message .exit)) (now (memory .exit)) (now (out .exit)) (partOf (session .language) ends (now (text .entry)) t)) ⌝ }
+    ensures { λ r. ⌜ ((printed : List ℕ) (t : Talk) → Speaks session printed (now (line .entry)) (now (message .entry)) (now (memory .entry)) (now (out .entry)) t → Speaks r printed (now (line .exit)) (now (message .exit)) (now (memory .exit)) (now (out .exit)) (partOf (session .language) ends (now (text .entry)) t)) ⌝ }
 {
     let next = read_part(session, text, line, message);
     if !ends {
@@ -138,6 +140,7 @@ fn part(
 }
 
 // A block of text, which may begin and end within a line.
+// What does not fit any more is written out between two lines, so of the text before it is only known that there is one.
 fn feed(
     session: Session,
     block: &[u8],
@@ -149,12 +152,13 @@ fn feed(
     requires { ⌜ length (now memory) ≡ 32768 ⌝ }
     requires { ⌜ 16384 ≤ length (now out) ⌝ }
     ensures { λ r. ⌜ r .language ≡ session .language ⌝ }
-    ensures { λ r. ⌜ ((t : Talk) → Speaks session (now (line .entry)) (now (message .entry)) (now (memory .entry)) (now (out .entry)) t → Speaks r (now (line .exit)) (now (message .exit)) (now (memory .exit)) (now (out .exit)) (talked (session .language) t (now (block .entry)))) ⌝ }
+    ensures { λ r. ⌜ ((t : Talk) → Written session (now (line .entry)) (now (message .entry)) (now (memory .entry)) (now (out .entry)) t → Written r (now (line .exit)) (now (message .exit)) (now (memory .exit)) (now (out .exit)) (talked (session .language) t (now (block .entry)))) ⌝ }
 {
     let mut now = session;
     let mut at = 0;
     while at < block.len() {
         let stop = line_end(block, at);
+        now.held = make_room(now.held, out);
         now = part(
             now,
             &block[at..stop],
@@ -189,6 +193,7 @@ fn converse(
     requires { ⌜ length (now memory) ≡ 32768 ⌝ }
     requires { ⌜ 16384 ≤ length (now out) ⌝ }
     requires { ⌜ Room 8 (now line) (now message) ⌝ }
+    ensures { λ r. ⌜ r .held ≡ 0 ⌝ }
     ensures { λ r. ⌜ Followed language (opening language (now (memory .entry))) r (now (line .exit)) (now (message .exit)) (now (memory .exit)) (now (out .exit)) ⌝ }
 {
     let mut session = begin(language);
@@ -215,8 +220,8 @@ fn finish(
     out: &mut [u8],
 ) -> Session
     requires { ⌜ length (now memory) ≡ 32768 ⌝ }
-    requires { ⌜ 16384 ≤ length (now out) ⌝ }
-    ensures { λ r. ⌜ ((t : Talk) → Speaks session (now (line .entry)) (now (message .entry)) (now (memory .entry)) (now (out .entry)) t → Speaks r (now (line .entry)) (now (message .entry)) (now (memory .exit)) (now (out .exit)) (finished (session .language) t)) ⌝ }
+    requires { ⌜ session .held + 16384 ≤ length (now out) ⌝ }
+    ensures { λ r. ⌜ ((printed : List ℕ) (t : Talk) → Speaks session printed (now (line .entry)) (now (message .entry)) (now (memory .entry)) (now (out .entry)) t → Speaks r printed (now (line .entry)) (now (message .entry)) (now (memory .exit)) (now (out .exit)) (finished (session .language) t)) ⌝ }
 {
     let heard = session.heard;
     if heard.len == 0 {

@@ -1,15 +1,16 @@
 -- `console::session::converse` meets its contract. The loop's invariant: the session stands where the text that was read led. Assumes nothing.
 use mathlib.Core.Path.{_≡_, refl, _∙_}
+use mathlib.Core.List.{[]}
 use native.Mathlib.Omega.{arith}
 use borrow.Author.Needs.{needs}
 use lib.ListN.{length, take}
-use Rattle.console.specs.Talk.{Talk, opening, Speaks, Followed}
+use Rattle.console.specs.Talk.{Talk, opening, Written, Followed}
 use Rattle.console.proofs.TalkLaws.{followed-none, followed-more, followed-as}
 use Rattle.console.proofs.session.converse.Statement.{statement}
 use Rattle.console.proofs.session.converse.Tie as tie
 
 abbrev Inv-loop : tie.InvT-loop
-Inv-loop memory₀ line₀ message₀ block₀ out₀ session₀ turns₀ memory line message block out session turns = (length memory ≡ length memory₀) × (length line ≡ length line₀) × (length message ≡ length message₀) × (length block ≡ length block₀) × (length out ≡ length out₀) × (session .language ≡ session₀ .language) × ((t : Talk) → Speaks session₀ line₀ message₀ memory₀ out₀ t → Followed (session₀ .language) t session line message memory out)
+Inv-loop memory₀ line₀ message₀ block₀ out₀ session₀ turns₀ memory line message block out session turns = (length memory ≡ length memory₀) × (length line ≡ length line₀) × (length message ≡ length message₀) × (length block ≡ length block₀) × (length out ≡ length out₀) × (session .language ≡ session₀ .language) × (session .held ≡ 0) × ((t : Talk) → Written session₀ line₀ message₀ memory₀ out₀ t → Followed (session₀ .language) t session line message memory out)
 
 abbrev μ-loop : tie.MeasureT-loop
 μ-loop memory₀ line₀ message₀ block₀ out₀ session₀ turns₀ memory line message block out session turns = turns
@@ -20,7 +21,7 @@ begin-requires c κs = search needs
 loop-holds : tie.Need-loop-holds Inv-loop μ-loop
 loop-holds c =
     let a = c .before .before .before .before .before .before .args in
-    (refl, refl, refl, refl, refl, refl, followed-none (c .begin .result .language) (c .begin .result) (a .line .now) (a .message .now) (a .memory .now) (a .out .now))
+    (refl, refl, refl, refl, refl, refl, c .begin .ensures .1 .0, followed-none (c .begin .result .language) (c .begin .result) (a .line .now) (a .message .now) (a .memory .now) (a .out .now))
 
 read-requires : tie.Need-read-requires Inv-loop μ-loop
 read-requires c κs = search needs
@@ -45,8 +46,11 @@ returns c =
     let l = c .before .before .before .before .before .before in
     let b = l .before in
     let a = b .before .before .before .before .before .before .args in
-    followed-as (b .begin .result .language) (a .language) (l .loop .session) (l .loop .line) (l .loop .message) (l .loop .memory) (l .loop .out) (opening (a .language) (a .memory .now)) (b .begin .ensures .0)
-    (l .loop .inv .6 (opening (a .language) (a .memory .now)) (b .begin .ensures .1 (a .line .now) (a .message .now) (a .memory .now) (a .out .now) (b .before .before .before .before .before .before .pre .1 .1)))
+    let none = b .begin .ensures .1 .1 (a .line .now) (a .message .now) (a .memory .now) (a .out .now) (b .before .before .before .before .before .before .pre .1 .1) in (
+      l .loop .inv .6,
+      followed-as (b .begin .result .language) (a .language) (l .loop .session) (l .loop .line) (l .loop .message) (l .loop .memory) (l .loop .out) (opening (a .language) (a .memory .now)) (b .begin .ensures .0)
+          (l .loop .inv .7 (opening (a .language) (a .memory .now)) (record { printed = []; speaks = none })),
+    )
 
 slice-reshare-prefix-feed : tie.Need-slice-reshare-prefix-feed Inv-loop μ-loop
 slice-reshare-prefix-feed c = search needs
@@ -81,8 +85,9 @@ loop-again c =
       omega (arith, f .feed .kept, r .read .kept, v .3),
       omega (arith, f .feed .kept, v .4),
       f .feed .ensures .0 ∙ v .5,
-      λ t sp. followed-more (b .begin .result .language) (l .loop .session) (f .feed .result) (l .loop .line) (l .loop .message) (l .loop .memory) (l .loop .out) (last .1 .1 .1 .0) (last .1 .1 .1 .1 .0) (last .1 .1 .0) (last .1 .1 .1 .1 .1 .0) part t
-          (v .5) (f .feed .ensures .1) (v .6 t sp),
+      refl,
+      λ t w. followed-more (b .begin .result .language) (l .loop .session) (f .feed .result) (l .loop .line) (l .loop .message) (l .loop .memory) (l .loop .out) (last .1 .1 .1 .0) (last .1 .1 .1 .1 .0) (last .1 .1 .0) (last .1 .1 .1 .1 .1 .0) part t
+          (v .5) (f .feed .ensures .1) (v .7 t w),
     )
 
 same-length-6 : tie.Need-same-length-6 Inv-loop μ-loop
@@ -105,8 +110,11 @@ returns-2 c =
     let l = c .before in
     let b = l .before in
     let a = b .before .before .before .before .before .before .args in
-    followed-as (b .begin .result .language) (a .language) (l .loop .session) (l .loop .line) (l .loop .message) (l .loop .memory) (l .loop .out) (opening (a .language) (a .memory .now)) (b .begin .ensures .0)
-    (l .loop .inv .6 (opening (a .language) (a .memory .now)) (b .begin .ensures .1 (a .line .now) (a .message .now) (a .memory .now) (a .out .now) (b .before .before .before .before .before .before .pre .1 .1)))
+    let none = b .begin .ensures .1 .1 (a .line .now) (a .message .now) (a .memory .now) (a .out .now) (b .before .before .before .before .before .before .pre .1 .1) in (
+      l .loop .inv .6,
+      followed-as (b .begin .result .language) (a .language) (l .loop .session) (l .loop .line) (l .loop .message) (l .loop .memory) (l .loop .out) (opening (a .language) (a .memory .now)) (b .begin .ensures .0)
+          (l .loop .inv .7 (opening (a .language) (a .memory .now)) (record { printed = []; speaks = none })),
+    )
 
 pub converse-spec : {M : Type 1} → statement M
 converse-spec =

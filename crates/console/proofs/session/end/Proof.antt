@@ -7,9 +7,6 @@ use Rattle.console.proofs.TalkLaws.{speaks-ended}
 use Rattle.console.proofs.session.end.Statement.{statement}
 use Rattle.console.proofs.session.end.Tie as tie
 
-make-room-requires : tie.Need-make-room-requires
-make-room-requires c κs = search needs
-
 sub-say : tie.Need-sub-say
 sub-say c = search needs
 
@@ -37,20 +34,19 @@ same-length-2 c = search needs
 returns : tie.Need-returns
 returns c =
     let k = c .before .before .before .before .before .before .before in
-    let r = c .before .before .before .before .before .before .before .before .before .before in
-    let a = c .before .before .before .before .before .before .before .before .before .before .before .before .before .before .before .before .args in
+    let s = k .before .before .before .before .before .before .before in
+    let a = s .args in
     let line = a .line .now in
     let message = a .message .now in (
       refl,
-      λ t sp. speaks-ended (a .session) (k .say .result) (c .new .result) (r .make-room .result) line message (a .memory .now) (k .say .last .1 .0) (a .out .now) (k .say .last .1 .1 .1 .1 .0) t
-          (omega (arith, r .make-room .ensures .0)) (r .make-room .ensures .1) (k .say .ensures .1 (t .line) (sp .kept)) (c .new .ensures (pairsAt (a .session .language)) line message (sp .kept .room)) sp,
+      λ printed t sp. speaks-ended (a .session) (k .say .result) (c .new .result) printed line message (a .memory .now) (k .say .last .1 .0) (a .out .now) (k .say .last .1 .1 .1 .1 .0) t
+          (omega (arith, s .pre .1)) (k .say .ensures .1 (t .line) (sp .kept)) (c .new .ensures (pairsAt (a .session .language)) line message (sp .kept .room)) sp,
     )
 
 pub end-spec : {M : Type 1} → statement M
 end-spec =
     tie.close
     (tie.spec
-    make-room-requires
     sub-say
     part-say-start
     part-say-end
