@@ -2,8 +2,8 @@
 use mathlib.Core.Path.{refl, ap, _∙_}
 use borrow.Author.Needs.{needs}
 use Rattle.state.specs.Gateway.{freshStart}
-use Rattle.console.specs.Talk.{pairsAt}
-use Rattle.console.proofs.TalkLaws.{room-either}
+use Rattle.console.specs.Transcript.{pairsAt}
+use Rattle.console.proofs.TranscriptLaws.{room-either}
 use Rattle.console.proofs.session.begin.Statement.{statement}
 use Rattle.console.proofs.session.begin.Tie as tie
 

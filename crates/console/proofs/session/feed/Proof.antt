@@ -8,13 +8,13 @@ use lib.Seq.{take-all}
 use lib.Dec.{ltb}
 use Rattle.lines.proofs.PrintLaws.{end-within}
 use Rattle.console.specs.declared.language.Language.{Language}
-use Rattle.console.specs.Talk.{Talk, partOf, talked, Written}
-use Rattle.console.proofs.TalkLaws.{talked-turn, written-room, written-as}
+use Rattle.console.specs.Transcript.{Transcript, partOf, transcribed, Written}
+use Rattle.console.proofs.TranscriptLaws.{transcribed-turn, written-room, written-as}
 use Rattle.console.proofs.session.feed.Statement.{statement}
 use Rattle.console.proofs.session.feed.Tie as tie
 
 abbrev Inv-loop : tie.InvT-loop
-Inv-loop block memory₀ line₀ message₀ out₀ now₀ at₀ memory line message out now at = (at ≤ length block + 1) × (length memory ≡ length memory₀) × (length line ≡ length line₀) × (length message ≡ length message₀) × (length out ≡ length out₀) × (now .language ≡ now₀ .language) × ((t : Talk) → Written now₀ line₀ message₀ memory₀ out₀ t → Written now line message memory out (talked (now₀ .language) t (take at block)))
+Inv-loop block memory₀ line₀ message₀ out₀ now₀ at₀ memory line message out now at = (at ≤ length block + 1) × (length memory ≡ length memory₀) × (length line ≡ length line₀) × (length message ≡ length message₀) × (length out ≡ length out₀) × (now .language ≡ now₀ .language) × ((t : Transcript) → Written now₀ line₀ message₀ memory₀ out₀ t → Written now line message memory out (transcribed (now₀ .language) t (take at block)))
 
 abbrev μ-loop : tie.MeasureT-loop
 μ-loop block memory₀ line₀ message₀ out₀ now₀ at₀ memory line message out now at = length block + 1 - at
@@ -28,7 +28,7 @@ ended e =
     (omega (arith, e .line-end .ensures), omega (arith, e .line-end .ensures, far))
 
 loop-holds : tie.Need-loop-holds Inv-loop μ-loop
-unfolding talked
+unfolding transcribed
 loop-holds c = (omega arith, refl, refl, refl, refl, refl, λ t w. w)
 
 line-end-requires : tie.Need-line-end-requires Inv-loop μ-loop
@@ -80,11 +80,11 @@ loop-again c =
       omega (arith, p .part .kept, v .4),
       p .part .ensures .0 ∙ v .5,
       λ t w.
-          let u = talked k t (take (l .loop .at) block) in
+          let u = transcribed k t (take (l .loop .at) block) in
           let room = written-room (l .loop .now) (r .make-room .result) (l .loop .line) (l .loop .message) (l .loop .memory) (l .loop .out) u (r .make-room .ensures .1) (v .6 t w) in
-          let done = p .part .ensures .1 (room .printed) u (room .speaks) in
-          written-as (p .part .result) (last .1 .1 .1 .1 .0) (last .1 .1 .1 .1 .1 .0) (last .1 .1 .1 .0) (last .1 .1 .1 .1 .1 .1 .0) (partOf (l .loop .now .language) (ltb stop (length block)) rest u) (talked k t (take (stop + 1) block))
-          (ap (λ (x : Language). partOf x (ltb stop (length block)) rest u) (v .5) ∙ talked-turn k t block (l .loop .at) stop low (e .line-end .ensures)) (record { printed = room .printed; speaks = done }),
+          let done = p .part .ensures .1 (room .printed) u (room .tracks) in
+          written-as (p .part .result) (last .1 .1 .1 .1 .0) (last .1 .1 .1 .1 .1 .0) (last .1 .1 .1 .0) (last .1 .1 .1 .1 .1 .1 .0) (partOf (l .loop .now .language) (ltb stop (length block)) rest u) (transcribed k t (take (stop + 1) block))
+          (ap (λ (x : Language). partOf x (ltb stop (length block)) rest u) (v .5) ∙ transcribed-turn k t block (l .loop .at) stop low (e .line-end .ensures)) (record { printed = room .printed; tracks = done }),
     )
 
 same-length : tie.Need-same-length Inv-loop μ-loop
@@ -106,7 +106,7 @@ returns c =
     let block = a .block .now in
     let k = a .session .language in
     let all : take (l .loop .at) block ≡ block = take-all (l .loop .at) block (omega arith) in
-    (l .loop .inv .5, λ t w. written-as (l .loop .now) (l .loop .line) (l .loop .message) (l .loop .memory) (l .loop .out) (talked k t (take (l .loop .at) block)) (talked k t block) (ap (talked k t) all) (l .loop .inv .6 t w))
+    (l .loop .inv .5, λ t w. written-as (l .loop .now) (l .loop .line) (l .loop .message) (l .loop .memory) (l .loop .out) (transcribed k t (take (l .loop .at) block)) (transcribed k t block) (ap (transcribed k t) all) (l .loop .inv .6 t w))
 
 pub feed-spec : {M : Type 1} → statement M
 feed-spec =
