@@ -146,7 +146,8 @@ fn part(
 }
 
 // A block of text, which may begin and end within a line.
-// What does not fit any more is written out between two lines, so of the text before it is only known that there is one.
+// Where a line might not fit any more, what is held back is written out first. No contract can say what a system call writes, so this one
+// says only that there is a text, written out before, behind which what is held back is all that was printed.
 fn feed(
     session: Session,
     block: &[u8],
@@ -187,7 +188,7 @@ fn read(block: &mut [u8]) -> usize
     io::count(got, block)
 }
 
-// Blocks of standard input until it ends.
+// Blocks of standard input until it ends; what each prints is written out before the next is read.
 fn read_input(
     language: Language,
     memory: &mut [u8],

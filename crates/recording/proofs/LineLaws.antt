@@ -136,14 +136,14 @@ module _ (line : List ℕ) (g : Gateway) (m : List ℕ) (long : 1024 ≤ length 
       let process : Near (storeP line) 11 = near-behind 7 line (begun 5) 5 (omega arith) (λ ok. omega arith) in
       let address : Near (storeAddress line) 17 = near-behind 4095 line (storeP line) 11 (omega arith) process in
       let far = too-far line (storeByte line) 23 (omega (arith, long)) (near-behind 255 line (storeAddress line) 17 (omega arith) address) in
-      sym (effect-as g g m _ question _ refl (store-wrong line g m (storeP line) (storeAddress line) (storeByte line) refl refl refl far) (store-text-wrong line (storeByte line) refl far))
+      sym (effect-as g g m _ question _ refl (store-wrong line (storeByte line) refl g m far) (store-text-wrong line (storeByte line) refl far))
 
   memory-long : effect g m (memoryText line m) ≡ effect g m question
   memory-long =
       let process : Near (memoryP line) 12 = near-behind 7 line (begun 6) 6 (omega arith) (λ ok. omega arith) in
       let address : Near (memoryAddress line) 18 = near-behind 4096 line (memoryP line) 12 (omega arith) process in
       let far = too-far line (memoryCount line) 24 (omega (arith, long)) (near-behind (4096 - memoryAddress line .value) line (memoryAddress line) 18 (omega arith) address) in
-      ap (effect g m) (sym (memory-text-wrong line m (memoryP line) (memoryAddress line) (memoryCount line) refl refl refl far))
+      ap (effect g m) (sym (memory-text-wrong line m (memoryCount line) refl far))
 
   process-long : effect g m (processText line g) ≡ effect g m question
   process-long =

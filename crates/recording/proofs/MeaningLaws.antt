@@ -1,4 +1,4 @@
--- Laws of what lines mean. Assumes nothing.
+-- Laws of what lines mean: the text that is put, the bytes of a process, and each call by whether its line is right. Assumes nothing.
 use mathlib.Core.Path.{_≡_, refl, sym, ap, _∙_}
 use mathlib.Core.Bool.{Bool, true, false}
 use mathlib.Core.List.{List, [], _∷_, _++_}
@@ -99,10 +99,6 @@ module _ (line : List ℕ) (g : Gateway) (m : List ℕ) where
     store-right e low inside size =
         rw (P, A, B, rw B at e) (stores (rw P at low) (rw A at inside) size)
 
-    pub store-wrong : endsLine line b ≡ false → m ≡ storeMemory line g m
-    unfolding storeMemory
-    store-wrong e = rw (rw B at e)
-
 module _ (line : List ℕ) (b : Number) (B : b ≡ storeByte line) where
   pub store-text-right : endsLine line b ≡ true → 111 ∷ 107 ∷ 10 ∷ [] ≡ storeText line
   unfolding storeText
@@ -112,13 +108,17 @@ module _ (line : List ℕ) (b : Number) (B : b ≡ storeByte line) where
   unfolding storeText
   store-text-wrong e = rw (rw B at e)
 
+  pub store-wrong : (g : Gateway) (m : List ℕ) → endsLine line b ≡ false → m ≡ storeMemory line g m
+  unfolding storeMemory
+  store-wrong g m e = rw (rw B at e)
+
 -- ---- memory
 
-module _ (line m : List ℕ) (p a c : Number) (P : p ≡ memoryP line) (A : a ≡ memoryAddress line) (C : c ≡ memoryCount line) where
-  pub memory-text-wrong : endsLine line c ≡ false → question ≡ memoryText line m
-  unfolding memoryText
-  memory-text-wrong e = rw (rw C at e)
+pub memory-text-wrong : (line m : List ℕ) (c : Number) → c ≡ memoryCount line → endsLine line c ≡ false → question ≡ memoryText line m
+unfolding memoryText
+memory-text-wrong line m c C e = rw (rw C at e)
 
+module _ (line m : List ℕ) (p a c : Number) (P : p ≡ memoryP line) (A : a ≡ memoryAddress line) (C : c ≡ memoryCount line) where
   pub memory-text-right : endsLine line c ≡ true → memoryLine (p .value) (a .value) (c .value) m ≡ memoryText line m
   unfolding memoryText
   memory-text-right e = rw (P, A, C, rw C at e)

@@ -1,4 +1,4 @@
--- Laws of a line that is read in parts. Assumes nothing.
+-- Laws of a line that is read in parts: what a buffer holds, and the pairs and the listing behind the first bytes. Assumes nothing.
 use mathlib.Core.Path.{_≡_, refl, sym, ap, _∙_}
 use mathlib.Core.Bool.{Bool, true, false}
 use mathlib.Core.List.{List, [], _∷_, _++_}

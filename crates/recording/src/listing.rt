@@ -10,7 +10,7 @@ pub enum Place {
     Behind,
     // Behind a blank: a number has to follow.
     Before,
-    // The line is none.
+    // The line is no start.
     Wrong,
 }
 

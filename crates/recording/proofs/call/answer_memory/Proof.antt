@@ -14,6 +14,17 @@ use Rattle.recording.proofs.MeaningLaws.{prints-as, memory-text-wrong, 
 use Rattle.recording.proofs.call.answer_memory.Statement.{statement}
 use Rattle.recording.proofs.call.answer_memory.Tie as tie
 
+-- the numbers that were read are those of the line
+numbers : (e : tie.After-ends) → let n1 = e .before .before .before .before in let line = n1 .before .before .before .before .before .args .line .now in
+    (n1 .then .result ≡ memoryP line) × (e .before .before .before .then2 .result ≡ memoryAddress line) × (e .before .then3 .result ≡ memoryCount line)
+numbers e =
+    let n1 = e .before .before .before .before in
+    let n2 = e .before .before .before in
+    let line = n1 .before .before .before .before .before .args .line .now in
+    let P : n1 .then .result ≡ memoryP line = n1 .then .ensures .0 ∙ ap (behind 7 line) (n1 .before .start .ensures) in
+    let A : n2 .then2 .result ≡ memoryAddress line = n2 .then2 .ensures .0 ∙ ap (behind 4096 line) P in
+    (P, A, e .before .then3 .ensures .0 ∙ ap (λ (n : Number). behind (4096 - n .value) line n) A)
+
 start-requires : tie.Need-start-requires
 start-requires c κs = search needs
 
@@ -43,21 +54,14 @@ returns c =
     let u = c .before .before in
     let i = u .before .before in
     let e = i .before in
-    let n3 = e .before in
-    let n2 = n3 .before .before in
-    let n1 = n2 .before in
-    let s = c .before .before .before .before .before .before .before .before .before .before .before .before .before .before in
-    let a = s .args in
+    let a = e .before .before .before .before .before .before .before .before .before .args in
     let line = a .line .now in
-    let P : n1 .then .result ≡ memoryP line = n1 .then .ensures .0 ∙ ap (behind 7 line) (n1 .before .start .ensures) in
-    let A : n2 .then2 .result ≡ memoryAddress line = n2 .then2 .ensures .0 ∙ ap (behind 4096 line) P in
-    let C : n3 .then3 .result ≡ memoryCount line = n3 .then3 .ensures .0 ∙ ap (λ (n : Number). behind (4096 - n .value) line n) A in
-    let wrong : endsLine line (n3 .then3 .result) ≡ false = sym (e .ends .ensures) ∙ not-true _ (i .if1 .taken) in (
+    let count = e .before .then3 .result in
+    let wrong : endsLine line count ≡ false = sym (e .ends .ensures) ∙ not-true _ (i .if1 .taken) in (
       u .unknown .ensures .0,
       (
         u .unknown .ensures .1 .0,
-        prints-as question (memoryText line (a .memory .now)) (u .unknown .result .len) (a .out .now) (u .unknown .last .1 .0)
-            (memory-text-wrong line (a .memory .now) (n1 .then .result) (n2 .then2 .result) (n3 .then3 .result) P A C wrong) (u .unknown .ensures .1 .1),
+        prints-as question (memoryText line (a .memory .now)) (u .unknown .result .len) (a .out .now) (u .unknown .last .1 .0) (memory-text-wrong line (a .memory .now) count (numbers e .2) wrong) (u .unknown .ensures .1 .1),
       ),
     )
 
@@ -89,21 +93,19 @@ returns-2 c =
     let i = q .before in
     let e = i .before in
     let n3 = e .before in
-    let n2 = n3 .before .before in
-    let n1 = n2 .before in
-    let s = c .before .before .before .before .before .before .before .before .before .before .before .before .before .before .before .before .before in
+    let n2 = e .before .before .before in
+    let n1 = e .before .before .before .before in
+    let s = e .before .before .before .before .before .before .before .before .before in
     let a = s .args in
     let line = a .line .now in
     let m = a .memory .now in
-    let P : n1 .then .result ≡ memoryP line = n1 .then .ensures .0 ∙ ap (behind 7 line) (n1 .before .start .ensures) in
-    let A : n2 .then2 .result ≡ memoryAddress line = n2 .then2 .ensures .0 ∙ ap (behind 4096 line) P in
-    let C : n3 .then3 .result ≡ memoryCount line = n3 .then3 .ensures .0 ∙ ap (λ (n : Number). behind (4096 - n .value) line n) A in
+    let is = numbers e in
     let right : endsLine line (n3 .then3 .result) ≡ true = sym (e .ends .ensures) ∙ not-false _ (i .if1 .left) in
     let from = q .place .result in
     let shown = pairsLine (take (from + n3 .then3 .result .value - from) (drop from m)) in
     let same : shown ≡ memoryText line m =
     memory-line (n1 .then .result .value) (n2 .then2 .result .value) (n3 .then3 .result .value) from m (omega (arith, n1 .then .ensures .1)) (s .pre .0) (q .place .ensures) (omega (arith, n2 .then2 .ensures .1, n3 .then3 .ensures .1))
-    ∙ memory-text-right line m (n1 .then .result) (n2 .then2 .result) (n3 .then3 .result) P A C right in (
+    ∙ memory-text-right line m (n1 .then .result) (n2 .then2 .result) (n3 .then3 .result) (is .0) (is .1) (is .2) right in (
       p .put-pairs .ensures .1 .0,
       (
         refl,

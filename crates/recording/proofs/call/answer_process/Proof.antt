@@ -10,6 +10,10 @@ use Rattle.recording.proofs.MeaningLaws.{prints-as, process-text-wrong,
 use Rattle.recording.proofs.call.answer_process.Statement.{statement}
 use Rattle.recording.proofs.call.answer_process.Tie as tie
 
+-- the number that was read is that of the line
+number : (e : tie.After-ends) → let n = e .before in let line = n .before .before .before .before .args .line .now in n .then .result ≡ behind 7 line (begun 7)
+number e = let n = e .before in n .then .ensures .0 ∙ ap (behind 7 (n .before .before .before .before .args .line .now)) (n .before .start .ensures)
+
 start-requires : tie.Need-start-requires
 start-requires c κs = search needs
 
@@ -33,12 +37,11 @@ returns c =
     let n = e .before in
     let a = c .before .before .before .before .before .before .before .before .before .before .args in
     let line = a .line .now in
-    let P : n .then .result ≡ behind 7 line (begun 7) = n .then .ensures .0 ∙ ap (behind 7 line) (n .before .start .ensures) in
     let wrong : endsLine line (n .then .result) ≡ false = sym (e .ends .ensures) ∙ not-true _ (i .if1 .taken) in (
       u .unknown .ensures .0,
       (
         u .unknown .ensures .1 .0,
-        prints-as question (processText line (a .state)) (u .unknown .result .len) (a .out .now) (u .unknown .last .1 .0) (process-text-wrong line (a .state) (n .then .result) P wrong) (u .unknown .ensures .1 .1),
+        prints-as question (processText line (a .state)) (u .unknown .result .len) (a .out .now) (u .unknown .last .1 .0) (process-text-wrong line (a .state) (n .then .result) (number e) wrong) (u .unknown .ensures .1 .1),
       ),
     )
 
@@ -60,9 +63,8 @@ returns-2 c =
     let n = e .before in
     let a = c .before .before .before .before .before .before .before .before .before .before .before .args in
     let line = a .line .now in
-    let P : n .then .result ≡ behind 7 line (begun 7) = n .then .ensures .0 ∙ ap (behind 7 line) (n .before .start .ensures) in
     let right : endsLine line (n .then .result) ≡ true = sym (e .ends .ensures) ∙ not-false _ (i .if1 .left) in
-    let same : processLine (q .process .result) ≡ processText line (a .state) = ap processLine (q .process .ensures) ∙ process-text-right line (a .state) (n .then .result) P right in (
+    let same : processLine (q .process .result) ≡ processText line (a .state) = ap processLine (q .process .ensures) ∙ process-text-right line (a .state) (n .then .result) (number e) right in (
       p .put-process .ensures .1 .0,
       (
         refl,

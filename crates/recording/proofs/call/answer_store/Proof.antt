@@ -13,6 +13,17 @@ use Rattle.recording.proofs.MeaningLaws.{prints-put, prints-as, store-r
 use Rattle.recording.proofs.call.answer_store.Statement.{statement}
 use Rattle.recording.proofs.call.answer_store.Tie as tie
 
+-- the numbers that were read are those of the line
+numbers : (e : tie.After-ends) → let n1 = e .before .before .before in let line = n1 .before .before .before .before .before .args .line .now in
+    (n1 .then .result ≡ storeP line) × (e .before .before .then2 .result ≡ storeAddress line) × (e .before .then3 .result ≡ storeByte line)
+numbers e =
+    let n1 = e .before .before .before in
+    let n2 = e .before .before in
+    let line = n1 .before .before .before .before .before .args .line .now in
+    let P : n1 .then .result ≡ storeP line = n1 .then .ensures .0 ∙ ap (behind 7 line) (n1 .before .start .ensures) in
+    let A : n2 .then2 .result ≡ storeAddress line = n2 .then2 .ensures .0 ∙ ap (behind 4095 line) P in
+    (P, A, e .before .then3 .ensures .0 ∙ ap (behind 255 line) A)
+
 start-requires : tie.Need-start-requires
 start-requires c κs = search needs
 
@@ -39,22 +50,17 @@ returns c =
     let u = c .before .before in
     let i = u .before .before in
     let e = i .before in
-    let n3 = e .before in
-    let n2 = n3 .before in
-    let n1 = n2 .before in
-    let s = c .before .before .before .before .before .before .before .before .before .before .before .before .before in
-    let a = s .args in
+    let a = e .before .before .before .before .before .before .before .before .args in
     let line = a .line .now in
-    let P : n1 .then .result ≡ storeP line = n1 .then .ensures .0 ∙ ap (behind 7 line) (n1 .before .start .ensures) in
-    let A : n2 .then2 .result ≡ storeAddress line = n2 .then2 .ensures .0 ∙ ap (behind 4095 line) P in
-    let D : n3 .then3 .result ≡ storeByte line = n3 .then3 .ensures .0 ∙ ap (behind 255 line) A in
-    let wrong : endsLine line (n3 .then3 .result) ≡ false = sym (e .ends .ensures) ∙ not-true _ (i .if1 .taken) in (
+    let byte = e .before .then3 .result in
+    let is = numbers e .2 in
+    let wrong : endsLine line byte ≡ false = sym (e .ends .ensures) ∙ not-true _ (i .if1 .taken) in (
       u .unknown .ensures .0,
       (
         u .unknown .ensures .1 .0,
         (
-          store-wrong line (a .state) (a .memory .now) (n1 .then .result) (n2 .then2 .result) (n3 .then3 .result) P A D wrong,
-          prints-as question (storeText line) (u .unknown .result .len) (a .out .now) (u .unknown .last .1 .0) (store-text-wrong line (n3 .then3 .result) D wrong) (u .unknown .ensures .1 .1),
+          store-wrong line byte is (a .state) (a .memory .now) wrong,
+          prints-as question (storeText line) (u .unknown .result .len) (a .out .now) (u .unknown .last .1 .0) (store-text-wrong line byte is wrong) (u .unknown .ensures .1 .1),
         ),
       ),
     )
@@ -86,25 +92,23 @@ returns-2 c =
     let q = c .before .before .before .before .before .before in
     let i = q .before in
     let e = i .before in
-    let n3 = e .before in
-    let n2 = n3 .before in
-    let n1 = n2 .before in
-    let s = c .before .before .before .before .before .before .before .before .before .before .before .before .before .before .before .before in
+    let n2 = e .before .before in
+    let n1 = e .before .before .before in
+    let s = e .before .before .before .before .before .before .before .before in
     let a = s .args in
     let line = a .line .now in
-    let P : n1 .then .result ≡ storeP line = n1 .then .ensures .0 ∙ ap (behind 7 line) (n1 .before .start .ensures) in
-    let A : n2 .then2 .result ≡ storeAddress line = n2 .then2 .ensures .0 ∙ ap (behind 4095 line) P in
-    let D : n3 .then3 .result ≡ storeByte line = n3 .then3 .ensures .0 ∙ ap (behind 255 line) A in
-    let right : endsLine line (n3 .then3 .result) ≡ true = sym (e .ends .ensures) ∙ not-false _ (i .if1 .left) in
+    let byte = e .before .then3 .result in
+    let is = numbers e in
+    let right : endsLine line byte ≡ true = sym (e .ends .ensures) ∙ not-false _ (i .if1 .left) in
     let ok : List ℕ = 111 ∷ 107 ∷ 10 ∷ [] in
     let done = prints-put ok (p .put .result) (a .out .now) (p .put .last .1 .1 .0) (omega (arith, s .pre .1)) (p .put .ensures) in (
       search needs,
       (
         refl,
         (
-          ap (λ (k : ℕ). set (a .memory .now) k (n3 .then3 .result .value)) (q .place .ensures)
-              ∙ store-right line (a .state) (a .memory .now) (n1 .then .result) (n2 .then2 .result) (n3 .then3 .result) P A D right (omega (arith, n1 .then .ensures .1)) (omega (arith, n2 .then2 .ensures .1)) (s .pre .0),
-          prints-as ok (storeText line) (p .put .result) (a .out .now) (p .put .last .1 .1 .0) (store-text-right line (n3 .then3 .result) D right) done,
+          ap (λ (k : ℕ). set (a .memory .now) k (byte .value)) (q .place .ensures)
+              ∙ store-right line (a .state) (a .memory .now) (n1 .then .result) (n2 .then2 .result) byte (is .0) (is .1) (is .2) right (omega (arith, n1 .then .ensures .1)) (omega (arith, n2 .then2 .ensures .1)) (s .pre .0),
+          prints-as ok (storeText line) (p .put .result) (a .out .now) (p .put .last .1 .1 .0) (store-text-right line byte (is .2) right) done,
         ),
       ),
     )
