@@ -1,6 +1,6 @@
 // The two languages.
 ghost use mathlib.Core.Path.{_≡_};
-ghost use Rattle.console.specs.Talk.{thereAt, pairsAt};
+ghost use Rattle.console.specs.Transcript.{thereAt, pairsAt};
 
 // What the lines are.
 pub enum Language {

@@ -3,40 +3,41 @@ use crate::language::Language;
 use gateway::fresh_start;
 use lines::line_end;
 use lines::within;
-use recording::Heard;
-use recording::Said;
-use recording::say_line;
-use recording::say_pairs;
+use recording::Partial;
+use recording::Response;
+use recording::answer_line;
+use recording::answer_pairs;
 use state::Gateway;
 ghost use mathlib.Core.Path.{_≡_};
-ghost use mathlib.Core.List.{List};
+ghost use mathlib.Core.List.{List, []};
 ghost use mathlib.Core.Logic.{_⊎_};
 ghost use Prim.Native.Nat.{ℕ, _+_, _≤_};
 ghost use lib.ListN.{length};
 ghost use Rattle.io.specs.Counts.{Counts};
-ghost use Rattle.recording.specs.Heard.{Room, Kept};
+ghost use Rattle.recording.specs.Partial.{Room, Kept};
 ghost use Rattle.recording.specs.Line.{Does};
-ghost use Rattle.console.specs.Talk.{Talk, pairsAt, meaning, opening, longer, ended, partOf, talked, finished, Speaks, Followed};
+ghost use Rattle.console.specs.Transcript.{Transcript, pairsAt, meaning, initial, longer, ended, partOf, transcribed, finished, Tracks, Written, Reached};
 
 // The language; the state; what was read of a line; and how many bytes of text are held back.
 pub struct Session {
     pub language: Language,
     pub state: Gateway,
-    pub heard: Heard,
+    pub partial: Partial,
     pub held: usize,
 }
 
 // Nothing was read yet.
 fn begin(language: Language) -> Session
     ensures { λ r. ⌜ r .language ≡ language ⌝ }
-    ensures { λ r. ⌜ ((line message m out : List ℕ) → Room 8 line message → Speaks r line message m out (opening language m)) ⌝ }
+    ensures { λ r. ⌜ r .held ≡ 0 ⌝ }
+    ensures { λ r. ⌜ ((line message m out : List ℕ) → Room 8 line message → Tracks r [] line message m out (initial language m)) ⌝ }
 {
     let state = fresh_start(language.there());
-    let heard = Heard::new();
+    let partial = Partial::new();
     Session {
         language: language,
         state: state,
-        heard: heard,
+        partial: partial,
         held: 0,
     }
 }
@@ -60,39 +61,45 @@ fn make_room(held: usize, out: &[u8]) -> usize
     0
 }
 
-// What the line that was read to its end says.
-fn say(session: Session, memory: &mut [u8], line: &[u8], message: &[u8], out: &mut [u8]) -> Said
+// The line that was read to its end is carried out.
+fn respond(
+    session: Session,
+    memory: &mut [u8],
+    line: &[u8],
+    message: &[u8],
+    out: &mut [u8],
+) -> Response
     requires { ⌜ length (now memory) ≡ 32768 ⌝ }
     requires { ⌜ 16384 ≤ length (now out) ⌝ }
     ensures { λ r. ⌜ r .len ≤ length (now (out .entry)) ⌝ }
-    ensures { λ r. ⌜ ((whole : List ℕ) → Kept (pairsAt (session .language)) whole (session .heard) (now (line .entry)) (now (message .entry)) → Does (meaning (session .language) whole (session .state) (now (memory .entry))) r (now (memory .exit)) (now (out .entry)) (now (out .exit))) ⌝ }
+    ensures { λ r. ⌜ ((whole : List ℕ) → Kept (pairsAt (session .language)) whole (session .partial) (now (line .entry)) (now (message .entry)) → Does (meaning (session .language) whole (session .state) (now (memory .entry))) r (now (memory .exit)) (now (out .entry)) (now (out .exit))) ⌝ }
 {
     let language = session.language;
     let state = session.state;
-    let heard = session.heard;
+    let partial = session.partial;
     match language {
-        Language::Bench => say_pairs(heard, state, memory, message, out),
-        Language::Recording => say_line(heard, state, memory, line, message, out),
+        Language::Bench => answer_pairs(partial, state, memory, message, out),
+        Language::Recording => answer_line(partial, state, memory, line, message, out),
     }
 }
 
-// The line that was read to its end is answered.
+// The line that was read to its end is answered, behind what is held back.
 fn end(session: Session, memory: &mut [u8], line: &[u8], message: &[u8], out: &mut [u8]) -> Session
     requires { ⌜ length (now memory) ≡ 32768 ⌝ }
-    requires { ⌜ 16384 ≤ length (now out) ⌝ }
+    requires { ⌜ session .held + 16384 ≤ length (now out) ⌝ }
     ensures { λ r. ⌜ r .language ≡ session .language ⌝ }
-    ensures { λ r. ⌜ ((t : Talk) → Speaks session (now (line .entry)) (now (message .entry)) (now (memory .entry)) (now (out .entry)) t → Speaks r (now (line .entry)) (now (message .entry)) (now (memory .exit)) (now (out .exit)) (ended (session .language) t)) ⌝ }
+    ensures { λ r. ⌜ ((printed : List ℕ) (t : Transcript) → Tracks session printed (now (line .entry)) (now (message .entry)) (now (memory .entry)) (now (out .entry)) t → Tracks r printed (now (line .entry)) (now (message .entry)) (now (memory .exit)) (now (out .exit)) (ended (session .language) t)) ⌝ }
 {
     let language = session.language;
-    let held = make_room(session.held, out);
-    let said = say(session, memory, line, message, &mut out[held..]);
-    let behind = held + said.len;
-    let next = said.state;
-    let heard = Heard::new();
+    let held = session.held;
+    let response = respond(session, memory, line, message, &mut out[held..]);
+    let behind = held + response.len;
+    let next = response.state;
+    let partial = Partial::new();
     Session {
         language: language,
         state: next,
-        heard: heard,
+        partial: partial,
         held: behind,
     }
 }
@@ -100,17 +107,18 @@ fn end(session: Session, memory: &mut [u8], line: &[u8], message: &[u8], out: &m
 // A part of a line.
 fn read_part(session: Session, text: &[u8], line: &mut [u8], message: &mut [u8]) -> Session
     ensures { λ r. ⌜ r .language ≡ session .language ⌝ }
-    ensures { λ r. ⌜ ((m out : List ℕ) (t : Talk) → Speaks session (now (line .entry)) (now (message .entry)) m out t → Speaks r (now (line .exit)) (now (message .exit)) m out (longer (now (text .entry)) t)) ⌝ }
+    ensures { λ r. ⌜ r .held ≡ session .held ⌝ }
+    ensures { λ r. ⌜ ((printed m out : List ℕ) (t : Transcript) → Tracks session printed (now (line .entry)) (now (message .entry)) m out t → Tracks r printed (now (line .exit)) (now (message .exit)) m out (longer (now (text .entry)) t)) ⌝ }
 {
     let language = session.language;
     let state = session.state;
-    let heard = session.heard;
+    let partial = session.partial;
     let at = language.pairs_at();
-    let more = heard.part(at, text, line, message);
+    let more = partial.part(at, text, line, message);
     Session {
         language: language,
         state: state,
-        heard: more,
+        partial: more,
         held: session.held,
     }
 }
@@ -126,9 +134,9 @@ fn part(
     out: &mut [u8],
 ) -> Session
     requires { ⌜ length (now memory) ≡ 32768 ⌝ }
-    requires { ⌜ 16384 ≤ length (now out) ⌝ }
+    requires { ⌜ session .held + 16384 ≤ length (now out) ⌝ }
     ensures { λ r. ⌜ r .language ≡ session .language ⌝ }
-    ensures { λ r. ⌜ ((t : Talk) → Speaks session (now (line .entry)) (now (message .entry)) (now (memory .entry)) (now (out .entry)) t → Speaks r (now (line .exit)) (now (message .exit)) (now (memory .exit)) (now (out .exit)) (partOf (session .language) ends (now (text .entry)) t)) ⌝ }
+    ensures { λ r. ⌜ ((printed : List ℕ) (t : Transcript) → Tracks session printed (now (line .entry)) (now (message .entry)) (now (memory .entry)) (now (out .entry)) t → Tracks r printed (now (line .exit)) (now (message .exit)) (now (memory .exit)) (now (out .exit)) (partOf (session .language) ends (now (text .entry)) t)) ⌝ }
 {
     let next = read_part(session, text, line, message);
     if !ends {
@@ -138,6 +146,8 @@ fn part(
 }
 
 // A block of text, which may begin and end within a line.
+// Where a line might not fit any more, what is held back is written out first. No contract can say what a system call writes, so this one
+// says only that there is a text, written out before, behind which what is held back is all that was printed.
 fn feed(
     session: Session,
     block: &[u8],
@@ -149,12 +159,13 @@ fn feed(
     requires { ⌜ length (now memory) ≡ 32768 ⌝ }
     requires { ⌜ 16384 ≤ length (now out) ⌝ }
     ensures { λ r. ⌜ r .language ≡ session .language ⌝ }
-    ensures { λ r. ⌜ ((t : Talk) → Speaks session (now (line .entry)) (now (message .entry)) (now (memory .entry)) (now (out .entry)) t → Speaks r (now (line .exit)) (now (message .exit)) (now (memory .exit)) (now (out .exit)) (talked (session .language) t (now (block .entry)))) ⌝ }
+    ensures { λ r. ⌜ ((t : Transcript) → Written session (now (line .entry)) (now (message .entry)) (now (memory .entry)) (now (out .entry)) t → Written r (now (line .exit)) (now (message .exit)) (now (memory .exit)) (now (out .exit)) (transcribed (session .language) t (now (block .entry)))) ⌝ }
 {
     let mut now = session;
     let mut at = 0;
     while at < block.len() {
         let stop = line_end(block, at);
+        now.held = make_room(now.held, out);
         now = part(
             now,
             &block[at..stop],
@@ -177,8 +188,8 @@ fn read(block: &mut [u8]) -> usize
     io::count(got, block)
 }
 
-// Blocks of standard input until it ends.
-fn converse(
+// Blocks of standard input until it ends; what each prints is written out before the next is read.
+fn read_input(
     language: Language,
     memory: &mut [u8],
     line: &mut [u8],
@@ -189,7 +200,8 @@ fn converse(
     requires { ⌜ length (now memory) ≡ 32768 ⌝ }
     requires { ⌜ 16384 ≤ length (now out) ⌝ }
     requires { ⌜ Room 8 (now line) (now message) ⌝ }
-    ensures { λ r. ⌜ Followed language (opening language (now (memory .entry))) r (now (line .exit)) (now (message .exit)) (now (memory .exit)) (now (out .exit)) ⌝ }
+    ensures { λ r. ⌜ r .held ≡ 0 ⌝ }
+    ensures { λ r. ⌜ Reached language (initial language (now (memory .entry))) r (now (line .exit)) (now (message .exit)) (now (memory .exit)) (now (out .exit)) ⌝ }
 {
     let mut session = begin(language);
     let mut turns = 18446744073709551615u64;
@@ -215,11 +227,11 @@ fn finish(
     out: &mut [u8],
 ) -> Session
     requires { ⌜ length (now memory) ≡ 32768 ⌝ }
-    requires { ⌜ 16384 ≤ length (now out) ⌝ }
-    ensures { λ r. ⌜ ((t : Talk) → Speaks session (now (line .entry)) (now (message .entry)) (now (memory .entry)) (now (out .entry)) t → Speaks r (now (line .entry)) (now (message .entry)) (now (memory .exit)) (now (out .exit)) (finished (session .language) t)) ⌝ }
+    requires { ⌜ session .held + 16384 ≤ length (now out) ⌝ }
+    ensures { λ r. ⌜ ((printed : List ℕ) (t : Transcript) → Tracks session printed (now (line .entry)) (now (message .entry)) (now (memory .entry)) (now (out .entry)) t → Tracks r printed (now (line .entry)) (now (message .entry)) (now (memory .exit)) (now (out .exit)) (finished (session .language) t)) ⌝ }
 {
-    let heard = session.heard;
-    if heard.len == 0 {
+    let partial = session.partial;
+    if partial.len == 0 {
         return session;
     }
     end(session, memory, line, message, out)
@@ -232,7 +244,7 @@ fn run(language: Language) {
     let mut message = [0u8; 267];
     let mut block = io::large_buffer();
     let mut out = io::large_buffer();
-    let session = converse(
+    let session = read_input(
         language,
         &mut memory,
         &mut line,

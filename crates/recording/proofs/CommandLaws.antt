@@ -1,4 +1,4 @@
--- Laws of the word that a line begins with. Assumes nothing.
+-- Laws of the word that a line begins with: the loop that compares, and the front of a long line. Assumes nothing.
 use mathlib.Core.Path.{_≡_, refl, sym, ap, _∙_}
 use mathlib.Core.Bool.{Bool, true, false, _&&_}
 use mathlib.Core.List.{List, [], _∷_}

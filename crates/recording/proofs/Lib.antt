@@ -1,7 +1,7 @@
 -- Laws that the proofs of this crate cite.
 pub mod WordsLaws
-pub mod RollLaws
+pub mod ListingLaws
 pub mod MeaningLaws
 pub mod CommandLaws
-pub mod HeardLaws
+pub mod PartialLaws
 pub mod LineLaws

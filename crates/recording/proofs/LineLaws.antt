@@ -1,4 +1,4 @@
--- Laws of whole lines: what is kept of a line says all that it says. Assumes nothing.
+-- Laws of whole lines: what is kept of a line has the effect of all of it. Assumes nothing.
 use mathlib.Core.Path.{_≡_, refl, sym, ap, _∙_}
 use mathlib.Core.Bool.{Bool, true, false, cond, _&&_, true≢false}
 use mathlib.Core.List.{List}
@@ -24,21 +24,21 @@ use Rattle.decimal.specs.declared.number.Number.{Number}
 use Rattle.decimal.specs.Numeral.{digitsOf, valueFrom, plain}
 use Rattle.decimal.specs.Read.{wrong, begun, checked, numberAt, behind, endsLine}
 use Rattle.decimal.proofs.NumeralLaws.{numeral-back, five-digits}
-use Rattle.recording.specs.declared.call.Said.{Said}
+use Rattle.recording.specs.declared.call.Response.{Response}
 use Rattle.recording.specs.declared.command.Command.{Command}
 use Rattle.recording.specs.declared.command.Command.the-variants.{Start, Request, Report, Store, Memory, Process, Unknown}
-use Rattle.recording.specs.declared.heard.Heard.{Heard}
-use Rattle.recording.specs.declared.roll.Roll.{Roll}
-use Rattle.recording.specs.Roll.{empty, rolled}
+use Rattle.recording.specs.declared.partial.Partial.{Partial}
+use Rattle.recording.specs.declared.listing.Listing.{Listing}
+use Rattle.recording.specs.Listing.{empty, listed}
 use Rattle.recording.specs.Words.{lastOf, reasonIn, reportIn}
 use Rattle.recording.specs.Meaning.{question, blank, answerText, full, requestText, requestState, requestMemory, storeP, storeAddress, storeByte, storeText, storeMemory, memoryP, memoryAddress, memoryCount, memoryText, processText, reportText, reportState, reportMemory, orQuestion}
 use Rattle.recording.specs.Command.{commandOf}
-use Rattle.recording.specs.Heard.{Scanned, Kept}
+use Rattle.recording.specs.Partial.{Scanned, Kept}
 use Rattle.recording.specs.Line.{Effect, effect, effectOf, lineEffect, benchEffect, Does}
-use Rattle.recording.proofs.MeaningLaws.{store-wrong, store-asks, memory-asks, process-asks, report-wrong}
+use Rattle.recording.proofs.MeaningLaws.{store-wrong, store-text-wrong, memory-text-wrong, process-text-wrong, report-wrong}
 use Rattle.recording.proofs.CommandLaws.{command-take}
 
-pub does-as : (e f : Effect) (r : Said) (m before after : List ℕ) → e ≡ f → Does e r m before after → Does f r m before after
+pub does-as : (e f : Effect) (r : Response) (m before after : List ℕ) → e ≡ f → Does e r m before after → Does f r m before after
 does-as e f r m before after same d = rw same at d
 
 effect-as : (g h : Gateway) (m n s t : List ℕ) → g ≡ h → m ≡ n → s ≡ t → effect g m s ≡ effect h n t
@@ -136,21 +136,21 @@ module _ (line : List ℕ) (g : Gateway) (m : List ℕ) (long : 1024 ≤ length 
       let process : Near (storeP line) 11 = near-behind 7 line (begun 5) 5 (omega arith) (λ ok. omega arith) in
       let address : Near (storeAddress line) 17 = near-behind 4095 line (storeP line) 11 (omega arith) process in
       let far = too-far line (storeByte line) 23 (omega (arith, long)) (near-behind 255 line (storeAddress line) 17 (omega arith) address) in
-      sym (effect-as g g m _ question _ refl (store-wrong line g m (storeP line) (storeAddress line) (storeByte line) refl refl refl far) (store-asks line (storeByte line) refl far))
+      sym (effect-as g g m _ question _ refl (store-wrong line (storeByte line) refl g m far) (store-text-wrong line (storeByte line) refl far))
 
   memory-long : effect g m (memoryText line m) ≡ effect g m question
   memory-long =
       let process : Near (memoryP line) 12 = near-behind 7 line (begun 6) 6 (omega arith) (λ ok. omega arith) in
       let address : Near (memoryAddress line) 18 = near-behind 4096 line (memoryP line) 12 (omega arith) process in
       let far = too-far line (memoryCount line) 24 (omega (arith, long)) (near-behind (4096 - memoryAddress line .value) line (memoryAddress line) 18 (omega arith) address) in
-      ap (effect g m) (sym (memory-asks line m (memoryP line) (memoryAddress line) (memoryCount line) refl refl refl far))
+      ap (effect g m) (sym (memory-text-wrong line m (memoryCount line) refl far))
 
   process-long : effect g m (processText line g) ≡ effect g m question
   process-long =
       let far = too-far line (behind 7 line (begun 7)) 13 (omega (arith, long)) (near-behind 7 line (begun 7) 7 (omega arith) (λ ok. omega arith)) in
-      ap (effect g m) (sym (process-asks line g (behind 7 line (begun 7)) refl far))
+      ap (effect g m) (sym (process-text-wrong line g (behind 7 line (begun 7)) refl far))
 
--- ---- so what is kept says the same
+-- ---- so what is kept has the same effect
 
 -- a call whose long lines are none
 by-length : (f : List ℕ → Effect) (e : Effect) (n : ℕ) (line : List ℕ) → 1024 ≤ n → ((l : List ℕ) → 1024 ≤ length l → f l ≡ e) → f (take n line) ≡ f line
@@ -162,7 +162,7 @@ by-length f e n line h far = go (leb (length line) n) refl
         let long = leb-false (length line) n i in
         far (take n line) (omega (arith, length-take n line, long, h)) ∙ sym (far line (omega (arith, long, h)))
 
-module _ (r : Roll) (phase : Phase) (g : Gateway) (m : List ℕ) where
+module _ (r : Listing) (phase : Phase) (g : Gateway) (m : List ℕ) where
   line-front : (bytes line : List ℕ) (n : ℕ) → 1024 ≤ n → (k : Command) → effectOf r phase bytes (take n line) g m k ≡ effectOf r phase bytes line g m k
   unfolding effectOf
   line-front bytes line n h Start = refl
@@ -185,31 +185,31 @@ module _ (r : Roll) (phase : Phase) (g : Gateway) (m : List ℕ) where
   bytes-front bytes line n h Unknown = refl
 
 -- pairs that were read are a request of their bytes
-pub pairs-said : (whole : List ℕ) (scan : Scan) (message : List ℕ) (g : Gateway) (m : List ℕ) → 267 ≤ length message → Scanned whole scan message
+pub pairs-effect : (whole : List ℕ) (scan : Scan) (message : List ℕ) (g : Gateway) (m : List ℕ) → 267 ≤ length message → Scanned whole scan message
     → effectOf empty (scan .phase) (take (scan .len) message) whole g m Request ≡ benchEffect whole g m
 unfolding benchEffect
-pairs-said whole scan message g m room s =
+pairs-effect whole scan message g m room s =
     ap (λ (p : Phase). effectOf empty p (take (scan .len) message) whole g m Request) (s .phase)
     ∙ ap (λ (l : List ℕ). effectOf empty (after Open whole) l whole g m Request) (s .bytes .front)
     ∙ bytes-front empty (after Open whole) g m (bytesOf Open whole) whole (length message) room Request
 
--- a line that was read says what it means
-pub line-said : (whole : List ℕ) (h : Heard) (line message : List ℕ) (g : Gateway) (m : List ℕ) (n : ℕ) (k : Command)
+-- a line that was read has the effect of the whole line
+pub line-effect : (whole : List ℕ) (h : Partial) (line message : List ℕ) (g : Gateway) (m : List ℕ) (n : ℕ) (k : Command)
     → n ≡ min (h .len) (length line) → k ≡ commandOf (take n line) → Kept 8 whole h line message
-    → effectOf (h .roll) (h .scan .phase) (take (h .scan .len) message) (take n line) g m k ≡ lineEffect whole g m
+    → effectOf (h .listing) (h .scan .phase) (take (h .scan .len) message) (take n line) g m k ≡ lineEffect whole g m
 unfolding lineEffect
-line-said whole h line message g m n k N K kept =
+line-effect whole h line message g m n k N K kept =
     let size = length line in
     let all : n ≡ h .len = omega (arith, N, kept .text .size, length-take (length line) whole) in
     let front : take n line ≡ take size whole = ap (λ (j : ℕ). take j line) all ∙ kept .text .front in
     let word : k ≡ commandOf whole = K ∙ ap commandOf front ∙ command-take whole size (omega (arith, kept .room .call)) in
-    let r = rolled empty (drop 5 whole) in
+    let r = listed empty (drop 5 whole) in
     let p = after Open (drop 8 whole) in
     let bytes = bytesOf Open (drop 8 whole) in
-    ap (effectOf (h .roll) (h .scan .phase) (take (h .scan .len) message) (take n line) g m) word
-    ∙ ap (λ (x : Roll). effectOf x (h .scan .phase) (take (h .scan .len) message) (take n line) g m (commandOf whole)) (kept .named)
+    ap (effectOf (h .listing) (h .scan .phase) (take (h .scan .len) message) (take n line) g m) word
+    ∙ ap (λ (x : Listing). effectOf x (h .scan .phase) (take (h .scan .len) message) (take n line) g m (commandOf whole)) (kept .listing)
     ∙ ap (λ (x : Phase). effectOf r x (take (h .scan .len) message) (take n line) g m (commandOf whole)) (kept .pairs .phase)
     ∙ ap (λ (l : List ℕ). effectOf r p l (take n line) g m (commandOf whole)) (kept .pairs .bytes .front)
     ∙ ap (λ (l : List ℕ). effectOf r p (take (length message) bytes) l g m (commandOf whole)) front
-    ∙ bytes-front r p g m bytes (take size whole) (length message) (kept .room .asked) (commandOf whole)
+    ∙ bytes-front r p g m bytes (take size whole) (length message) (kept .room .request) (commandOf whole)
     ∙ line-front r p g m bytes whole size (kept .room .call) (commandOf whole)

@@ -1,4 +1,4 @@
--- Laws of what lines mean. Assumes nothing.
+-- Laws of what lines mean: the text that is put, the bytes of a process, and each call by whether its line is right. Assumes nothing.
 use mathlib.Core.Path.{_≡_, refl, sym, ap, _∙_}
 use mathlib.Core.Bool.{Bool, true, false}
 use mathlib.Core.List.{List, [], _∷_, _++_}
@@ -27,10 +27,10 @@ use Rattle.lines.proofs.PutLaws.{put-whole}
 use Rattle.decimal.specs.declared.number.Number.{Number}
 use Rattle.decimal.specs.Read.{begun, behind, endsLine}
 use Rattle.display.specs.Line.{processLine}
-use Rattle.recording.specs.declared.roll.Roll.{Roll}
-use Rattle.recording.specs.Roll.{complete}
+use Rattle.recording.specs.declared.listing.Listing.{Listing}
+use Rattle.recording.specs.Listing.{complete}
 use Rattle.recording.specs.Words.{processIn, kindIn, reasonIn, wordsOf, reportIn}
-use Rattle.recording.specs.Meaning.{Prints, question, storeP, storeAddress, storeByte, storeText, storeMemory, memoryLine, memoryP, memoryAddress, memoryCount, memoryText, processText, startText, startState, startMemory, answerText, asked, askedText, told, toldText, full, requestText, requestState, requestMemory, reportText, reportState, reportMemory}
+use Rattle.recording.specs.Meaning.{Prints, question, storeP, storeAddress, storeByte, storeText, storeMemory, memoryLine, memoryP, memoryAddress, memoryCount, memoryText, processText, startText, startState, startMemory, answerText, requestCall, requestAnswer, reportCall, reportAnswer, full, requestText, requestState, requestMemory, reportText, reportState, reportMemory}
 
 -- ---- text
 
@@ -100,29 +100,29 @@ module _ (line : List ℕ) (g : Gateway) (m : List ℕ) where
     store-right e low inside size =
         rw (P, A, B, rw B at e) (stores (rw P at low) (rw A at inside) size)
 
-    pub store-wrong : endsLine line b ≡ false → m ≡ storeMemory line g m
-    unfolding storeMemory
-    store-wrong e = rw (rw B at e)
-
 module _ (line : List ℕ) (b : Number) (B : b ≡ storeByte line) where
-  pub store-says : endsLine line b ≡ true → 111 ∷ 107 ∷ 10 ∷ [] ≡ storeText line
+  pub store-text-right : endsLine line b ≡ true → 111 ∷ 107 ∷ 10 ∷ [] ≡ storeText line
   unfolding storeText
-  store-says e = rw (rw B at e)
+  store-text-right e = rw (rw B at e)
 
-  pub store-asks : endsLine line b ≡ false → question ≡ storeText line
+  pub store-text-wrong : endsLine line b ≡ false → question ≡ storeText line
   unfolding storeText
-  store-asks e = rw (rw B at e)
+  store-text-wrong e = rw (rw B at e)
+
+  pub store-wrong : (g : Gateway) (m : List ℕ) → endsLine line b ≡ false → m ≡ storeMemory line g m
+  unfolding storeMemory
+  store-wrong g m e = rw (rw B at e)
 
 -- ---- memory
 
-module _ (line m : List ℕ) (p a c : Number) (P : p ≡ memoryP line) (A : a ≡ memoryAddress line) (C : c ≡ memoryCount line) where
-  pub memory-asks : endsLine line c ≡ false → question ≡ memoryText line m
-  unfolding memoryText
-  memory-asks e = rw (rw C at e)
+pub memory-text-wrong : (line m : List ℕ) (c : Number) → c ≡ memoryCount line → endsLine line c ≡ false → question ≡ memoryText line m
+unfolding memoryText
+memory-text-wrong line m c C e = rw (rw C at e)
 
-  pub memory-says : endsLine line c ≡ true → memoryLine (p .value) (a .value) (c .value) m ≡ memoryText line m
+module _ (line m : List ℕ) (p a c : Number) (P : p ≡ memoryP line) (A : a ≡ memoryAddress line) (C : c ≡ memoryCount line) where
+  pub memory-text-right : endsLine line c ≡ true → memoryLine (p .value) (a .value) (c .value) m ≡ memoryText line m
   unfolding memoryText
-  memory-says e = rw (P, A, C, rw C at e)
+  memory-text-right e = rw (P, A, C, rw C at e)
 
 pub memory-line : (p a c from : ℕ) (m : List ℕ) → p < 8 → length m ≡ 32768 → from ≡ 4096 * p + a → a + c ≤ 4096
     → pairsLine (take (from + c - from) (drop from m)) ≡ memoryLine p a c m
@@ -132,24 +132,24 @@ memory-line p a c from m low size f h = ap pairsLine (part-slot p m low size a c
 -- ---- process
 
 module _ (line : List ℕ) (g : Gateway) (p : Number) (P : p ≡ behind 7 line (begun 7)) where
-  pub process-asks : endsLine line p ≡ false → question ≡ processText line g
+  pub process-text-wrong : endsLine line p ≡ false → question ≡ processText line g
   unfolding processText
-  process-asks e = rw (rw P at e)
+  process-text-wrong e = rw (rw P at e)
 
-  pub process-says : endsLine line p ≡ true → processLine (processAt g (p .value)) ≡ processText line g
+  pub process-text-right : endsLine line p ≡ true → processLine (processAt g (p .value)) ≡ processText line g
   unfolding processText
-  process-says e = rw (P, rw P at e)
+  process-text-right e = rw (P, rw P at e)
 
 -- ---- start
 
-module _ (r : Roll) (t : Bool) (T : t ≡ complete (r .place)) where
-  pub start-says : t ≡ true → _≡_ {A = List ℕ} [] (startText r)
+module _ (r : Listing) (t : Bool) (T : t ≡ complete (r .place)) where
+  pub start-text-right : t ≡ true → _≡_ {A = List ℕ} [] (startText r)
   unfolding startText
-  start-says e = rw (← T, e)
+  start-text-right e = rw (← T, e)
 
-  pub start-asks : t ≡ false → question ≡ startText r
+  pub start-text-wrong : t ≡ false → question ≡ startText r
   unfolding startText
-  start-asks e = rw (← T, e)
+  start-text-wrong e = rw (← T, e)
 
   pub start-state : (g : Gateway) → t ≡ true → freshStart (r .there) ≡ startState r g
   unfolding startState
@@ -194,10 +194,10 @@ take-within n xs = go (leb n (length xs)) refl
         take-all (min n (length xs)) xs (omega (arith, few)) ∙ sym (take-all n xs (omega (arith, few)))
 
 -- what is put is the answer's line
-pub answer-said : (count : Outcome → ℕ) (s t : Stepped) → s ≡ t → (o : Outcome) (number k n : ℕ) (buffer : List ℕ) → o ≡ s .answer .outcome → buffer ≡ s .answer .buffer
+pub answer-text : (count : Outcome → ℕ) (s t : Stepped) → s ≡ t → (o : Outcome) (number k n : ℕ) (buffer : List ℕ) → o ≡ s .answer .outcome → buffer ≡ s .answer .buffer
     → number ≡ numberOf o → k ≡ count o → n ≡ min k (length buffer) → answerLine number (take n buffer) ≡ answerText count (t .answer)
 unfolding answerText
-answer-said count s t same o number k n buffer O B N K E =
+answer-text count s t same o number k n buffer O B N K E =
     let outcome : o ≡ t .answer .outcome = O ∙ ap (λ (x : Stepped). x .answer .outcome) same in
     let written : buffer ≡ t .answer .buffer = B ∙ ap (λ (x : Stepped). x .answer .buffer) same in
     ap (λ (j : ℕ). answerLine j (take n buffer)) (N ∙ ap numberOf outcome)
@@ -208,7 +208,7 @@ answer-said count s t same o number k n buffer O B N K E =
 
 module _ (phase : Phase) (message : List ℕ) (g : Gateway) (m : List ℕ) where
   pub request-right : full phase ≡ true
-      → (asked message g m .after .gateway ≡ requestState phase message g m) × (asked message g m .after .memory ≡ requestMemory phase message g m) × (askedText message g m ≡ requestText phase message g m)
+      → (requestCall message g m .after .gateway ≡ requestState phase message g m) × (requestCall message g m .after .memory ≡ requestMemory phase message g m) × (requestAnswer message g m ≡ requestText phase message g m)
   unfolding requestState requestMemory requestText
   request-right e = rw e (refl, refl, refl)
 
@@ -225,6 +225,6 @@ module _ (line : List ℕ) (g : Gateway) (m : List ℕ) (t : Bool) (T : t ≡ re
   report-wrong e = rw (← T, e) (refl, refl, refl)
 
   module _ (p k r : ℕ) (w : List ℕ) (P : p ≡ processIn line .value) (K : k ≡ kindIn line .value) (R : r ≡ reasonIn line .value) (W : w ≡ wordsOf 9 line (reasonIn line)) where
-    pub report-right : t ≡ true → (told p k r w g m .after .gateway ≡ reportState line g m) × (told p k r w g m .after .memory ≡ reportMemory line g m) × (toldText p k r w g m ≡ reportText line g m)
+    pub report-right : t ≡ true → (reportCall p k r w g m .after .gateway ≡ reportState line g m) × (reportCall p k r w g m .after .memory ≡ reportMemory line g m) × (reportAnswer p k r w g m ≡ reportText line g m)
     unfolding reportState reportMemory reportText
     report-right e = rw (P, K, R, W, ← T, e) (refl, refl, refl)

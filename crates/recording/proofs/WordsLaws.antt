@@ -1,4 +1,4 @@
--- Laws of the words of a report. Assumes nothing.
+-- Laws of the words of a report: one word more, and none left. Assumes nothing.
 use mathlib.Core.Path.{_≡_, sym, ap, _∙_}
 use mathlib.Core.List.{List, [], _∷_, _++_, append-assoc, append-nil}
 use Prim.Native.Nat.{ℕ, suc, _+_, _-_, _≤_, _<_}

@@ -1,7 +1,7 @@
 -- The definitions that the contracts of this crate, and of those above it, cite.
 pub mod Words
-pub mod Roll
+pub mod Listing
 pub mod Meaning
 pub mod Command
 pub mod Line
-pub mod Heard
+pub mod Partial

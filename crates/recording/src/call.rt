@@ -1,6 +1,6 @@
 // The calls of a recording, each with the line that it prints.
+use crate::listing::Listing;
 use crate::number::read_report;
-use crate::roll::Roll;
 use decimal::Number;
 use display::put_answer;
 use display::put_process;
@@ -19,23 +19,23 @@ use state::start;
 ghost use mathlib.Core.Path.{_≡_};
 ghost use Prim.Native.Nat.{_+_, _*_, _≤_, _<_};
 ghost use lib.ListN.{length, take, replicate};
-ghost use Rattle.recording.specs.Meaning.{Prints, question, blank, asked, askedText, told, toldText, full, storeText, storeMemory, memoryText, processText, startText, startState, startMemory, requestText, requestState, requestMemory, reportText, reportState, reportMemory};
+ghost use Rattle.recording.specs.Meaning.{Prints, question, blank, requestCall, requestAnswer, reportCall, reportAnswer, full, storeText, storeMemory, memoryText, processText, startText, startState, startMemory, requestText, requestState, requestMemory, reportText, reportState, reportMemory};
 
 // The state after a line, and how many bytes of text were put.
-pub struct Said {
+pub struct Response {
     pub state: Gateway,
     pub len: usize,
 }
 
 // A line that is no call.
-pub(crate) fn unknown(state: Gateway, out: &mut [u8]) -> Said
+pub(crate) fn unknown(state: Gateway, out: &mut [u8]) -> Response
     requires { ⌜ 16384 ≤ length (now out) ⌝ }
     ensures { λ r. ⌜ r .len ≤ length (now (out .entry)) ⌝ }
     ensures { λ r. ⌜ r .state ≡ state ⌝ }
     ensures { λ r. ⌜ Prints (question) (r .len) (now (out .entry)) (now (out .exit)) ⌝ }
 {
     let len = put(b"?\n", 0, out);
-    Said {
+    Response {
         state: state,
         len: len,
     }
@@ -48,13 +48,13 @@ fn blank() -> [u8; 266]
     [0u8; 266]
 }
 
-// A message is asked, and its answer put as a line.
-fn ask(state: Gateway, memory: &mut [u8], message: &[u8], out: &mut [u8]) -> Said
+// A request is made, and its answer put as a line.
+fn make_request(state: Gateway, memory: &mut [u8], message: &[u8], out: &mut [u8]) -> Response
     requires { ⌜ 16384 ≤ length (now out) ⌝ }
     ensures { λ r. ⌜ r .len ≤ length (now (out .entry)) ⌝ }
-    ensures { λ r. ⌜ r .state ≡ asked (now (message .entry)) state (now (memory .entry)) .after .gateway ⌝ }
-    ensures { λ _. ⌜ now (memory .exit) ≡ asked (now (message .entry)) state (now (memory .entry)) .after .memory ⌝ }
-    ensures { λ r. ⌜ Prints (askedText (now (message .entry)) state (now (memory .entry))) (r .len) (now (out .entry)) (now (out .exit)) ⌝ }
+    ensures { λ r. ⌜ r .state ≡ requestCall (now (message .entry)) state (now (memory .entry)) .after .gateway ⌝ }
+    ensures { λ _. ⌜ now (memory .exit) ≡ requestCall (now (message .entry)) state (now (memory .entry)) .after .memory ⌝ }
+    ensures { λ r. ⌜ Prints (requestAnswer (now (message .entry)) state (now (memory .entry))) (r .len) (now (out .entry)) (now (out .exit)) ⌝ }
 {
     let mut reply = blank();
     let answered = request(state, memory, message, &mut reply);
@@ -62,7 +62,7 @@ fn ask(state: Gateway, memory: &mut [u8], message: &[u8], out: &mut [u8]) -> Sai
     let next = answered.state;
     let n = within(reply_length(outcome), &reply);
     let len = put_answer(outcome.number(), &reply[..n], out);
-    Said {
+    Response {
         state: next,
         len: len,
     }
@@ -81,13 +81,13 @@ fn is_full(phase: Phase) -> bool
 }
 
 // request: the pairs were read as they came.
-pub(crate) fn say_request(
+pub(crate) fn answer_request(
     state: Gateway,
     scan: Scan,
     memory: &mut [u8],
     message: &[u8],
     out: &mut [u8],
-) -> Said
+) -> Response
     requires { ⌜ 16384 ≤ length (now out) ⌝ }
     ensures { λ r. ⌜ r .len ≤ length (now (out .entry)) ⌝ }
     ensures { λ r. ⌜ r .state ≡ requestState (scan .phase) (take (scan .len) (now (message .entry))) state (now (memory .entry)) ⌝ }
@@ -99,11 +99,11 @@ pub(crate) fn say_request(
     if !is_full(phase) {
         return unknown(state, out);
     }
-    ask(state, memory, &message[..len], out)
+    make_request(state, memory, &message[..len], out)
 }
 
-// What the machine tells is heard, and its answer put as a line.
-fn tell(
+// A report of the machine is made, and its answer put as a line.
+fn make_report(
     state: Gateway,
     memory: &mut [u8],
     process: u8,
@@ -111,12 +111,12 @@ fn tell(
     reason: u16,
     words: [u16; 9],
     out: &mut [u8],
-) -> Said
+) -> Response
     requires { ⌜ 16384 ≤ length (now out) ⌝ }
     ensures { λ r. ⌜ r .len ≤ length (now (out .entry)) ⌝ }
-    ensures { λ r. ⌜ r .state ≡ told process kind reason words state (now (memory .entry)) .after .gateway ⌝ }
-    ensures { λ _. ⌜ now (memory .exit) ≡ told process kind reason words state (now (memory .entry)) .after .memory ⌝ }
-    ensures { λ r. ⌜ Prints (toldText process kind reason words state (now (memory .entry))) (r .len) (now (out .entry)) (now (out .exit)) ⌝ }
+    ensures { λ r. ⌜ r .state ≡ reportCall process kind reason words state (now (memory .entry)) .after .gateway ⌝ }
+    ensures { λ _. ⌜ now (memory .exit) ≡ reportCall process kind reason words state (now (memory .entry)) .after .memory ⌝ }
+    ensures { λ r. ⌜ Prints (reportAnswer process kind reason words state (now (memory .entry))) (r .len) (now (out .entry)) (now (out .exit)) ⌝ }
 {
     let mut notice = blank();
     let answered = report(state, memory, process, kind, reason, words, &mut notice);
@@ -124,14 +124,19 @@ fn tell(
     let next = answered.state;
     let n = within(notice_length(outcome), &notice);
     let len = put_answer(outcome.number(), &notice[..n], out);
-    Said {
+    Response {
         state: next,
         len: len,
     }
 }
 
 // report P KIND REASON W0 .. W8
-pub(crate) fn say_report(state: Gateway, memory: &mut [u8], line: &[u8], out: &mut [u8]) -> Said
+pub(crate) fn answer_report(
+    state: Gateway,
+    memory: &mut [u8],
+    line: &[u8],
+    out: &mut [u8],
+) -> Response
     requires { ⌜ 16384 ≤ length (now out) ⌝ }
     ensures { λ r. ⌜ r .len ≤ length (now (out .entry)) ⌝ }
     ensures { λ r. ⌜ r .state ≡ reportState (now (line .entry)) state (now (memory .entry)) ⌝ }
@@ -143,7 +148,7 @@ pub(crate) fn say_report(state: Gateway, memory: &mut [u8], line: &[u8], out: &m
     if !read.ok {
         return unknown(state, out);
     }
-    tell(
+    make_report(
         state,
         memory,
         read.process,
@@ -165,21 +170,26 @@ fn clear(memory: &mut [u8])
     }
 }
 
-// start P P ..: what it names was read as it came.
-pub(crate) fn say_named(state: Gateway, roll: Roll, memory: &mut [u8], out: &mut [u8]) -> Said
+// start P P ..: the processes were read as they came.
+pub(crate) fn answer_start(
+    state: Gateway,
+    listing: Listing,
+    memory: &mut [u8],
+    out: &mut [u8],
+) -> Response
     requires { ⌜ 16384 ≤ length (now out) ⌝ }
     ensures { λ r. ⌜ r .len ≤ length (now (out .entry)) ⌝ }
-    ensures { λ r. ⌜ r .state ≡ startState roll state ⌝ }
-    ensures { λ _. ⌜ now (memory .exit) ≡ startMemory roll (now (memory .entry)) ⌝ }
-    ensures { λ r. ⌜ Prints (startText roll) (r .len) (now (out .entry)) (now (out .exit)) ⌝ }
+    ensures { λ r. ⌜ r .state ≡ startState listing state ⌝ }
+    ensures { λ _. ⌜ now (memory .exit) ≡ startMemory listing (now (memory .entry)) ⌝ }
+    ensures { λ r. ⌜ Prints (startText listing) (r .len) (now (out .entry)) (now (out .exit)) ⌝ }
 {
-    let there = roll.there;
-    if !roll.is_complete() {
+    let there = listing.there;
+    if !listing.is_complete() {
         return unknown(state, out);
     }
     clear(memory);
     let fresh = fresh_start(there);
-    Said {
+    Response {
         state: fresh,
         len: 0,
     }
@@ -195,7 +205,12 @@ fn place(p: usize, address: usize) -> usize
 }
 
 // store P ADDRESS BYTE
-pub(crate) fn say_store(state: Gateway, memory: &mut [u8], line: &[u8], out: &mut [u8]) -> Said
+pub(crate) fn answer_store(
+    state: Gateway,
+    memory: &mut [u8],
+    line: &[u8],
+    out: &mut [u8],
+) -> Response
     requires { ⌜ length (now memory) ≡ 32768 ⌝ }
     requires { ⌜ 16384 ≤ length (now out) ⌝ }
     ensures { λ r. ⌜ r .len ≤ length (now (out .entry)) ⌝ }
@@ -212,14 +227,14 @@ pub(crate) fn say_store(state: Gateway, memory: &mut [u8], line: &[u8], out: &mu
     let at = place(process.value, address.value);
     memory[at] = byte.value as u8;
     let len = put(b"ok\n", 0, out);
-    Said {
+    Response {
         state: state,
         len: len,
     }
 }
 
 // memory P ADDRESS COUNT
-pub(crate) fn say_memory(state: Gateway, memory: &[u8], line: &[u8], out: &mut [u8]) -> Said
+pub(crate) fn answer_memory(state: Gateway, memory: &[u8], line: &[u8], out: &mut [u8]) -> Response
     requires { ⌜ length (now memory) ≡ 32768 ⌝ }
     requires { ⌜ 16384 ≤ length (now out) ⌝ }
     ensures { λ r. ⌜ r .len ≤ length (now (out .entry)) ⌝ }
@@ -235,14 +250,14 @@ pub(crate) fn say_memory(state: Gateway, memory: &[u8], line: &[u8], out: &mut [
     let from = place(process.value, address.value);
     let to = from + count.value;
     let len = put_pairs(&memory[from..to], out);
-    Said {
+    Response {
         state: state,
         len: len,
     }
 }
 
 // process P
-pub(crate) fn say_process(state: Gateway, line: &[u8], out: &mut [u8]) -> Said
+pub(crate) fn answer_process(state: Gateway, line: &[u8], out: &mut [u8]) -> Response
     requires { ⌜ 16384 ≤ length (now out) ⌝ }
     ensures { λ r. ⌜ r .len ≤ length (now (out .entry)) ⌝ }
     ensures { λ r. ⌜ r .state ≡ state ⌝ }
@@ -254,7 +269,7 @@ pub(crate) fn say_process(state: Gateway, line: &[u8], out: &mut [u8]) -> Said
     }
     let p = state.process(process.value);
     let len = put_process(p, out);
-    Said {
+    Response {
         state: state,
         len: len,
     }

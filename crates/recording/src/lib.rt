@@ -2,12 +2,12 @@
 // mark and changes nothing.
 mod call;
 mod command;
-mod heard;
 mod line;
+mod listing;
 mod number;
-mod roll;
+mod partial;
 
-pub use call::Said;
-pub use heard::Heard;
-pub use line::say_line;
-pub use line::say_pairs;
+pub use call::Response;
+pub use line::answer_line;
+pub use line::answer_pairs;
+pub use partial::Partial;

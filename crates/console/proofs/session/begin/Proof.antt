@@ -2,8 +2,8 @@
 use mathlib.Core.Path.{refl, ap, _∙_}
 use borrow.Author.Needs.{needs}
 use Rattle.state.specs.Gateway.{freshStart}
-use Rattle.console.specs.Talk.{pairsAt}
-use Rattle.console.proofs.TalkLaws.{room-either, ends-none}
+use Rattle.console.specs.Transcript.{pairsAt}
+use Rattle.console.proofs.TranscriptLaws.{room-either}
 use Rattle.console.proofs.session.begin.Statement.{statement}
 use Rattle.console.proofs.session.begin.Tie as tie
 
@@ -22,12 +22,15 @@ returns c =
     let w = c .before .before in
     let l = c .before .before .before .args .language in (
       refl,
-      λ line message m out room. record {
-        kept = c .new .ensures (pairsAt l) line message (room-either l line message room);
-        state = f .fresh-start .ensures ∙ ap freshStart (w .there .ensures);
-        memory = refl;
-        text = ends-none _ out;
-      },
+      (
+        refl,
+        λ line message m out room. record {
+          kept = c .new .ensures (pairsAt l) line message (room-either l line message room);
+          state = f .fresh-start .ensures ∙ ap freshStart (w .there .ensures);
+          memory = refl;
+          text = refl;
+        },
+      ),
     )
 
 pub begin-spec : {M : Type 1} → statement M

@@ -2,25 +2,22 @@
 use mathlib.Core.Path.{refl}
 use native.Mathlib.Omega.{arith}
 use borrow.Author.Needs.{needs}
-use Rattle.console.specs.Talk.{pairsAt}
-use Rattle.console.proofs.TalkLaws.{speaks-ended}
+use Rattle.console.specs.Transcript.{pairsAt}
+use Rattle.console.proofs.TranscriptLaws.{tracks-ended}
 use Rattle.console.proofs.session.end.Statement.{statement}
 use Rattle.console.proofs.session.end.Tie as tie
 
-make-room-requires : tie.Need-make-room-requires
-make-room-requires c κs = search needs
+sub-respond : tie.Need-sub-respond
+sub-respond c = search needs
 
-sub-say : tie.Need-sub-say
-sub-say c = search needs
+part-respond-start : tie.Need-part-respond-start
+part-respond-start c = search needs
 
-part-say-start : tie.Need-part-say-start
-part-say-start c = search needs
+part-respond-end : tie.Need-part-respond-end
+part-respond-end c = search needs
 
-part-say-end : tie.Need-part-say-end
-part-say-end c = search needs
-
-say-requires : tie.Need-say-requires
-say-requires c κs = search needs
+respond-requires : tie.Need-respond-requires
+respond-requires c κs = search needs
 
 add-behind : tie.Need-add-behind
 add-behind c = search needs
@@ -37,24 +34,23 @@ same-length-2 c = search needs
 returns : tie.Need-returns
 returns c =
     let k = c .before .before .before .before .before .before .before in
-    let r = c .before .before .before .before .before .before .before .before .before .before in
-    let a = c .before .before .before .before .before .before .before .before .before .before .before .before .before .before .before .before .args in
+    let s = k .before .before .before .before .before .before .before in
+    let a = s .args in
     let line = a .line .now in
     let message = a .message .now in (
       refl,
-      λ t sp. speaks-ended (a .session) (k .say .result) (c .new .result) (r .make-room .result) line message (a .memory .now) (k .say .last .1 .0) (a .out .now) (k .say .last .1 .1 .1 .1 .0) t
-          (omega (arith, r .make-room .ensures .0)) (r .make-room .ensures .1) (k .say .ensures .1 (t .line) (sp .kept)) (c .new .ensures (pairsAt (a .session .language)) line message (sp .kept .room)) sp,
+      λ printed t tr. tracks-ended (a .session) (k .respond .result) (c .new .result) printed line message (a .memory .now) (k .respond .last .1 .0) (a .out .now) (k .respond .last .1 .1 .1 .1 .0) t
+          (omega (arith, s .pre .1)) (k .respond .ensures .1 (t .line) (tr .kept)) (c .new .ensures (pairsAt (a .session .language)) line message (tr .kept .room)) tr,
     )
 
 pub end-spec : {M : Type 1} → statement M
 end-spec =
     tie.close
     (tie.spec
-    make-room-requires
-    sub-say
-    part-say-start
-    part-say-end
-    say-requires
+    sub-respond
+    part-respond-start
+    part-respond-end
+    respond-requires
     add-behind
     new-requires
     same-length

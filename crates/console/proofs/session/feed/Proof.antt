@@ -8,13 +8,13 @@ use lib.Seq.{take-all}
 use lib.Dec.{ltb}
 use Rattle.lines.proofs.PrintLaws.{end-within}
 use Rattle.console.specs.declared.language.Language.{Language}
-use Rattle.console.specs.Talk.{Talk, partOf, talked, Speaks}
-use Rattle.console.proofs.TalkLaws.{talked-turn, speaks-as}
+use Rattle.console.specs.Transcript.{Transcript, partOf, transcribed, Written}
+use Rattle.console.proofs.TranscriptLaws.{transcribed-turn, written-room, written-as}
 use Rattle.console.proofs.session.feed.Statement.{statement}
 use Rattle.console.proofs.session.feed.Tie as tie
 
 abbrev Inv-loop : tie.InvT-loop
-Inv-loop block memory₀ line₀ message₀ out₀ now₀ at₀ memory line message out now at = (at ≤ length block + 1) × (length memory ≡ length memory₀) × (length line ≡ length line₀) × (length message ≡ length message₀) × (length out ≡ length out₀) × (now .language ≡ now₀ .language) × ((t : Talk) → Speaks now₀ line₀ message₀ memory₀ out₀ t → Speaks now line message memory out (talked (now₀ .language) t (take at block)))
+Inv-loop block memory₀ line₀ message₀ out₀ now₀ at₀ memory line message out now at = (at ≤ length block + 1) × (length memory ≡ length memory₀) × (length line ≡ length line₀) × (length message ≡ length message₀) × (length out ≡ length out₀) × (now .language ≡ now₀ .language) × ((t : Transcript) → Written now₀ line₀ message₀ memory₀ out₀ t → Written now line message memory out (transcribed (now₀ .language) t (take at block)))
 
 abbrev μ-loop : tie.MeasureT-loop
 μ-loop block memory₀ line₀ message₀ out₀ now₀ at₀ memory line message out now at = length block + 1 - at
@@ -28,34 +28,42 @@ ended e =
     (omega (arith, e .line-end .ensures), omega (arith, e .line-end .ensures, far))
 
 loop-holds : tie.Need-loop-holds Inv-loop μ-loop
-unfolding talked
-loop-holds c = (omega arith, refl, refl, refl, refl, refl, λ t sp. sp)
+unfolding transcribed
+loop-holds c = (omega arith, refl, refl, refl, refl, refl, λ t w. w)
 
 line-end-requires : tie.Need-line-end-requires Inv-loop μ-loop
 line-end-requires c κs = search needs
 
+make-room-requires : tie.Need-make-room-requires Inv-loop μ-loop
+make-room-requires c κs = let l = c .before .before .before in omega (arith, l .before .before .before .before .before .before .pre .1, l .loop .inv .4)
+
 sub-part : tie.Need-sub-part Inv-loop μ-loop
-sub-part c = omega (arith, ended c)
+sub-part c = omega (arith, ended (c .before .before))
 
 part-part-start : tie.Need-part-part-start Inv-loop μ-loop
-part-part-start c = omega (arith, ended c)
+part-part-start c = omega (arith, ended (c .before .before))
 
 part-part-end : tie.Need-part-part-end Inv-loop μ-loop
-part-part-end c = omega (arith, ended c)
+part-part-end c = omega (arith, ended (c .before .before))
 
 part-requires : tie.Need-part-requires Inv-loop μ-loop
-part-requires c κs = let l = c .before .before .before .before .before .before .before in let s = l .before .before .before .before .before .before in (omega (arith, s .pre, l .loop .inv .1), omega (arith, s .pre, l .loop .inv .4))
+part-requires c κs =
+    let r = c .before .before .before .before .before in
+    let l = r .before .before .before .before in
+    let s = l .before .before .before .before .before .before in
+    (omega (arith, s .pre, l .loop .inv .1), r .make-room .ensures .0)
 
 add-at : tie.Need-add-at Inv-loop μ-loop
-add-at c = let e = c .before .before .before .before .before .before .before .before .before .before .before .before .before .before in let a = e .before .before .before .before .before .before .before .before .args in omega (arith, ended e)
+add-at c = let e = c .before .before .before .before .before .before .before .before .before .before .before .before .before .before .before .before in let a = e .before .before .before .before .before .before .before .before .args in omega (arith, ended e)
 
 loop-less : tie.Need-loop-less Inv-loop μ-loop
-loop-less c = omega (arith, ended (c .before .before .before .before .before .before .before .before .before .before .before .before .before .before))
+loop-less c = omega (arith, ended (c .before .before .before .before .before .before .before .before .before .before .before .before .before .before .before .before))
 
 loop-again : tie.Need-loop-again Inv-loop μ-loop
 loop-again c =
     let p = c .before .before .before .before .before .before .before .before in
-    let e = c .before .before .before .before .before .before .before .before .before .before .before .before .before .before in
+    let r = c .before .before .before .before .before .before .before .before .before .before .before .before .before .before in
+    let e = r .before .before in
     let l = e .before .before in
     let a = l .before .before .before .before .before .before .args in
     let v = l .loop .inv in
@@ -66,15 +74,17 @@ loop-again c =
     let rest = take (stop - l .loop .at) (drop (l .loop .at) block) in
     let low : l .loop .at < length block = omega arith in (
       omega (arith, ended e),
-      omega (arith, v .1),
-      omega (arith, v .2),
-      omega (arith, v .3),
-      omega (arith, v .4),
+      omega (arith, p .part .kept, v .1),
+      omega (arith, p .part .kept, v .2),
+      omega (arith, p .part .kept, v .3),
+      omega (arith, p .part .kept, v .4),
       p .part .ensures .0 ∙ v .5,
-      λ t sp.
-          let u = talked k t (take (l .loop .at) block) in
-          speaks-as (p .part .result) (last .1 .1 .1 .1 .0) (last .1 .1 .1 .1 .1 .0) (last .1 .1 .1 .0) (last .1 .1 .1 .1 .1 .1 .0) (partOf (l .loop .now .language) (ltb stop (length block)) rest u) (talked k t (take (stop + 1) block))
-          (ap (λ (x : Language). partOf x (ltb stop (length block)) rest u) (v .5) ∙ talked-turn k t block (l .loop .at) stop low (e .line-end .ensures)) (p .part .ensures .1 u (v .6 t sp)),
+      λ t w.
+          let u = transcribed k t (take (l .loop .at) block) in
+          let room = written-room (l .loop .now) (r .make-room .result) (l .loop .line) (l .loop .message) (l .loop .memory) (l .loop .out) u (r .make-room .ensures .1) (v .6 t w) in
+          let done = p .part .ensures .1 (room .printed) u (room .tracks) in
+          written-as (p .part .result) (last .1 .1 .1 .1 .0) (last .1 .1 .1 .1 .1 .0) (last .1 .1 .1 .0) (last .1 .1 .1 .1 .1 .1 .0) (partOf (l .loop .now .language) (ltb stop (length block)) rest u) (transcribed k t (take (stop + 1) block))
+          (ap (λ (x : Language). partOf x (ltb stop (length block)) rest u) (v .5) ∙ transcribed-turn k t block (l .loop .at) stop low (e .line-end .ensures)) (record { printed = room .printed; tracks = done }),
     )
 
 same-length : tie.Need-same-length Inv-loop μ-loop
@@ -96,7 +106,7 @@ returns c =
     let block = a .block .now in
     let k = a .session .language in
     let all : take (l .loop .at) block ≡ block = take-all (l .loop .at) block (omega arith) in
-    (l .loop .inv .5, λ t sp. speaks-as (l .loop .now) (l .loop .line) (l .loop .message) (l .loop .memory) (l .loop .out) (talked k t (take (l .loop .at) block)) (talked k t block) (ap (talked k t) all) (l .loop .inv .6 t sp))
+    (l .loop .inv .5, λ t w. written-as (l .loop .now) (l .loop .line) (l .loop .message) (l .loop .memory) (l .loop .out) (transcribed k t (take (l .loop .at) block)) (transcribed k t block) (ap (transcribed k t) all) (l .loop .inv .6 t w))
 
 pub feed-spec : {M : Type 1} → statement M
 feed-spec =
@@ -106,6 +116,7 @@ feed-spec =
     μ-loop
     loop-holds
     line-end-requires
+    make-room-requires
     sub-part
     part-part-start
     part-part-end

@@ -2,7 +2,7 @@
 use mathlib.Core.Path.{_∙_}
 use borrow.Author.Tests.{not-true, not-false}
 use borrow.Author.Needs.{needs}
-use Rattle.console.specs.Talk.{longer, partOf}
+use Rattle.console.specs.Transcript.{longer, partOf}
 use Rattle.console.proofs.session.part.Statement.{statement}
 use Rattle.console.proofs.session.part.Tie as tie
 
@@ -20,7 +20,7 @@ unfolding partOf
 returns c =
     let p = c .before .before .before .before .before in
     let a = c .before .before .before .before .before .before .before .before .before .before .before .before .before .args in
-    (p .read-part .ensures .0, λ t sp. rw (not-true (a .ends) (c .if1 .taken)) (p .read-part .ensures .1 (a .memory .now) (a .out .now) t sp))
+    (p .read-part .ensures .0, λ printed t tr. rw (not-true (a .ends) (c .if1 .taken)) (p .read-part .ensures .1 .1 printed (a .memory .now) (a .out .now) t tr))
 
 end-requires : tie.Need-end-requires
 end-requires c κs = search needs
@@ -45,7 +45,7 @@ returns-2 c =
     let p = c .before .before .before .before .before .before .before .before .before .before .before .before .before .before in
     let a = c .before .before .before .before .before .before .before .before .before .before .before .before .before .before .before .before .before .before .before .before .before .before .args in
     let e = p .read-part .ensures in
-    (k .end .ensures .0 ∙ e .0, λ t sp. rw (not-false (a .ends) (i .if1 .left), ← e .0) (k .end .ensures .1 (longer (a .text .now) t) (e .1 (a .memory .now) (a .out .now) t sp)))
+    (k .end .ensures .0 ∙ e .0, λ printed t tr. rw (not-false (a .ends) (i .if1 .left), ← e .0) (k .end .ensures .1 printed (longer (a .text .now) t) (e .1 .1 printed (a .memory .now) (a .out .now) t tr)))
 
 pub part-spec : {M : Type 1} → statement M
 part-spec =

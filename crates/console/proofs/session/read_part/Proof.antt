@@ -1,7 +1,7 @@
 -- `console::session::read_part` meets its contract. Assumes nothing.
 use mathlib.Core.Path.{refl}
 use borrow.Author.Needs.{needs}
-use Rattle.console.proofs.TalkLaws.{speaks-longer}
+use Rattle.console.proofs.TranscriptLaws.{tracks-longer}
 use Rattle.console.proofs.session.read_part.Statement.{statement}
 use Rattle.console.proofs.session.read_part.Tie as tie
 
@@ -22,7 +22,7 @@ returns c =
     let p = c .before .before .before .before in
     let q = c .before .before .before .before .before .before .before in
     let a = c .before .before .before .before .before .before .before .before .before .before .before .before .before .args in
-    (refl, speaks-longer (a .session) (q .pairs-at .result) (p .part .result) (a .text .now) (a .line .now) (a .message .now) (p .part .last .1 .1 .1 .0) (p .part .last .1 .1 .1 .1 .0) (q .pairs-at .ensures) (p .part .ensures))
+    (refl, (refl, tracks-longer (a .session) (q .pairs-at .result) (p .part .result) (a .text .now) (a .line .now) (a .message .now) (p .part .last .1 .1 .1 .0) (p .part .last .1 .1 .1 .1 .0) (q .pairs-at .ensures) (p .part .ensures)))
 
 pub read-part-spec : {M : Type 1} → statement M
 read-part-spec =

@@ -1,7 +1,7 @@
 -- `console::language::Language::pairs_at` meets its contract, by the language. Assumes nothing.
 use mathlib.Core.Path.{sym, ap}
 use borrow.Author.Needs.{needs}
-use Rattle.console.specs.Talk.{pairsAt}
+use Rattle.console.specs.Transcript.{pairsAt}
 use Rattle.console.proofs.language.Language.pairs_at.Statement.{statement}
 use Rattle.console.proofs.language.Language.pairs_at.Tie as tie
 

@@ -1,7 +1,7 @@
 -- `console::language::Language::there` meets its contract, by the language. Assumes nothing.
 use mathlib.Core.Path.{sym, ap}
 use borrow.Author.Needs.{needs}
-use Rattle.console.specs.Talk.{thereAt}
+use Rattle.console.specs.Transcript.{thereAt}
 use Rattle.console.proofs.language.Language.there.Statement.{statement}
 use Rattle.console.proofs.language.Language.there.Tie as tie
 
