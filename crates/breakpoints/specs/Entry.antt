@@ -12,12 +12,15 @@ free = record { used = false; lifted = false; address = 0; count = 0; low = 0; h
 abbrev pub planted : ℕ → ℕ → ℕ → ℕ → Breakpoint
 planted a n l h = record { used = true; lifted = false; address = a; count = n; low = l; high = h }
 
+-- with another count
 abbrev pub withCount : ℕ → Breakpoint → Breakpoint
 withCount n b = record { used = b .used; lifted = b .lifted; address = b .address; count = n; low = b .low; high = b .high }
 
+-- with another saved word
 abbrev pub withSaved : ℕ → ℕ → Breakpoint → Breakpoint
 withSaved l h b = record { used = b .used; lifted = b .lifted; address = b .address; count = b .count; low = l; high = h }
 
+-- lifted
 abbrev pub withLifted : Breakpoint → Breakpoint
 withLifted b = record { used = b .used; lifted = true; address = b .address; count = b .count; low = b .low; high = b .high }
 

@@ -18,6 +18,7 @@ pub record Seen : Type 0 where
   pub bytes : List ℕ
   pub memory : List ℕ
 
+-- a case: how it starts, its calls, and what is to be seen of each
 pub record Case : Type 0 where
   -- which processes are there at the start, and the lent memory
   pub there : List Bool
@@ -32,6 +33,7 @@ unfoldable pub lengthWritten : Outcome → ℕ
 lengthWritten (Granted n) = n
 lengthWritten (Refused n) = cond (ltb n 7) 0 10
 
+-- what is seen of a call that was made
 abbrev pub seenOf : List ℕ → Entry → Seen
 seenOf places e = record {
   number = numberOf (e .answer .outcome);
@@ -45,9 +47,11 @@ outcomes c = map (seenOf (c .places)) (run (record { gateway = freshStart (c .th
 
 -- ---- calls
 
+-- every buffer is lent with these bytes in it
 abbrev pub buffer : List ℕ
 buffer = replicate 266 170
 
+-- a request with this message
 abbrev pub sent : List ℕ → Call
 sent m = request m buffer
 

@@ -11,9 +11,11 @@ use Rattle.cases.specs.Case.{Case, Seen, outcomes, buffer, sent, asked, 
 abbrev pub second : List Bool
 second = false ∷ false ∷ true ∷ false ∷ false ∷ false ∷ false ∷ false ∷ []
 
+-- the lent memory, all zero
 abbrev pub zeros : List ℕ
 zeros = replicate 32768 0
 
+-- NOP by host 5
 abbrev pub nop : List ℕ
 nop = 0 ∷ 5 ∷ 255 ∷ 0 ∷ 0 ∷ 0 ∷ 0 ∷ 0 ∷ 0 ∷ 0 ∷ []
 
@@ -21,6 +23,7 @@ nop = 0 ∷ 5 ∷ 255 ∷ 0 ∷ 0 ∷ 0 ∷ 0 ∷ 0 ∷ 0 ∷ 0 ∷ []
 abbrev pub debug : List ℕ
 debug = 0 ∷ 5 ∷ 255 ∷ 0 ∷ 1 ∷ 2 ∷ 0 ∷ 0 ∷ 0 ∷ 0 ∷ []
 
+-- the same by host 6
 abbrev pub debugBySix : List ℕ
 debugBySix = 0 ∷ 6 ∷ 255 ∷ 0 ∷ 1 ∷ 2 ∷ 0 ∷ 0 ∷ 0 ∷ 0 ∷ []
 
@@ -67,10 +70,11 @@ breakCase = record {
       ∷ [];
 }
 
--- BREAK at this address of process 2, and its reply
+-- BREAK at this address of process 2
 abbrev pub break : ℕ → ℕ → Call
 break a count = asked 5 8 2 a count []
 
+-- the reply to BREAK at this address
 abbrev pub broken : ℕ → Seen
 broken a = answer 0 (0 ∷ 5 ∷ 255 ∷ 0 ∷ 8 ∷ 2 ∷ 0 ∷ a ∷ 0 ∷ 0 ∷ [])
 
@@ -107,6 +111,7 @@ countCase = record {
 abbrev pub create : Call
 create = asked 5 12 0 0 0 []
 
+-- CREATED with this number
 abbrev pub created : ℕ → Seen
 created p = answer 0 (0 ∷ 5 ∷ 255 ∷ 0 ∷ 12 ∷ p ∷ 0 ∷ 0 ∷ 0 ∷ 0 ∷ [])
 
@@ -135,6 +140,7 @@ vectorCase = record {
       ∷ [];
 }
 
+-- all cases
 abbrev pub cases : List Case
 cases = nopCase ∷ debugCase ∷ examineCase ∷ breakCase ∷ ninthCase ∷ countCase ∷ createCase ∷ vectorCase ∷ []
 

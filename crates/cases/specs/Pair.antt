@@ -21,10 +21,11 @@ use Rattle.cases.specs.Cases.{zeros}
 abbrev pub twoThere : List Bool
 twoThere = false ∷ false ∷ true ∷ true ∷ false ∷ false ∷ false ∷ false ∷ []
 
--- host 6 debugs process 2, which runs in the one and is stopped in the other; its first byte differs
+-- the one gateway: host 6 debugs process 2, which runs in the one and is stopped in the other; its first byte differs
 abbrev pub one : State
 one = record { gateway = withProcess 2 (fresh true 6 Running) (freshStart twoThere); memory = zeros }
 
+-- the other gateway
 abbrev pub other : State
 other = record { gateway = withProcess 2 (fresh true 6 Stopped) (freshStart twoThere); memory = set zeros 8192 7 }
 
@@ -36,6 +37,7 @@ closing = asked 5 6 2 0 1 [] ∷ asked 5 1 2 0 0 [] ∷ asked 5 6 3 0 2 [] ∷ [
 abbrev pub halt : Call
 halt = report 2 1 0 (1 ∷ 2 ∷ 3 ∷ 4 ∷ 5 ∷ 6 ∷ 7 ∷ 8 ∷ 9 ∷ []) buffer
 
+-- a DEPOSIT of two bytes into process 2 by host 6, with any string
 abbrev pub deposit : List ℕ → Call
 deposit string = asked 6 4 2 16 2 string
 
@@ -47,6 +49,7 @@ oneCalls = asked 5 1 3 0 0 [] ∷ asked 6 6 2 0 1 [] ∷ deposit (1 ∷ 2 ∷ []
 abbrev pub otherCalls : List Call
 otherCalls = asked 5 1 3 0 0 [] ∷ asked 6 6 2 0 1 [] ∷ deposit (3 ∷ 4 ∷ 5 ∷ []) ∷ store 2 7 7 ∷ store 2 8 8 ∷ store 3 1 4 ∷ closing
 
+-- the premises of isolation can be met, and what it does not claim can fail
 pub record PremisesMet : Type 0 where
   pub one-ready : Ready one
   pub other-ready : Ready other

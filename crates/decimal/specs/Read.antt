@@ -19,6 +19,7 @@ right value next = record { ok = true; value = value; next = next }
 abbrev pub begun : ℕ → Number
 begun at = right 0 at
 
+-- a number that passed its test, or none
 abbrev pub checked : Bool → ℕ → ℕ → Number
 checked t value next = cond t (right value next) wrong
 

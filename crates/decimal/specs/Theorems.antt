@@ -7,6 +7,7 @@ use lib.ListN.{length, take, drop}
 use Rattle.decimal.specs.Numeral.{numeral, digitsOf}
 use Rattle.decimal.specs.Read.{right, numberAt}
 
+-- a number is read from its numeral, and from nothing else
 pub record ReadsNumbers : Type 0 where
   -- the numeral of a number is read as it, wherever it stands, if no digit follows
   pub numeral-is-read : (most n : ℕ) (before after : List ℕ) → n ≤ most → digitsOf after ≡ []

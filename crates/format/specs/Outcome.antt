@@ -30,6 +30,7 @@ pub record Test : Type 0 where
   pub number : ℕ
   pub fails : Bool
 
+-- a test by its number, and whether it fails
 abbrev pub test : ℕ → Bool → Test
 test n b = record { number = n; fails = b }
 

@@ -18,24 +18,31 @@ use Rattle.format.specs.declared.table.Found.the-variants.{Known, Unknow
 abbrev pub form : Bool → Bool → Bool → Carried → Form
 form p a b c = record { pid = p; arg1 = a; arg2 = b; carried = c }
 
+-- no field
 abbrev pub bare : Form
 bare = form false false false Nothing
 
+-- PID alone
 abbrev pub process : Form
 process = form true false false Nothing
 
+-- PID and ARG1
 abbrev pub address : Form
 address = form true true false Nothing
 
+-- PID, ARG1 and ARG2
 abbrev pub range : Form
 range = form true true true Nothing
 
+-- all three, and a string of ARG2 bytes
 abbrev pub string : Form
 string = form true true true Counted
 
+-- PID and ARG1, and a state vector
 abbrev pub reason : Form
 reason = form true true false Vector
 
+-- PID, and a state vector
 abbrev pub stopped : Form
 stopped = form true false false Vector
 
@@ -43,9 +50,11 @@ stopped = form true false false Vector
 abbrev pub row : Form → Form → Op
 row asks replies = record { 0 = asks; 1 = replies }
 
+-- the form of the request
 abbrev pub asks : Op → Form
 asks op = op .0
 
+-- the form of the reply that grants it
 abbrev pub replies : Op → Form
 replies op = op .1
 
@@ -103,6 +112,7 @@ replyForm cmd = formOf replies (rowOf cmd)
 abbrev pub withoutString : Form → Form
 withoutString f = form (f .pid) (f .arg1) (f .arg2) Nothing
 
+-- a form that was found, with no string
 abbrev pub stripped : Found → Found
 stripped (Known f) = Known (withoutString f)
 stripped Unknown = Unknown

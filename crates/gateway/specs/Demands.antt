@@ -25,6 +25,7 @@ Done s [] (e ∷ es) = ⊥
 Done s (c ∷ cs) [] = ⊥
 Done s (c ∷ cs) (e ∷ es) = Did s c e × Done (e .after) cs es
 
+-- the demands hold of the calls of this crate
 pub record Demands : Type 0 where
   -- the definitions that the contracts of `request` and `report` cite are the rules' step
   pub requests : (s : State) (m buffer : List ℕ) → step s (request m buffer) ≡ requested m buffer s

@@ -24,6 +24,7 @@ noticeLength (Refused n) = 0
 abbrev pub front : (Outcome → ℕ) → Answer → List ℕ
 front count a = take (count (a .outcome)) (a .buffer)
 
+-- these lengths are how much of its buffer a call wrote
 pub record Lengths : Type 0 where
   -- behind that many bytes the buffer is what it was
   pub request-behind : (s : State) (m buffer : List ℕ)

@@ -16,6 +16,7 @@ pub record Sized (g : Gateway) : Type 0 where
   pub vectors : (p : ℕ) → p < 8 → length (processAt g p .vector) ≡ 9
   pub entries : (p : ℕ) → p < 8 → length (processAt g p .breaks) ≡ 8
 
+-- the byte form and the record are each other's inverse
 pub record Inverse : Type 0 where
   -- the bytes of a state are read as it
   pub written-is-read : (g : Gateway) → Sized g → stateOf (stateBytes g) ≡ g

@@ -32,6 +32,7 @@ unfoldable pub after : Phase → List ℕ → Phase
 after p [] = p
 after p (c ∷ cs) = after (next p c) cs
 
+-- the bytes that they complete
 unfoldable pub bytesOf : Phase → List ℕ → List ℕ
 bytesOf p [] = []
 bytesOf p (c ∷ cs) = made p c ++ bytesOf (next p c) cs

@@ -9,6 +9,7 @@ use Rattle.lines.specs.declared.scan.Phase.the-variants.{Open, Full}
 use Rattle.lines.specs.Hex.{pairs, spaced}
 use Rattle.lines.specs.Scan.{after, bytesOf, kept, filled}
 
+-- pairs that are written are read as they were, and only those are read
 pub record ReadsPairs : Type 0 where
   -- the written form of one or more bytes is read as them
   pub written-is-read : (bs : List ℕ) → Bytes bs → (bs ≡ [] → ⊥) → (after Open (pairs bs) ≡ Full) × (bytesOf Open (pairs bs) ≡ bs)

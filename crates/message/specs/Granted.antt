@@ -22,6 +22,7 @@ pub record Answers (h : Header) (buffer : List ℕ) : Type 0 where
   pub contents : replies (op (h .cmd)) .carried ≡ Counted → h .arg2 ≤ 256 → heads answerForm h (h .arg2) buffer .outcome ≡ Granted (10 + h .arg2)
   pub cant : (h .cmd ≡ 0 → ⊥) → writes answerForm (cantOf h) [] buffer .outcome ≡ Granted 10
 
+-- the answers to every request that was read, and the notice of every report of a known kind, are granted
 pub record AnswersGranted : Type 0 where
   pub answers : (m : List ℕ) (h : Header) (buffer : List ℕ) → reads requestForm m ≡ Message h → 266 ≤ length buffer → Answers h buffer
   pub notice : (host kind pid reason : ℕ) (vector buffer : List ℕ) → (host ≡ 0 → ⊥) → kind < 4 → ((kind ≡ 0 → ⊥) → reason ≡ 0)

@@ -8,10 +8,12 @@ use Rattle.process.specs.declared.record.Process.{Process}
 use Rattle.process.specs.Record.{entry}
 use Rattle.process.specs.Sound.{soundTest}
 
+-- the record, and the bytes
 pub record Local : Type 0 where
   pub process : Process
   pub bytes : List ℕ
 
+-- the two together
 abbrev pub local : Process → List ℕ → Local
 local p m = record { process = p; bytes = m }
 

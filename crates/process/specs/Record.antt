@@ -25,15 +25,19 @@ noBreaks = replicate 8 free
 unfoldable pub fresh : Bool → ℕ → Run → Process
 fresh t h r = record { there = t; host = h; run = r; vector = replicate 9 0; breaks = noBreaks }
 
+-- debugged by another host
 abbrev pub withHost : ℕ → Process → Process
 withHost h p = record { there = p .there; host = h; run = p .run; vector = p .vector; breaks = p .breaks }
 
+-- in another run state
 abbrev pub withRun : Run → Process → Process
 withRun r p = record { there = p .there; host = p .host; run = r; vector = p .vector; breaks = p .breaks }
 
+-- with another vector
 abbrev pub withVector : List ℕ → Process → Process
 withVector v p = record { there = p .there; host = p .host; run = p .run; vector = v; breaks = p .breaks }
 
+-- with other entries
 abbrev pub withBreaks : List Breakpoint → Process → Process
 withBreaks bs p = record { there = p .there; host = p .host; run = p .run; vector = p .vector; breaks = bs }
 

@@ -15,6 +15,7 @@ use Rattle.process.specs.Local.{Local}
 use Rattle.process.specs.Planting.{liftedIn, replanted}
 use Rattle.process.specs.Request.{pc, onRecord, hasBreak}
 
+-- 'while stepping'
 abbrev pub stepping : Run → Bool
 stepping Running = false
 stepping Stepping = true
@@ -26,9 +27,11 @@ stepping Ended = false
 abbrev pub isHalt : ℕ → Bool
 isHalt kind = eqb kind 1
 
+-- kind 2 is BPT
 abbrev pub isBpt : ℕ → Bool
 isBpt kind = eqb kind 2
 
+-- kind 3 is TTRAP
 abbrev pub isTtrap : ℕ → Bool
 isTtrap kind = eqb kind 3
 

@@ -122,6 +122,7 @@ deposited at string l =
 unfoldable pub vectorAfter : ℕ → List ℕ → List ℕ → List ℕ
 vectorAfter at string vector = vectorOf (paste (lowFirst vector) at string (length string))
 
+-- DEPOSIT STATE VECTOR: the record with the vector after it
 abbrev pub vectorDeposited : ℕ → List ℕ → Local → Local
 vectorDeposited at string l = onRecord (withVector (vectorAfter at string (l .process .vector))) l
 

@@ -15,10 +15,11 @@ use Rattle.rules.specs.Step.{Answer, Call, request, report, store, step}
 use Rattle.rules.specs.Ready.{Ready}
 use Rattle.rules.specs.Run.{Entry, run, final, leave}
 
--- a set of hosts, and a set of processes
+-- a set of hosts
 abbrev pub Hosts : Type 0
 Hosts = ℕ → Bool
 
+-- a set of processes
 abbrev pub Processes : Type 0
 Processes = ℕ → Bool
 
@@ -28,9 +29,11 @@ Processes = ℕ → Bool
 abbrev pub hostOf : List ℕ → ℕ
 hostOf m = headerOf m .host
 
+-- a message's CMD
 abbrev pub cmdOf : List ℕ → ℕ
 cmdOf m = headerOf m .cmd
 
+-- a message's PID
 abbrev pub pidOf : List ℕ → ℕ
 pidOf m = headerOf m .pid
 
@@ -44,6 +47,7 @@ deposits cmd = eqb cmd 4 || eqb cmd 7
 
 -- ---- who debugs, as the calls and their answers tell it
 
+-- the call was granted
 unfoldable pub isGranted : Outcome → Bool
 isGranted (Granted n) = true
 isGranted (Refused n) = false
@@ -85,6 +89,7 @@ toThem H (request m buffer) a = H (hostOf m)
 toThem H (report p kind reason words buffer) a = noticed H (a .outcome) (a .buffer)
 toThem H (store p x v) a = false
 
+-- the answer to a call, if it goes to them
 unfoldable pub part : Hosts → Entry → List Answer
 part H e = cond (toThem H (e .call) (e .answer)) (e .answer ∷ []) []
 
@@ -107,6 +112,7 @@ blank H P (request m buffer) = request (cond (not (H (hostOf m)) && (deposits (c
 blank H P (report p kind reason words buffer) = report p kind reason words buffer
 blank H P (store p x v) = store p x v
 
+-- a list of calls, struck and passed over in this way
 unfoldable pub strike : Hosts → Processes → List Call → List Call
 strike H P [] = []
 strike H P (c ∷ cs) = cond (struck P c) (strike H P cs) (blank H P c ∷ strike H P cs)
@@ -140,6 +146,7 @@ theirs H P (store p x v) = false
 
 -- ---- the claim, for a set of hosts and a set of processes
 
+-- what a set of hosts is answered does not rest on processes that they do not debug, and their requests naming those could be left out
 pub record Claim (H : Hosts) (P : Processes) : Type 0 where
   -- part one: what they are answered is the same in both gateways; it is enough that they stay away in one of the two
   pub same-heard : (s₁ s₂ : State) → Ready s₁ → Ready s₂ → Apart P s₁ s₂ → (l₁ l₂ : List Call) → Alike H P l₁ l₂ → Away H P s₁ l₁
@@ -157,6 +164,7 @@ pub record Claim (H : Hosts) (P : Processes) : Type 0 where
   pub same-end : (s : State) → Ready s → (l : List Call) → Away H P s l → (marks : List Bool)
       → final s (leave (theirs H P) marks l) ≡ final s l
 
+-- who debugs is told by the calls and their answers, and the claim holds for every set of hosts and of processes
 pub record Isolation : Type 0 where
   pub debuggers : Debuggers
   pub claim : (H : Hosts) (P : Processes) → Claim H P

@@ -26,6 +26,7 @@ unfoldable pub Never : ℕ → ℕ → (ℕ → Public) → List Entry → Type 
 Never host p who [] = who p .host ≡ host → ⊥
 Never host p who (e ∷ es) = (who p .host ≡ host → ⊥) × Never host p (toldOf who (e .call) (e .answer)) es
 
+-- the host debugs the process neither at the start nor after any call
 abbrev pub Outside : ℕ → ℕ → State → List Call → Type 0
 Outside host p s l = Never host p (publicOf s) (run s l)
 

@@ -36,25 +36,29 @@ pub record Ended (p : ℕ) (s : State) (m buffer : List ℕ) : Type 0 where
   pub before : holder s p ≡ hostOf m
   pub after : holder (requested m buffer s .after) p ≡ 0
 
+-- a call by which the right to debug a process begins
 unfoldable pub Begins : ℕ → State → Call → Type 0
 Begins p s (request m buffer) = Began p s m buffer
 Begins p s (report q kind reason words buffer) = ⊥
 Begins p s (store q x v) = ⊥
 
+-- a call by which it ends
 unfoldable pub Ends : ℕ → State → Call → Type 0
 Ends p s (request m buffer) = Ended p s m buffer
 Ends p s (report q kind reason words buffer) = ⊥
 Ends p s (store q x v) = ⊥
 
--- no call of a list ends the right, or begins one, at this process
+-- no call of a list ends the right to debug this process
 unfoldable pub NoneEnds : ℕ → State → List Call → Type 0
 NoneEnds p s [] = Unit {0}
 NoneEnds p s (c ∷ l) = (Ends p s c → ⊥) × NoneEnds p (step s c .after) l
 
+-- no call of a list begins it
 unfoldable pub NoneBegins : ℕ → State → List Call → Type 0
 NoneBegins p s [] = Unit {0}
 NoneBegins p s (c ∷ l) = (Begins p s c → ⊥) × NoneBegins p (step s c .after) l
 
+-- who may change a process, and when a right begins and ends
 pub record Rights : Type 0 where
   -- nothing else changes a process
   pub changes : (s : State) → Ready s → (c : Call) (p : ℕ) → p < 8 → (MayChange p s c → ⊥) → localOf (step s c .after) p ≡ localOf s p

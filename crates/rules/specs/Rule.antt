@@ -17,6 +17,7 @@ pub record Public : Type 0 where
   pub there : Bool
   pub host : ℕ
 
+-- of a process
 unfoldable pub public : Process → Public
 public p = record { there = p .there; host = p .host }
 
@@ -85,6 +86,7 @@ within range effect = record {
   shown = λ h l. [];
 }
 
+-- 8 fails where another host debugs it
 abbrev pub debugRule : Rule
 debugRule = record {
   right = noOther;
@@ -96,6 +98,7 @@ debugRule = record {
   shown = λ h l. [];
 }
 
+-- no test but 8
 abbrev pub endDebugRule : Rule
 endDebugRule = plain (λ h s. endDebugged)
 
@@ -139,6 +142,7 @@ unbreakRule = record {
 abbrev pub noRule : Rule
 noRule = plain (λ h s l. l)
 
+-- one rule for each op code
 abbrev pub rules : List Rule
 rules =
     noRule  -- 0 NOP

@@ -10,9 +10,11 @@ pub record Entry : Type 0 where
   pub answer : Answer
   pub after : State
 
+-- a call on a state
 abbrev pub entry : State → Call → Entry
 entry s c = record { call = c; answer = step s c .answer; after = step s c .after }
 
+-- calls one after another, each on the state that the one before left
 unfoldable pub run : State → List Call → List Entry
 run s [] = []
 run s (c ∷ cs) = entry s c ∷ run (step s c .after) cs

@@ -25,10 +25,12 @@ pub record Answer : Type 0 where
   pub outcome : Outcome
   pub buffer : List ℕ
 
+-- an answer, and the state after it
 pub record Stepped : Type 0 where
   pub answer : Answer
   pub after : State
 
+-- an answer that leaves this state
 abbrev pub answers : Outcome → List ℕ → State → Stepped
 answers o buffer s = record { answer = record { outcome = o; buffer = buffer }; after = s }
 
@@ -44,6 +46,7 @@ put p l s = record { gateway = withProcess p (l .process) (s .gateway); memory =
 abbrev pub replyOf : Header → List ℕ → List ℕ → Answer
 replyOf h string buffer = record { outcome = Granted (10 + length string); buffer = overlay (written h string) buffer }
 
+-- a reply that leaves this state
 abbrev pub replied : Header → List ℕ → List ℕ → State → Stepped
 replied h string buffer s = record { answer = replyOf h string buffer; after = s }
 

@@ -82,5 +82,6 @@ reportTests s p kind reason buffer =
     ∷ test 9 (not (accepts kind (recordOf s p .run)))
     ∷ []
 
+-- the number of the first that fails
 unfoldable pub reportNumber : State → ℕ → ℕ → ℕ → List ℕ → ℕ
 reportNumber s p kind reason buffer = firstFailing (reportTests s p kind reason buffer)

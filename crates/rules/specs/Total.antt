@@ -29,6 +29,7 @@ First (t ∷ ts) n = ((t .fails ≡ true) × (n ≡ t .number)) ⊎ ((t .fails �
 abbrev pub cantOver : List ℕ → List ℕ → List ℕ
 cantOver m buffer = overlay (written (cantOf (headerOf m)) []) buffer
 
+-- demand 1
 pub record Total : Type 0 where
   -- 'The lowest-numbered test that fails gives the answer; none is given otherwise.'
   pub request-number : (s : State) (m buffer : List ℕ) → First (requestTests s m buffer) (numberOf (requested m buffer s .answer .outcome))
