@@ -6,7 +6,7 @@ use Rattle.format.specs.Answer.{cantOf, createdOf, noticeOf}
 use Rattle.format.specs.Layout.{written, headerOf, stringOf, fixedRight}
 use Rattle.format.specs.Outcome.{numberOf, firstFailing}
 use Rattle.format.specs.Refusal.{unusedZero, carriedLength, wrongLength, wrongHeader, misfits}
-use Rattle.format.specs.Table.{rowOf, requestForm}
+use Rattle.ops.specs.Table.{rowOf, requestForm}
 use Rattle.breakpoints.specs.Want.{matches}
 use Rattle.process.specs.Find.{find}
 use Rattle.process.specs.Planting.{plantedIn, liftedIn, removedFrom, replanted, liftedAt}

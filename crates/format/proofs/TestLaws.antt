@@ -7,9 +7,9 @@ use borrow.Author.Tests.{ltb-false}
 use lib.Dec.{ltb}
 use Rattle.lists.proofs.Bool.{||-left, ||-right}
 use Rattle.format.specs.declared.header.Header.{Header}
-use Rattle.format.specs.declared.table.Carried.{Carried}
-use Rattle.format.specs.declared.table.Carried.the-variants.{Nothing, Counted, Vector}
-use Rattle.format.specs.declared.table.Found.{Found}
+use Rattle.ops.specs.declared.table.Carried.{Carried}
+use Rattle.ops.specs.declared.table.Carried.the-variants.{Nothing, Counted, Vector}
+use Rattle.ops.specs.declared.table.Found.{Found}
 use Rattle.format.specs.Outcome.{firstFailing}
 use Rattle.format.specs.Refusal.{carriedLength, wrongLength, wrongHeader, unknown, malformed, layoutTests}
 use Rattle.format.proofs.OutcomeLaws.{first-passes, rest-passes}

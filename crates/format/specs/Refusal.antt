@@ -4,11 +4,11 @@ use mathlib.Core.List.{List, [], _∷_}
 use Prim.Native.Nat.{ℕ, _+_}
 use lib.Dec.{ltb, eqb}
 use Rattle.format.specs.declared.header.Header.{Header}
-use Rattle.format.specs.declared.table.Carried.{Carried}
-use Rattle.format.specs.declared.table.Carried.the-variants.{Nothing, Counted, Vector}
-use Rattle.format.specs.declared.table.Form.{Form}
-use Rattle.format.specs.declared.table.Found.{Found}
-use Rattle.format.specs.declared.table.Found.the-variants.{Known, Unknown}
+use Rattle.ops.specs.declared.table.Carried.{Carried}
+use Rattle.ops.specs.declared.table.Carried.the-variants.{Nothing, Counted, Vector}
+use Rattle.ops.specs.declared.table.Form.{Form}
+use Rattle.ops.specs.declared.table.Found.{Found}
+use Rattle.ops.specs.declared.table.Found.the-variants.{Known, Unknown}
 use Rattle.format.specs.Outcome.{Test, test}
 
 -- 'Unused fields are zero.': this field is used, or it is zero

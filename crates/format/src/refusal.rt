@@ -1,8 +1,8 @@
 // The tests of a message's layout, 3 to 6, in their order.
 use crate::header::Header;
-use crate::table::Carried;
-use crate::table::Form;
-use crate::table::Found;
+use ops::Carried;
+use ops::Form;
+use ops::Found;
 ghost use mathlib.Core.Path.{_≡_};
 ghost use Rattle.format.specs.Outcome.{firstFailing};
 ghost use Rattle.format.specs.Refusal.{usedOrZero, unusedZero, carriedLength, wrongLength, wrongHeader, misfits, layoutTests};

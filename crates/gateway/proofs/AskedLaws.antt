@@ -12,7 +12,7 @@ use Rattle.lists.proofs.Bool.{&&-left, &&-right}
 use Rattle.format.specs.declared.header.Header.{Header}
 use Rattle.format.specs.declared.outcome.Reading.the-variants.{Message}
 use Rattle.format.specs.Outcome.{Test, firstFailing}
-use Rattle.format.specs.Table.{requestForm}
+use Rattle.ops.specs.Table.{requestForm}
 use Rattle.format.specs.Layout.{headerOf, stringOf}
 use Rattle.message.specs.Exchange.{readNumber, reads}
 use Rattle.format.proofs.OutcomeLaws.{message-zero, message-header}

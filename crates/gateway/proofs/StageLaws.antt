@@ -12,7 +12,7 @@ use Rattle.format.specs.declared.header.Header.{Header}
 use Rattle.format.specs.declared.outcome.Reading.{Reading}
 use Rattle.format.specs.declared.outcome.Reading.the-variants.{Message}
 use Rattle.format.specs.Outcome.{firstFailing, reading}
-use Rattle.format.specs.Table.{requestForm}
+use Rattle.ops.specs.Table.{requestForm}
 use Rattle.format.specs.Layout.{headerOf, stringOf, fixedRight}
 use Rattle.format.specs.Refusal.{wrongLength, wrongHeader, unknown, malformed}
 use Rattle.message.specs.Exchange.{readNumber, reads}

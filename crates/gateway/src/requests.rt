@@ -16,7 +16,7 @@ ghost use mathlib.Core.Bool.{true};
 ghost use Prim.Native.Nat.{_≤_, _<_};
 ghost use lib.ListN.{length};
 ghost use Rattle.format.specs.Layout.{stringOf};
-ghost use Rattle.format.specs.Table.{requestForm};
+ghost use Rattle.ops.specs.Table.{requestForm};
 ghost use Rattle.message.specs.Exchange.{reads};
 ghost use Rattle.state.specs.Gateway.{soundTest};
 ghost use Rattle.state.specs.Gateway.{lowestAbsent};

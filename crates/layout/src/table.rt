@@ -1,8 +1,8 @@
-// The table of op codes, as the head of the crate format has it.
+// The table of op codes, as the head of the crate ops has it.
 use crate::show;
-use format::Carried;
-use format::Form;
-use format::Found;
+use ops::Carried;
+use ops::Form;
+use ops::Found;
 
 pub(crate) fn show_table() {
     show::text(b"CMD  request              reply\n");
@@ -20,11 +20,11 @@ fn rows() {
 
 // A line for a CMD that is known, and none for one that is not.
 fn row(cmd: u8) {
-    let Found::Known(answer) = format::answer_form(cmd) else {
+    let Found::Known(answer) = ops::answer_form(cmd) else {
         return;
     };
     width_three(cmd);
-    if let Found::Known(request) = format::request_form(cmd) {
+    if let Found::Known(request) = ops::request_form(cmd) {
         form(request);
     } else {
         show::text(b"                     ");

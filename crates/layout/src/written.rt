@@ -1,11 +1,11 @@
 // The written form of every message, each with what the other end reads of it. The fields that a form uses are PID 2, ARG1 258 and
 // ARG2 3, and a counted string is "abc".
 use crate::show;
-use format::Carried;
-use format::Form;
-use format::Found;
 use format::Header;
 use format::Outcome;
+use ops::Carried;
+use ops::Form;
+use ops::Found;
 
 // Of each op code the request, the reply that grants it and the CAN'T.
 pub(crate) fn show_ops() {
@@ -24,7 +24,7 @@ fn ops() {
 }
 
 fn op(cmd: u8) {
-    let Found::Known(f) = format::request_form(cmd) else {
+    let Found::Known(f) = ops::request_form(cmd) else {
         return;
     };
     let h = sample(f, cmd);

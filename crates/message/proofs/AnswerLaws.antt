@@ -16,13 +16,13 @@ use Rattle.lists.proofs.Word.{length-lowFirst}
 use Rattle.format.specs.declared.header.Header.{Header}
 use Rattle.format.specs.declared.outcome.Outcome.the-variants.{Granted}
 use Rattle.format.specs.declared.outcome.Reading.the-variants.{Message}
-use Rattle.format.specs.declared.table.Carried.the-variants.{Nothing, Counted, Vector}
-use Rattle.format.specs.declared.table.Form.{Form}
-use Rattle.format.specs.declared.table.Found.the-variants.{Known}
-use Rattle.format.specs.declared.table.Op.{Op}
-use Rattle.format.specs.declared.table.Row.the-variants.{Listed, Unlisted}
+use Rattle.ops.specs.declared.table.Carried.the-variants.{Nothing, Counted, Vector}
+use Rattle.ops.specs.declared.table.Form.{Form}
+use Rattle.ops.specs.declared.table.Found.the-variants.{Known}
+use Rattle.ops.specs.declared.table.Op.{Op}
+use Rattle.ops.specs.declared.table.Row.the-variants.{Listed, Unlisted}
 use Rattle.format.specs.Outcome.{firstFailing}
-use Rattle.format.specs.Table.{bare, stopped, reason as reasoned, row, ops, op, asks, replies, rowOf, formOf, withoutString, requestForm, replyForm, cantForm, noticeForm, answerForm}
+use Rattle.ops.specs.Table.{bare, stopped, reason as reasoned, row, ops, op, asks, replies, rowOf, formOf, withoutString, requestForm, replyForm, cantForm, noticeForm, answerForm}
 use Rattle.format.specs.Layout.{headerOf, fixedRight}
 use Rattle.format.specs.Refusal.{usedOrZero, unusedZero, carriedLength, wrongLength, wrongHeader, unknown, misfits}
 use Rattle.message.specs.Exchange.{writeNumber, answered, readNumber, writes, heads, reads}

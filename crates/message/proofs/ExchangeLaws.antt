@@ -9,7 +9,7 @@ use Rattle.lists.specs.Buffer.{overlay}
 use Rattle.format.specs.declared.header.Header.{Header}
 use Rattle.format.specs.declared.outcome.Outcome.the-variants.{Granted, Refused}
 use Rattle.format.specs.declared.outcome.Reading.the-variants.{Refused as ReadingRefused}
-use Rattle.format.specs.declared.table.Found.{Found}
+use Rattle.ops.specs.declared.table.Found.{Found}
 use Rattle.message.specs.Exchange.{Forms, writeNumber, answered, readNumber, reads}
 use Rattle.format.specs.Outcome.{reading, firstFailing}
 use Rattle.format.specs.Refusal.{wrongLength}

@@ -8,7 +8,7 @@ use Rattle.lists.specs.Buffer.{overlay}
 use Rattle.format.specs.declared.header.Header.{Header}
 use Rattle.format.specs.declared.outcome.Outcome.{Outcome}
 use Rattle.format.specs.declared.outcome.Reading.{Reading}
-use Rattle.format.specs.declared.table.Found.{Found}
+use Rattle.ops.specs.declared.table.Found.{Found}
 use Rattle.format.specs.Outcome.{outcome, reading, test, firstFailing}
 use Rattle.format.specs.Layout.{header, written, headerOf, fixedRight}
 use Rattle.format.specs.Refusal.{layoutTests}

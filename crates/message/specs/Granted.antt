@@ -9,8 +9,8 @@ use Rattle.lists.specs.Word.{lowFirst}
 use Rattle.format.specs.declared.header.Header.{Header}
 use Rattle.format.specs.declared.outcome.Outcome.the-variants.{Granted}
 use Rattle.format.specs.declared.outcome.Reading.the-variants.{Message}
-use Rattle.format.specs.declared.table.Carried.the-variants.{Nothing, Counted}
-use Rattle.format.specs.Table.{op, replies, requestForm, answerForm}
+use Rattle.ops.specs.declared.table.Carried.the-variants.{Nothing, Counted}
+use Rattle.ops.specs.Table.{op, replies, requestForm, answerForm}
 use Rattle.message.specs.Exchange.{writes, heads, reads}
 use Rattle.format.specs.Answer.{cantOf, createdOf, noticeOf}
 

@@ -5,12 +5,12 @@ use crate::exchange::write_head;
 use format::Header;
 use format::Outcome;
 use format::Reading;
-use format::answer_form;
+use ops::answer_form;
 use words::vector_bytes;
 ghost use mathlib.Core.Path.{_≡_};
 ghost use mathlib.Core.List.{[]};
 ghost use Rattle.lists.specs.Word.{lowFirst};
-ghost use Rattle.format.specs.Table.{answerForm};
+ghost use Rattle.ops.specs.Table.{answerForm};
 ghost use Rattle.message.specs.Exchange.{writes, heads, reads};
 ghost use Rattle.format.specs.Answer.{cantOf, createdOf, noticeOf};
 

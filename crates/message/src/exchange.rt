@@ -1,11 +1,11 @@
 // Writing and reading a message whose form was found: what requests and answers have in common.
-use format::Found;
 use format::Header;
 use format::Outcome;
 use format::Reading;
 use format::fixed_right;
 use format::layout_number;
 use format::put_string;
+use ops::Found;
 ghost use mathlib.Core.Path.{_≡_};
 ghost use Prim.Native.Nat.{_≤_};
 ghost use lib.ListN.{length};

@@ -4,9 +4,9 @@ use crate::exchange::write;
 use format::Header;
 use format::Outcome;
 use format::Reading;
-use format::request_form;
+use ops::request_form;
 ghost use mathlib.Core.Path.{_≡_};
-ghost use Rattle.format.specs.Table.{requestForm};
+ghost use Rattle.ops.specs.Table.{requestForm};
 ghost use Rattle.message.specs.Exchange.{writes, reads};
 
 // The desk writes a request with this string, by the tests 1, 3, 4, 5, 6.

@@ -1,6 +1,6 @@
 // What is proved of both ends together. These functions do nothing: each one's contract is a theorem, so that the
 // check of this crate includes it.
-ghost use Rattle.format.specs.Table.{requestForm, answerForm};
+ghost use Rattle.ops.specs.Table.{requestForm, answerForm};
 ghost use Rattle.message.specs.Granted.{AnswersGranted};
 ghost use Rattle.message.specs.RoundTrip.{RoundTrip};
 

@@ -10,11 +10,11 @@ use lib.Dec.{eqb, ltb}
 use Rattle.lists.specs.Every.{every}
 use Rattle.lists.proofs.Bool.{||-right}
 use Rattle.lists.proofs.Every.{every-getD}
-use Rattle.format.specs.declared.table.Carried.{Carried}
-use Rattle.format.specs.declared.table.Carried.the-variants.{Nothing, Counted, Vector}
-use Rattle.format.specs.declared.table.Op.{Op}
+use Rattle.ops.specs.declared.table.Carried.{Carried}
+use Rattle.ops.specs.declared.table.Carried.the-variants.{Nothing, Counted, Vector}
+use Rattle.ops.specs.declared.table.Op.{Op}
 use Rattle.format.specs.Outcome.{Test, test, firstFailing}
-use Rattle.format.specs.Table.{bare, row, ops, op, asks, requestForm}
+use Rattle.ops.specs.Table.{bare, row, ops, op, asks, requestForm}
 use Rattle.format.specs.Layout.{headerOf, stringOf, fixedRight}
 use Rattle.format.specs.Refusal.{carriedLength, unusedZero, wrongLength, wrongHeader, unknown, misfits, malformed, layoutTests}
 use Rattle.format.proofs.OutcomeLaws.{rest-passes}

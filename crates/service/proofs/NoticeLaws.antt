@@ -12,7 +12,7 @@ use Rattle.lists.proofs.Bool.{||-left, ||-right}
 use Rattle.lists.proofs.Word.{length-lowFirst}
 use Rattle.format.specs.declared.outcome.Outcome.the-variants.{Granted}
 use Rattle.format.specs.Answer.{noticeOf}
-use Rattle.format.specs.Table.{answerForm}
+use Rattle.ops.specs.Table.{answerForm}
 use Rattle.message.specs.Exchange.{writes}
 use Rattle.message.proofs.AnswerLaws.{answers-granted}
 use Rattle.rules.specs.Tests.{badReport}

@@ -14,9 +14,9 @@ use Rattle.lists.proofs.Buffer.{overlay-before}
 use Rattle.lists.proofs.Part.{length-part, length-replaced}
 use Rattle.format.specs.declared.header.Header.{Header}
 use Rattle.format.specs.declared.outcome.Outcome.the-variants.{Granted}
-use Rattle.format.specs.declared.table.Carried.{Carried}
-use Rattle.format.specs.declared.table.Carried.the-variants.{Nothing, Counted, Vector}
-use Rattle.format.specs.Table.{bare, row, ops, op, replies, answerForm}
+use Rattle.ops.specs.declared.table.Carried.{Carried}
+use Rattle.ops.specs.declared.table.Carried.the-variants.{Nothing, Counted, Vector}
+use Rattle.ops.specs.Table.{bare, row, ops, op, replies, answerForm}
 use Rattle.format.specs.Layout.{header, written}
 use Rattle.message.specs.Exchange.{writeNumber, answered, writes, heads}
 use Rattle.format.proofs.OutcomeLaws.{granted-zero}

@@ -1,7 +1,7 @@
 // Which process a request goes to.
-use format::Found;
 use format::Header;
-use format::request_form;
+use ops::Found;
+use ops::request_form;
 ghost use mathlib.Core.Path.{_≡_};
 ghost use Rattle.rules.specs.Rule.{names, creates};
 ghost use Rattle.service.specs.At.{namedOf};

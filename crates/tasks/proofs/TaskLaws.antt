@@ -7,10 +7,10 @@ use borrow.Author.Tests.{ltb-false}
 use lib.ListN.{List·getD-eq-default}
 use lib.Dec.{ltb}
 use Rattle.format.specs.declared.header.Header.{Header}
-use Rattle.format.specs.declared.table.Found.{Found}
-use Rattle.format.specs.declared.table.Found.the-variants.{Known, Unknown}
+use Rattle.ops.specs.declared.table.Found.{Found}
+use Rattle.ops.specs.declared.table.Found.the-variants.{Known, Unknown}
 use Rattle.format.specs.Outcome.{firstFailing}
-use Rattle.format.specs.Table.{bare, row, ops, rowOf, requestForm}
+use Rattle.ops.specs.Table.{bare, row, ops, rowOf, requestForm}
 use Rattle.format.proofs.OutcomeLaws.{rest-passes}
 use Rattle.process.specs.declared.record.Process.{Process}
 use Rattle.rules.specs.Rule.{ruleOf, names}

@@ -2,7 +2,7 @@
 use mathlib.Core.Path.{ap, _∙_}
 use borrow.Author.Needs.{needs}
 use Rattle.format.specs.declared.header.Header.{Header}
-use Rattle.format.specs.Table.{answerForm}
+use Rattle.ops.specs.Table.{answerForm}
 use Rattle.message.specs.Exchange.{reads}
 use Rattle.message.proofs.ExchangeLaws.{reads-short}
 use Rattle.message.proofs.answer.read_answer.Statement.{statement}

@@ -2,7 +2,7 @@
 use mathlib.Core.Path.{ap, _∙_}
 use borrow.Author.Needs.{needs}
 use Rattle.format.specs.declared.header.Header.{Header}
-use Rattle.format.specs.Table.{requestForm}
+use Rattle.ops.specs.Table.{requestForm}
 use Rattle.message.specs.Exchange.{reads}
 use Rattle.message.proofs.ExchangeLaws.{reads-short}
 use Rattle.message.proofs.request.read_request.Statement.{statement}

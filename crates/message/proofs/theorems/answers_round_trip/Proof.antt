@@ -1,5 +1,5 @@
 -- The theorem of `message::theorems::answers_round_trip`: the round trip over any table, at the answers'. Assumes nothing.
-use Rattle.format.specs.Table.{answerForm}
+use Rattle.ops.specs.Table.{answerForm}
 use Rattle.message.proofs.RoundTripLaws.{round-trip}
 use Rattle.message.proofs.theorems.answers_round_trip.Statement.{statement}
 use Rattle.message.proofs.theorems.answers_round_trip.Tie as tie

@@ -1,5 +1,5 @@
 -- The theorem of `message::theorems::requests_round_trip`: the round trip over any table, at the requests'. Assumes nothing.
-use Rattle.format.specs.Table.{requestForm}
+use Rattle.ops.specs.Table.{requestForm}
 use Rattle.message.proofs.RoundTripLaws.{round-trip}
 use Rattle.message.proofs.theorems.requests_round_trip.Statement.{statement}
 use Rattle.message.proofs.theorems.requests_round_trip.Tie as tie

@@ -1,8 +1,8 @@
--- `format::table::request_form` meets its contract: the first form of the row, if there is one. Assumes nothing.
+-- `ops::table::reply_form` meets its contract: the second form of the row, if there is one. Assumes nothing.
 use borrow.Author.Needs.{needs}
-use Rattle.format.specs.Table.{requestForm}
-use Rattle.format.proofs.table.request_form.Statement.{statement}
-use Rattle.format.proofs.table.request_form.Tie as tie
+use Rattle.ops.specs.Table.{replyForm}
+use Rattle.ops.proofs.table.reply_form.Statement.{statement}
+use Rattle.ops.proofs.table.reply_form.Tie as tie
 
 row-of-requires : tie.Need-row-of-requires
 row-of-requires c κs = search needs
@@ -14,15 +14,14 @@ enum-told : tie.Need-enum-told
 enum-told c = search needs
 
 returns : tie.Need-returns
-unfolding requestForm
+unfolding replyForm
 returns c =
     let f = c .before .before in
     rw (← f .before .before .row-of .ensures, f .found .given .1)
 
 returns-2 : tie.Need-returns-2
-unfolding requestForm
+unfolding replyForm
 returns-2 c = rw (← c .before .before .row-of .ensures, c .enum-told .given .1)
 
-pub request-form-spec : {M : Type 1} → statement M
-request-form-spec =
-    tie.close (tie.spec row-of-requires enum-known-found enum-told returns returns-2)
+pub reply-form-spec : {M : Type 1} → statement M
+reply-form-spec = tie.close (tie.spec row-of-requires enum-known-found enum-told returns returns-2)

@@ -1,9 +1,9 @@
--- `format::table::answer_form` meets its contract: CMD says which of the three tables has the form. Assumes nothing.
+-- `ops::table::answer_form` meets its contract: CMD says which of the three tables has the form. Assumes nothing.
 use borrow.Author.Needs.{needs}
 use borrow.Author.Tests.{lt-ltb, le-ltb}
-use Rattle.format.specs.Table.{answerForm}
-use Rattle.format.proofs.table.answer_form.Statement.{statement}
-use Rattle.format.proofs.table.answer_form.Tie as tie
+use Rattle.ops.specs.Table.{answerForm}
+use Rattle.ops.proofs.table.answer_form.Statement.{statement}
+use Rattle.ops.proofs.table.answer_form.Tie as tie
 
 reply-form-requires : tie.Need-reply-form-requires
 reply-form-requires c κs = search needs

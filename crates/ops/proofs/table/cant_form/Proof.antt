@@ -1,10 +1,10 @@
--- `format::table::cant_form` meets its contract: the request's form without its string, and none for NOP. Assumes nothing.
+-- `ops::table::cant_form` meets its contract: the request's form without its string, and none for NOP. Assumes nothing.
 use mathlib.Core.Path.{_≡_}
 use borrow.Author.Needs.{needs}
 use borrow.Author.Tests.{eq-eqb, ne-eqb}
-use Rattle.format.specs.Table.{cantForm}
-use Rattle.format.proofs.table.cant_form.Statement.{statement}
-use Rattle.format.proofs.table.cant_form.Tie as tie
+use Rattle.ops.specs.Table.{cantForm}
+use Rattle.ops.proofs.table.cant_form.Statement.{statement}
+use Rattle.ops.proofs.table.cant_form.Tie as tie
 
 returns : tie.Need-returns
 unfolding cantForm

@@ -1,6 +1,6 @@
 // The table of op codes: which fields each message uses, and what string it carries. Nothing else knows which op uses what.
 ghost use mathlib.Core.Path.{_≡_};
-ghost use Rattle.format.specs.Table.{rowOf, requestForm, answerForm, replyForm, noticeForm, cantForm, withoutString};
+ghost use Rattle.ops.specs.Table.{rowOf, requestForm, answerForm, replyForm, noticeForm, cantForm, withoutString};
 
 // What stands behind the ten bytes of the header.
 pub enum Carried {

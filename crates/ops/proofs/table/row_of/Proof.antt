@@ -1,9 +1,9 @@
--- `format::table::row_of` meets its contract: the code's table and the definition's are one list. Assumes nothing.
+-- `ops::table::row_of` meets its contract: the code's table and the definition's are one list. Assumes nothing.
 use borrow.Author.Tests.{lt-ltb, le-ltb}
 use borrow.Author.Needs.{needs}
-use Rattle.format.specs.Table.{rowOf}
-use Rattle.format.proofs.table.row_of.Statement.{statement}
-use Rattle.format.proofs.table.row_of.Tie as tie
+use Rattle.ops.specs.Table.{rowOf}
+use Rattle.ops.proofs.table.row_of.Statement.{statement}
+use Rattle.ops.proofs.table.row_of.Tie as tie
 
 mul-op : tie.Need-mul-op
 mul-op c = search needs

@@ -5,14 +5,14 @@ use mathlib.Core.List.{List, [], _∷_}
 use Prim.Native.Nat.{ℕ, _-_}
 use lib.ListN.{length, getD}
 use lib.Dec.{ltb, eqb}
-use Rattle.format.specs.declared.table.Carried.{Carried}
-use Rattle.format.specs.declared.table.Carried.the-variants.{Nothing, Counted, Vector}
-use Rattle.format.specs.declared.table.Form.{Form}
-use Rattle.format.specs.declared.table.Op.{Op}
-use Rattle.format.specs.declared.table.Row.{Row}
-use Rattle.format.specs.declared.table.Row.the-variants.{Listed, Unlisted}
-use Rattle.format.specs.declared.table.Found.{Found}
-use Rattle.format.specs.declared.table.Found.the-variants.{Known, Unknown}
+use Rattle.ops.specs.declared.table.Carried.{Carried}
+use Rattle.ops.specs.declared.table.Carried.the-variants.{Nothing, Counted, Vector}
+use Rattle.ops.specs.declared.table.Form.{Form}
+use Rattle.ops.specs.declared.table.Op.{Op}
+use Rattle.ops.specs.declared.table.Row.{Row}
+use Rattle.ops.specs.declared.table.Row.the-variants.{Listed, Unlisted}
+use Rattle.ops.specs.declared.table.Found.{Found}
+use Rattle.ops.specs.declared.table.Found.the-variants.{Known, Unknown}
 
 -- which of PID, ARG1 and ARG2 are used, and what is carried
 abbrev pub form : Bool → Bool → Bool → Carried → Form

@@ -1,9 +1,9 @@
--- `format::table::notice_form` meets its contract: the code's table and the definition's are one list. Assumes nothing.
+-- `ops::table::notice_form` meets its contract: the code's table and the definition's are one list. Assumes nothing.
 use borrow.Author.Needs.{needs}
 use borrow.Author.Tests.{lt-ltb, le-ltb}
-use Rattle.format.specs.Table.{noticeForm}
-use Rattle.format.proofs.table.notice_form.Statement.{statement}
-use Rattle.format.proofs.table.notice_form.Tie as tie
+use Rattle.ops.specs.Table.{noticeForm}
+use Rattle.ops.proofs.table.notice_form.Statement.{statement}
+use Rattle.ops.proofs.table.notice_form.Tie as tie
 
 mul-form : tie.Need-mul-form
 mul-form c = search needs

@@ -1,0 +1,32 @@
+// The table of op codes: which fields each message of RFC 643 uses, and what string it carries.
+//
+// As the program layout prints it from table.rt: the fields that a message uses, and the string that it carries, which is none, ARG2 bytes,
+// or the 18 bytes of a state vector, low byte first. An unused field is zero.
+//
+//   CMD  request              reply
+//     0  --- ---- ---- none   --- ---- ---- none   NOP
+//     1  PID ---- ---- none   PID ---- ---- none   DEBUG
+//     2  PID ---- ---- none   PID ---- ---- none   END DEBUG
+//     3  PID ---- ---- none   PID ---- ---- none   STOP
+//     4  PID ARG1 ARG2 ARG2   PID ARG1 ARG2 none   DEPOSIT
+//     5  PID ---- ---- none   PID ---- ---- none   RESUME
+//     6  PID ARG1 ARG2 none   PID ARG1 ARG2 ARG2   EXAMINE
+//     7  PID ARG1 ARG2 ARG2   PID ARG1 ARG2 none   DEPOSIT STATE VECTOR
+//     8  PID ARG1 ARG2 none   PID ARG1 ARG2 none   BREAK
+//     9  PID ARG1 ---- none   PID ARG1 ---- none   UNBREAK
+//    10  PID ---- ---- none   PID ---- ---- none   SINGLE STEP
+//    11  PID ---- ---- none   PID ---- ---- none   PROCEED BPT
+//    12  --- ---- ---- none   PID ---- ---- none   CREATE PROCESS
+//    13  PID ---- ---- none   PID ---- ---- none   DESTROY PROCESS
+//    64                       PID ARG1 ---- 18     TRAP, a notice
+//    65                       PID ---- ---- 18     HALT, a notice
+//    66                       PID ---- ---- 18     BPT, a notice
+//    67                       PID ---- ---- 18     TTRAP, a notice
+//   CAN'T: CMD + 128, the request's fields and no string; none for NOP.
+mod table;
+
+pub use table::Carried;
+pub use table::Form;
+pub use table::Found;
+pub use table::answer_form;
+pub use table::request_form;
