@@ -1,39 +1,61 @@
 -- A request that was read, at the process that it goes to. Assumes nothing.
-use mathlib.Core.Path.{_≡_, refl, sym, _∙_}
-use mathlib.Core.Bool.{Bool, true, false, cond, _&&_, _||_}
+use mathlib.Core.Path.{_≡_, refl, sym, ap, _∙_, subst}
+use mathlib.Core.Bool.{Bool, true, false, cond}
 use mathlib.Core.List.{List, [], _∷_}
 use Prim.Native.Nat.{ℕ, zero, suc, _≤_, _<_}
 use native.Mathlib.Omega.{arith}
-use borrow.Author.Tests.{eqb-true, ne-eqb, lt-ltb, le-ltb, ltb-true, leb-true}
+use borrow.Author.Tests.{eqb-true, ne-eqb, lt-ltb, le-ltb, ltb-true, ltb-false, leb-true}
 use lib.ListN.{length}
 use lib.Dec.{ltb, leb}
 use Rattle.lists.specs.Every.{every}
 use Rattle.lists.proofs.Bool.{&&-left, &&-right}
 use Rattle.format.specs.declared.header.Header.{Header}
-use Rattle.format.specs.declared.outcome.Reading.the-variants.{Message}
+use Rattle.format.specs.declared.outcome.Reading.{Reading}
+use Rattle.format.specs.declared.outcome.Reading.the-variants.{Message, Refused as ReadingRefused}
 use Rattle.format.specs.Outcome.{Test, firstFailing}
-use Rattle.ops.specs.Table.{requestForm}
+use Rattle.ops.specs.declared.table.Form.{Form}
+use Rattle.ops.specs.Table.{op, asks, requestForm}
 use Rattle.format.specs.Layout.{headerOf, stringOf}
 use Rattle.message.specs.Exchange.{readNumber, reads}
+use Rattle.message.specs.Incoming.{incoming}
+use Rattle.message.specs.declared.request.Incoming.{Incoming}
+use Rattle.message.specs.declared.request.Incoming.the-variants.{Request, Refused as IncomingRefused}
 use Rattle.format.proofs.OutcomeLaws.{message-zero, message-header}
-use Rattle.message.proofs.AnswerLaws.{answers-granted}
 use Rattle.rules.specs.Rule.{names, creates}
 use Rattle.state.specs.Gateway.{lowestAbsent}
 use Rattle.rules.specs.Tests.{State, recordOf, askedTests}
-use Rattle.rules.specs.Step.{Stepped, localOf, put, grantedNamed, grantedCreate, granted, refused}
+use Rattle.rules.specs.Step.{Answer, Stepped, replyOf, localOf, put, grantedNamed, grantedCreate, granted, refused}
 use Rattle.rules.proofs.NumberLaws.{envelope, envelope-sent}
 use Rattle.rules.proofs.StateLaws.{put-same}
 use Rattle.tasks.specs.Task.{processTests}
-use Rattle.service.specs.Reply.{Answerable}
-use Rattle.service.specs.At.{Left, namedOf, targetOf, awayAnswer, namedBy, namedAt, createdAt, requestAt}
+use Rattle.service.specs.declared.target.Target.{Target}
+use Rattle.service.specs.declared.target.Target.the-variants.{Named, OutOfRange, New, Nowhere}
+use Rattle.service.specs.At.{Left, cantBy, targetOf, namedBy, namedAt, createdAt}
 use Rattle.gateway.specs.Stage.{asked}
 
 -- ---- the fields of a message that was read
 
-module _ (m : List ℕ) (h : Header) (e : reads requestForm m ≡ Message h) where
-  pub answerable : Answerable h
-  answerable buffer long = answers-granted .answers m h buffer e long
+-- what the gateway finds is a reading, with the form of its op code
+Found : Reading → Incoming → Type 0
+Found r (Request h form) = (r ≡ Message h) × (form ≡ asks (op (h .cmd)))
+Found r (IncomingRefused n) = r ≡ ReadingRefused n
 
+found : (r : Reading) → Found r (incoming r)
+unfolding Found incoming
+found (Message h) = (refl, refl)
+found (ReadingRefused n) = refl
+
+-- a request that is found was read, and has the form of its op code
+pub request-found : (m : List ℕ) (h : Header) (form : Form) → Request h form ≡ incoming (reads requestForm m) → (reads requestForm m ≡ Message h) × (form ≡ asks (op (h .cmd)))
+unfolding Found
+request-found m h form e = subst (Found (reads requestForm m)) (sym e) (found (reads requestForm m))
+
+-- and what is refused was refused when it was read
+pub refused-found : (m : List ℕ) (n : ℕ) → IncomingRefused n ≡ incoming (reads requestForm m) → reads requestForm m ≡ ReadingRefused n
+unfolding Found
+refused-found m n e = subst (Found (reads requestForm m)) (sym e) (found (reads requestForm m))
+
+module _ (m : List ℕ) (h : Header) (e : reads requestForm m ≡ Message h) where
   pub carried-short : (buffer : List ℕ) → 266 ≤ length buffer → length (stringOf m) ≤ h .arg2
   unfolding reads envelope firstFailing readNumber
   carried-short buffer long =
@@ -56,35 +78,44 @@ high-first (t ∷ ts) e = go (high-first ts (&&-right (leb 7 (t .number)) _ e)) 
     go rest true z = leb-true 7 (t .number) (&&-left (leb 7 (t .number)) _ e)
     go rest false z = rest z
 
--- ---- which process it goes to
+-- ---- where it goes
 
--- what the number of a process that a request names says
-pub named-low : (h : Header) → namedOf h < 8 → (names (h .cmd) ≡ true) × (h .pid ≡ namedOf h)
-unfolding namedOf
-named-low h = go (names (h .cmd)) (ltb (h .pid) 8)
+-- what its target says of a request
+abbrev pub Goes : Header → Target → Type 0
+Goes h (Named p) = (names (h .cmd) ≡ true) × (p ≡ h .pid) × (p < 8)
+Goes h OutOfRange = (names (h .cmd) ≡ true) × (8 ≤ h .pid)
+Goes h New = (names (h .cmd) ≡ false) × (creates (h .cmd) ≡ true)
+Goes h Nowhere = (names (h .cmd) ≡ false) × (creates (h .cmd) ≡ false)
+
+goes : (h : Header) → Goes h (targetOf (asks (op (h .cmd))) h)
+unfolding targetOf names
+goes h = by-name (asks (op (h .cmd)) .pid) refl
   where
-    go : (a b : Bool) → cond (a && b) (h .pid) 8 < 8 → (a ≡ true) × (h .pid ≡ cond (a && b) (h .pid) 8)
-    go true true low = (refl, refl)
-    go true false low = absurd (omega (arith, low))
-    go false b low = absurd (omega (arith, low))
+    by-number : (t : Bool) → asks (op (h .cmd)) .pid ≡ true → ltb (h .pid) 8 ≡ t → Goes h (cond t (Named (h .pid)) OutOfRange)
+    by-number true n e = (n, refl, ltb-true (h .pid) 8 e)
+    by-number false n e = (n, ltb-false (h .pid) 8 e)
 
-pub target-asks : (h : Header) (n : ℕ) → targetOf h n < 8 → creates (h .cmd) || names (h .cmd) ≡ true
-unfolding targetOf
-target-asks h n = go (creates (h .cmd)) refl
-  where
-    go : (t : Bool) → creates (h .cmd) ≡ t → cond t n (namedOf h) < 8 → t || names (h .cmd) ≡ true
-    go true e low = refl
-    go false e low = named-low h low .0
+    by-op : (t : Bool) → asks (op (h .cmd)) .pid ≡ false → creates (h .cmd) ≡ t → Goes h (cond t New Nowhere)
+    by-op true n e = (n, e)
+    by-op false n e = (n, e)
 
--- CREATE names none
-creates-unnamed : (cmd : ℕ) → creates cmd ≡ true → names cmd ≡ false
-unfolding names
-creates-unnamed cmd e = rw (eqb-true cmd 12 e) refl
+    by-name : (t : Bool) → asks (op (h .cmd)) .pid ≡ t → Goes h (cond t (cond (ltb (h .pid) 8) (Named (h .pid)) OutOfRange) (cond (creates (h .cmd)) New Nowhere))
+    by-name true n = by-number (ltb (h .pid) 8) n refl
+    by-name false n = by-op (creates (h .cmd)) n refl
+
+-- a target says what it says of the request that it came from
+pub target-says : (h : Header) (form : Form) (t : Target) → form ≡ asks (op (h .cmd)) → t ≡ targetOf form h → Goes h t
+target-says h form t f e = subst (Goes h) (sym (e ∙ ap (λ (x : Form). targetOf x h) f)) (goes h)
 
 -- ---- at that process
 
-abbrev stepped : ℕ → Left → State → Stepped
+-- what a call at process p answers and leaves
+abbrev pub stepped : ℕ → Left → State → Stepped
 stepped p x s = record { answer = x .answer; after = put p (x .left) s }
+
+-- an answer that leaves the state
+abbrev pub unmoved : Answer → State → Stepped
+unmoved a s = record { answer = a; after = s }
 
 module _ (h : Header) (string buffer : List ℕ) (s : State) where
   -- by the number of the tests of the process that is named
@@ -101,34 +132,29 @@ module _ (h : Header) (string buffer : List ℕ) (s : State) where
     number-high z = high-first (processTests h (recordOf s p)) refl z
 
     by-number : (k : ℕ) → number ≡ k → asked h string buffer s ≡ stepped p (namedBy k h string buffer (localOf s p)) s
-    unfolding asked granted grantedNamed refused namedBy
+    unfolding asked granted grantedNamed refused namedBy cantBy
     by-number zero e = rw (number-asked, e, n, here)
     by-number (suc k) e =
         let long = number-high (λ z. omega (arith, sym e ∙ z)) in
         rw (number-asked, e, ne-eqb (suc k) 0 (λ z. omega (arith, z)), le-ltb (suc k) 7 (rw e at long), put-same p s)
 
-  pub asked-at : (p : ℕ) → p ≡ targetOf h (lowestAbsent (s .gateway)) → p < 8 → asked h string buffer s ≡ stepped p (requestAt p h string buffer (localOf s p)) s
-  unfolding targetOf requestAt asked granted grantedCreate askedTests firstFailing number
-  asked-at p e low = go (creates (h .cmd)) refl e
-    where
-      go : (t : Bool) → creates (h .cmd) ≡ t → p ≡ cond t (lowestAbsent (s .gateway)) (namedOf h)
-          → asked h string buffer s ≡ stepped p (cond t (createdAt p h buffer) (namedAt h string buffer (localOf s p))) s
-      go true c i = rw (creates-unnamed (h .cmd) c, c, ← i, lt-ltb p 8 low)
-      go false c i = let d = named-low h (rw i at low) in by-number p (d .0) low (d .1 ∙ sym i) _ refl
+  pub asked-named : (p : ℕ) → Goes h (Named p) → asked h string buffer s ≡ stepped p (namedAt h string buffer (localOf s p)) s
+  unfolding namedAt number
+  asked-named p g = by-number p (g .0) (g .2) (sym (g .1)) _ refl
 
-  pub asked-away : 8 ≤ targetOf h (lowestAbsent (s .gateway)) → asked h string buffer s ≡ record { answer = awayAnswer h buffer; after = s }
-  unfolding targetOf namedOf awayAnswer asked granted refused askedTests firstFailing
-  asked-away = go (creates (h .cmd)) refl
-    where
-      go : (t : Bool) → creates (h .cmd) ≡ t → 8 ≤ cond t (lowestAbsent (s .gateway)) (namedOf h)
-          → asked h string buffer s ≡ record { answer = awayAnswer h buffer; after = s }
-      go true c far = rw (creates-unnamed (h .cmd) c, c, le-ltb _ _ far)
-      go false c far = other (names (h .cmd)) refl
-        where
-          other : (t : Bool) → names (h .cmd) ≡ t → asked h string buffer s ≡ record { answer = awayAnswer h buffer; after = s }
-          other true n = rw (c, n, gone (ltb (h .pid) 8) refl)
-            where
-              gone : (t : Bool) → ltb (h .pid) 8 ≡ t → t ≡ false
-              gone true i = absurd (omega (arith, ltb-true (h .pid) 8 i, rw (n, i) at far))
-              gone false i = refl
-          other false n = rw (c, n)
+  pub asked-beyond : Goes h OutOfRange → asked h string buffer s ≡ unmoved (cantBy 7 h buffer) s
+  unfolding cantBy asked refused askedTests firstFailing
+  asked-beyond g = rw (g .0, le-ltb (h .pid) 8 (g .1))
+
+  module _ (g : Goes h New) where
+    pub asked-new : (p : ℕ) → p ≡ lowestAbsent (s .gateway) → p < 8 → asked h string buffer s ≡ stepped p (createdAt p h buffer) s
+    unfolding createdAt asked granted grantedCreate askedTests firstFailing
+    asked-new p e low = rw (g .0, g .1, ← e, lt-ltb p 8 low)
+
+    pub asked-full : 8 ≤ lowestAbsent (s .gateway) → asked h string buffer s ≡ unmoved (cantBy 13 h buffer) s
+    unfolding cantBy asked refused askedTests firstFailing
+    asked-full far = rw (g .0, g .1, le-ltb _ _ far)
+
+  pub asked-nowhere : Goes h Nowhere → asked h string buffer s ≡ unmoved (replyOf h [] buffer) s
+  unfolding asked granted askedTests firstFailing
+  asked-nowhere g = rw (g .0, g .1)

@@ -10,19 +10,19 @@ use Rattle.rules.proofs.RightsLaws.{rights}
 use Rattle.rules.proofs.ListLaws.{claim}
 use Rattle.rules.proofs.DebuggerLaws.{debuggers}
 use Rattle.rules.proofs.OutsiderLaws.{outsider}
-use Rattle.gateway.specs.Demands.{Did, Done, Demands}
+use Rattle.gateway.specs.Demands.{DidStep, Done, Demands}
 
-did-after : (s : State) (c : Call) (e : Entry) → Did s c e → e .after ≡ step s c .after
+did-after : (s : State) (c : Call) (e : Entry) → DidStep s c e → e .after ≡ step s c .after
 did-after s c e d =
     let same : e .after ≡ record { gateway = step s c .after .gateway; memory = step s c .after .memory } = rw (← d .gateway, ← d .memory) in
     same
 
-did-answer : (s : State) (c : Call) (e : Entry) → Did s c e → e .answer ≡ step s c .answer
+did-answer : (s : State) (c : Call) (e : Entry) → DidStep s c e → e .answer ≡ step s c .answer
 did-answer s c e d =
     let same : e .answer ≡ record { outcome = step s c .answer .outcome; buffer = step s c .answer .buffer } = rw (← d .outcome, ← d .buffer) in
     same
 
-did-entry : (s : State) (c : Call) (e : Entry) → Did s c e → e ≡ entry s c
+did-entry : (s : State) (c : Call) (e : Entry) → DidStep s c e → e ≡ entry s c
 did-entry s c e d = rw (← did-answer s c e d, ← did-after s c e d, ← d .call)
 
 done-run : (s : State) (l : List Call) (es : List Entry) → Done s l es → es ≡ run s l

@@ -1,7 +1,9 @@
--- Laws that the proofs of this crate, and of the one above it, cite.
+-- Laws that the proofs of this crate, and of those above it, cite.
 pub mod PartLaws
 pub mod StageLaws
 pub mod AskedLaws
 pub mod ReportLaws
+pub mod LentLaws
+pub mod FinishLaws
 pub mod LengthLaws
 pub mod DemandLaws

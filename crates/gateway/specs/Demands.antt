@@ -11,7 +11,7 @@ use Rattle.rules.specs.Isolation.{Isolation}
 use Rattle.rules.specs.Outsider.{Outsiders}
 
 -- one call with what it answered and left, as the contracts of `request` and `report` fix it, part by part
-pub record Did (s : State) (c : Call) (e : Entry) : Type 0 where
+pub record DidStep (s : State) (c : Call) (e : Entry) : Type 0 where
   pub call : e .call ≡ c
   pub outcome : e .answer .outcome ≡ step s c .answer .outcome
   pub buffer : e .answer .buffer ≡ step s c .answer .buffer
@@ -23,7 +23,7 @@ unfoldable pub Done : State → List Call → List Entry → Type 0
 Done s [] [] = Unit {0}
 Done s [] (e ∷ es) = ⊥
 Done s (c ∷ cs) [] = ⊥
-Done s (c ∷ cs) (e ∷ es) = Did s c e × Done (e .after) cs es
+Done s (c ∷ cs) (e ∷ es) = DidStep s c e × Done (e .after) cs es
 
 -- the demands hold of the calls of this crate
 pub record Demands : Type 0 where

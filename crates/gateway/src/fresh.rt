@@ -1,11 +1,17 @@
-// A fresh start.
+// The state at a fresh start.
+use format::Outcome;
+use image::put_state;
 use state::Gateway;
 ghost use mathlib.Core.Path.{_≡_};
-ghost use Rattle.state.specs.Gateway.{freshStart};
+ghost use Rattle.gateway.specs.Called.{started, startOn};
 
-// The given processes are there, running, with no host and a zero vector; every other record is cleared. Memory is as lent.
-pub fn fresh_start(there: [bool; 8]) -> Gateway
-    ensures { λ r. ⌜ r ≡ freshStart there ⌝ }
+// Writes the state in which the given processes are there.
+pub fn fresh_start(there: [bool; 8], state: &mut [u8]) -> Outcome
+    ensures { λ r. ⌜ started r (now (state .exit)) ≡ startOn there (now (state .entry)) ⌝ }
 {
-    Gateway::fresh_start(there)
+    if state.len() != 680 {
+        return Outcome::Refused(1);
+    }
+    put_state(Gateway::fresh_start(there), state);
+    Outcome::Granted(0)
 }

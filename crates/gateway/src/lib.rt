@@ -1,15 +1,15 @@
-// The gateway: what answers the requests of the network and the reports of the machine.
-mod answered;
+// The gateway: what answers the requests of the network and the reports of the machine. Its state is a lent buffer of 680 bytes: a call
+// tests them where they lie, reads the one process that it goes to, and writes that one back.
+mod checks;
 mod fresh;
-mod lent;
-mod recipient;
+mod kept;
+mod lengths;
 mod reports;
 mod requests;
 pub mod theorems;
 
-pub use answered::Answered;
-pub use answered::notice_length;
-pub use answered::reply_length;
 pub use fresh::fresh_start;
+pub use lengths::notice_length;
+pub use lengths::reply_length;
 pub use reports::report;
 pub use requests::request;

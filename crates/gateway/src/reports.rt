@@ -1,83 +1,70 @@
 // A machine report, with the buffer for its notice.
-use crate::answered::Answered;
-use crate::lent::lent_number;
+use crate::checks::check_buffers_and_state;
+use crate::kept::keep;
 use format::Outcome;
-use service::report_at;
-use service::report_away;
-use state::Gateway;
+use image::read_process_at;
+use service::check_report;
+use service::report_for_process;
 use state::start;
 ghost use mathlib.Core.Path.{_≡_};
 ghost use Rattle.rules.specs.Tests.{lent};
-ghost use Rattle.rules.specs.Step.{noted};
+ghost use Rattle.rules.specs.Step.{report, noted};
 ghost use Rattle.service.specs.At.{reportAway};
-ghost use Rattle.gateway.specs.Stage.{lentNumber};
+ghost use Rattle.image.specs.Form.{stateOf};
+ghost use Rattle.gateway.specs.Called.{called, lentOn, finished, Did};
 
 // A report about a process with a number under 8.
-fn report_process(
-    state: Gateway,
+fn report_known(
+    state: &mut [u8],
     memory: &mut [u8],
-    process: u8,
+    pid: u8,
     kind: u8,
     reason: u16,
     words: [u16; 9],
     notice: &mut [u8],
-) -> Answered
-    requires { ⌜ lentNumber (lent state (now memory)) (now notice) ≡ 0 ⌝ }
-    requires { ⌜ reportAway process kind reason ≡ 0 ⌝ }
-    ensures { λ r. ⌜ r .outcome ≡ noted process kind reason words (now (notice .entry)) (lent state (now (memory .entry))) .answer .outcome ⌝ }
-    ensures { λ r. ⌜ r .state ≡ noted process kind reason words (now (notice .entry)) (lent state (now (memory .entry))) .after .gateway ⌝ }
-    ensures { λ _. ⌜ now (memory .exit) ≡ noted process kind reason words (now (notice .entry)) (lent state (now (memory .entry))) .after .memory ⌝ }
-    ensures { λ _. ⌜ now (notice .exit) ≡ noted process kind reason words (now (notice .entry)) (lent state (now (memory .entry))) .answer .buffer ⌝ }
+) -> Outcome
+    requires { ⌜ lentOn (now state) (now memory) (now notice) ≡ 0 ⌝ }
+    requires { ⌜ reportAway pid kind reason ≡ 0 ⌝ }
+    ensures { λ r. ⌜ called r (now (state .exit)) (now (memory .exit)) (now (notice .exit)) ≡ finished (now (state .entry)) (noted pid kind reason words (now (notice .entry)) (lent (stateOf (now (state .entry))) (now (memory .entry)))) ⌝ }
 {
-    let pid = process as usize;
-    let p = state.process(pid);
-    let start = start(pid);
+    let index = pid as usize;
+    let process = read_process_at(state, index);
+    let start = start(index);
     let end = start + 4096;
-    let served = report_at(
-        process,
+    let served = report_for_process(
+        pid,
         kind,
         reason,
         words,
-        p,
+        process,
         &mut memory[start..end],
         notice,
     );
     let outcome = served.outcome;
     let next = served.process;
-    Answered {
-        outcome: outcome,
-        state: state.with_process(pid, next),
-    }
+    keep(outcome, next, index, state);
+    outcome
 }
 
-// Any report is answered: outcome, state, memory and notice buffer are those of the rules.
+// Answers any report: outcome, state, memory and notice buffer are those of the rules.
 pub fn report(
-    state: Gateway,
+    state: &mut [u8],
     memory: &mut [u8],
-    process: u8,
+    pid: u8,
     kind: u8,
     reason: u16,
     words: [u16; 9],
     notice: &mut [u8],
-) -> Answered
-    ensures { λ r. ⌜ r .outcome ≡ noted process kind reason words (now (notice .entry)) (lent state (now (memory .entry))) .answer .outcome ⌝ }
-    ensures { λ r. ⌜ r .state ≡ noted process kind reason words (now (notice .entry)) (lent state (now (memory .entry))) .after .gateway ⌝ }
-    ensures { λ _. ⌜ now (memory .exit) ≡ noted process kind reason words (now (notice .entry)) (lent state (now (memory .entry))) .after .memory ⌝ }
-    ensures { λ _. ⌜ now (notice .exit) ≡ noted process kind reason words (now (notice .entry)) (lent state (now (memory .entry))) .answer .buffer ⌝ }
+) -> Outcome
+    ensures { λ r. ⌜ Did (now (state .entry)) (now (memory .entry)) (report pid kind reason words (now (notice .entry))) (called r (now (state .exit)) (now (memory .exit)) (now (notice .exit))) ⌝ }
 {
-    let unfit = lent_number(state, memory, notice);
-    if unfit != 0 {
-        return Answered {
-            outcome: Outcome::Refused(unfit),
-            state: state,
-        };
+    let number = check_buffers_and_state(state, memory, notice);
+    if number != 0 {
+        return Outcome::Refused(number);
     }
-    let away = report_away(process, kind, reason);
-    if away != 0 {
-        return Answered {
-            outcome: Outcome::Refused(away),
-            state: state,
-        };
+    let bad = check_report(pid, kind, reason);
+    if bad != 0 {
+        return Outcome::Refused(bad);
     }
-    report_process(state, memory, process, kind, reason, words, notice)
+    report_known(state, memory, pid, kind, reason, words, notice)
 }

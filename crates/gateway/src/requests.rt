@@ -1,108 +1,117 @@
 // A request: any message, with the buffer for its reply.
-use crate::answered::Answered;
-use crate::lent::lent_number;
-use crate::recipient::target_of;
+use crate::checks::check_buffers_and_state;
+use crate::kept::keep;
 use format::Header;
 use format::Outcome;
-use format::Reading;
 use format::string;
+use image::lowest_absent;
+use image::read_process_at;
+use message::Incoming;
 use message::read_request;
-use service::answer_at;
-use service::answer_away;
-use state::Gateway;
+use ops::Form;
+use service::Target;
+use service::answer_create;
+use service::answer_for_process;
+use service::changes;
+use service::refuse;
+use service::reply_plain;
+use service::target_of;
 use state::start;
 ghost use mathlib.Core.Path.{_≡_};
-ghost use mathlib.Core.Bool.{true};
-ghost use Prim.Native.Nat.{_≤_, _<_};
+ghost use mathlib.Core.Bool.{true, false};
+ghost use mathlib.Core.List.{List};
+ghost use Prim.Native.Nat.{ℕ, _≤_, _<_};
 ghost use lib.ListN.{length};
 ghost use Rattle.format.specs.Layout.{stringOf};
 ghost use Rattle.ops.specs.Table.{requestForm};
 ghost use Rattle.message.specs.Exchange.{reads};
-ghost use Rattle.state.specs.Gateway.{soundTest};
-ghost use Rattle.state.specs.Gateway.{lowestAbsent};
+ghost use Rattle.message.specs.Incoming.{incoming};
+ghost use Rattle.message.specs.declared.request.Incoming.the-variants.{Request};
+ghost use Rattle.rules.specs.Rule.{names, creates};
 ghost use Rattle.rules.specs.Tests.{lent};
-ghost use Rattle.rules.specs.Step.{requested};
-ghost use Rattle.service.specs.Reply.{Answerable};
-ghost use Rattle.service.specs.At.{targetOf};
+ghost use Rattle.rules.specs.Step.{request};
+ghost use Rattle.image.specs.Form.{stateOf};
 ghost use Rattle.gateway.specs.Stage.{asked};
+ghost use Rattle.gateway.specs.Called.{called, lentOn, finished, Did};
 
-// A request that goes to process p.
-fn answer_process(
+// A request that names process pid.
+fn answer_named(
     h: Header,
-    p: usize,
-    state: Gateway,
+    pid: usize,
+    state: &mut [u8],
     memory: &mut [u8],
     string: &[u8],
     reply: &mut [u8],
-) -> Answered
-    requires { ⌜ (p ≡ targetOf h (lowestAbsent state)) × (p < 8) ⌝ }
-    requires { ⌜ (length (now memory) ≡ 32768) × (soundTest state ≡ true) ⌝ }
+) -> Outcome
+    requires { ⌜ (names (h .cmd) ≡ true) × (pid ≡ h .pid) × (pid < 8) ⌝ }
+    requires { ⌜ lentOn (now state) (now memory) (now reply) ≡ 0 ⌝ }
     requires { ⌜ length (now string) ≤ h .arg2 ⌝ }
-    requires { ⌜ Answerable h ⌝ }
-    requires { ⌜ 266 ≤ length (now reply) ⌝ }
-    ensures { λ r. ⌜ r .outcome ≡ asked h (now (string .entry)) (now (reply .entry)) (lent state (now (memory .entry))) .answer .outcome ⌝ }
-    ensures { λ r. ⌜ r .state ≡ asked h (now (string .entry)) (now (reply .entry)) (lent state (now (memory .entry))) .after .gateway ⌝ }
-    ensures { λ _. ⌜ now (memory .exit) ≡ asked h (now (string .entry)) (now (reply .entry)) (lent state (now (memory .entry))) .after .memory ⌝ }
-    ensures { λ _. ⌜ now (reply .exit) ≡ asked h (now (string .entry)) (now (reply .entry)) (lent state (now (memory .entry))) .answer .buffer ⌝ }
+    ensures { λ r. ⌜ called r (now (state .exit)) (now (memory .exit)) (now (reply .exit)) ≡ finished (now (state .entry)) (asked h (now (string .entry)) (now (reply .entry)) (lent (stateOf (now (state .entry))) (now (memory .entry)))) ⌝ }
 {
-    let process = state.process(p);
-    let start = start(p);
+    let process = read_process_at(state, pid);
+    let start = start(pid);
     let end = start + 4096;
-    let served = answer_at(h, p, process, &mut memory[start..end], string, reply);
+    let served = answer_for_process(h, process, &mut memory[start..end], string, reply);
     let outcome = served.outcome;
     let next = served.process;
-    Answered {
-        outcome: outcome,
-        state: state.with_process(p, next),
+    if changes(h.cmd) {
+        keep(outcome, next, pid, state);
     }
+    outcome
 }
 
-// A message that was read as a request.
+// CREATE: of the lowest absent process, or refused where all are there. A CREATE carries no string.
+fn answer_new(h: Header, state: &mut [u8], memory: &mut [u8], reply: &mut [u8]) -> Outcome
+    requires { ⌜ (names (h .cmd) ≡ false) × (creates (h .cmd) ≡ true) ⌝ }
+    requires { ⌜ lentOn (now state) (now memory) (now reply) ≡ 0 ⌝ }
+    ensures { λ r. ⌜ ((string : List ℕ) → called r (now (state .exit)) (now (memory .exit)) (now (reply .exit)) ≡ finished (now (state .entry)) (asked h string (now (reply .entry)) (lent (stateOf (now (state .entry))) (now (memory .entry))))) ⌝ }
+{
+    let pid = lowest_absent(state);
+    if 8 <= pid {
+        return refuse(h, 13, reply);
+    }
+    let start = start(pid);
+    let end = start + 4096;
+    let served = answer_create(h, pid, &mut memory[start..end], reply);
+    let outcome = served.outcome;
+    let next = served.process;
+    keep(outcome, next, pid, state);
+    outcome
+}
+
+// A message that was read as a request of this form.
 fn answer(
     h: Header,
-    state: Gateway,
+    form: Form,
+    state: &mut [u8],
     memory: &mut [u8],
     message: &[u8],
     reply: &mut [u8],
-) -> Answered
-    requires { ⌜ reads requestForm (now message) ≡ Reading.Message h ⌝ }
-    requires { ⌜ (length (now memory) ≡ 32768) × (soundTest state ≡ true) ⌝ }
-    requires { ⌜ 266 ≤ length (now reply) ⌝ }
-    ensures { λ r. ⌜ r .outcome ≡ asked h (stringOf (now (message .entry))) (now (reply .entry)) (lent state (now (memory .entry))) .answer .outcome ⌝ }
-    ensures { λ r. ⌜ r .state ≡ asked h (stringOf (now (message .entry))) (now (reply .entry)) (lent state (now (memory .entry))) .after .gateway ⌝ }
-    ensures { λ _. ⌜ now (memory .exit) ≡ asked h (stringOf (now (message .entry))) (now (reply .entry)) (lent state (now (memory .entry))) .after .memory ⌝ }
-    ensures { λ _. ⌜ now (reply .exit) ≡ asked h (stringOf (now (message .entry))) (now (reply .entry)) (lent state (now (memory .entry))) .answer .buffer ⌝ }
+) -> Outcome
+    requires { ⌜ Request h form ≡ incoming (reads requestForm (now message)) ⌝ }
+    requires { ⌜ lentOn (now state) (now memory) (now reply) ≡ 0 ⌝ }
+    ensures { λ r. ⌜ called r (now (state .exit)) (now (memory .exit)) (now (reply .exit)) ≡ finished (now (state .entry)) (asked h (stringOf (now (message .entry))) (now (reply .entry)) (lent (stateOf (now (state .entry))) (now (memory .entry)))) ⌝ }
 {
-    let p = target_of(h, state);
-    if p < 8 {
-        return answer_process(h, p, state, memory, string(message), reply);
-    }
-    Answered {
-        outcome: answer_away(h, reply),
-        state: state,
+    let target = target_of(form, h);
+    match target {
+        Target::Named(pid) => answer_named(h, pid, state, memory, string(message), reply),
+        Target::OutOfRange => refuse(h, 7, reply),
+        Target::New => answer_new(h, state, memory, reply),
+        Target::Nowhere => reply_plain(h, reply),
     }
 }
 
-// Any bytes are answered: outcome, state, memory and reply buffer are those of the rules.
-pub fn request(state: Gateway, memory: &mut [u8], message: &[u8], reply: &mut [u8]) -> Answered
-    ensures { λ r. ⌜ r .outcome ≡ requested (now (message .entry)) (now (reply .entry)) (lent state (now (memory .entry))) .answer .outcome ⌝ }
-    ensures { λ r. ⌜ r .state ≡ requested (now (message .entry)) (now (reply .entry)) (lent state (now (memory .entry))) .after .gateway ⌝ }
-    ensures { λ _. ⌜ now (memory .exit) ≡ requested (now (message .entry)) (now (reply .entry)) (lent state (now (memory .entry))) .after .memory ⌝ }
-    ensures { λ _. ⌜ now (reply .exit) ≡ requested (now (message .entry)) (now (reply .entry)) (lent state (now (memory .entry))) .answer .buffer ⌝ }
+// Answers any bytes: outcome, state, memory and reply buffer are those of the rules.
+pub fn request(state: &mut [u8], memory: &mut [u8], message: &[u8], reply: &mut [u8]) -> Outcome
+    ensures { λ r. ⌜ Did (now (state .entry)) (now (memory .entry)) (request (now (message .entry)) (now (reply .entry))) (called r (now (state .exit)) (now (memory .exit)) (now (reply .exit))) ⌝ }
 {
-    let number = lent_number(state, memory, reply);
+    let number = check_buffers_and_state(state, memory, reply);
     if number != 0 {
-        return Answered {
-            outcome: Outcome::Refused(number),
-            state: state,
-        };
+        return Outcome::Refused(number);
     }
-    let reading = read_request(message);
-    match reading {
-        Reading::Message(h) => answer(h, state, memory, message, reply),
-        Reading::Refused(n) => Answered {
-            outcome: Outcome::Refused(n),
-            state: state,
-        },
+    let incoming = read_request(message);
+    match incoming {
+        Incoming::Request(h, form) => answer(h, form, state, memory, message, reply),
+        Incoming::Refused(n) => Outcome::Refused(n),
     }
 }

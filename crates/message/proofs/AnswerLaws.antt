@@ -14,21 +14,20 @@ use Rattle.lists.proofs.Bool.{&&-left, &&-right, &&-both, ||-left, ||-right}
 use Rattle.lists.proofs.Every.{every-getD}
 use Rattle.lists.proofs.Word.{length-lowFirst}
 use Rattle.format.specs.declared.header.Header.{Header}
-use Rattle.format.specs.declared.outcome.Outcome.the-variants.{Granted}
 use Rattle.format.specs.declared.outcome.Reading.the-variants.{Message}
 use Rattle.ops.specs.declared.table.Carried.the-variants.{Nothing, Counted, Vector}
 use Rattle.ops.specs.declared.table.Form.{Form}
 use Rattle.ops.specs.declared.table.Found.the-variants.{Known}
 use Rattle.ops.specs.declared.table.Op.{Op}
 use Rattle.ops.specs.declared.table.Row.the-variants.{Listed, Unlisted}
-use Rattle.format.specs.Outcome.{firstFailing}
+use Rattle.format.specs.Outcome.{outcome, firstFailing}
 use Rattle.ops.specs.Table.{bare, stopped, reason as reasoned, row, ops, op, asks, replies, rowOf, formOf, withoutString, requestForm, replyForm, cantForm, noticeForm, answerForm}
 use Rattle.format.specs.Layout.{headerOf, fixedRight}
 use Rattle.format.specs.Refusal.{usedOrZero, unusedZero, carriedLength, wrongLength, wrongHeader, unknown, misfits}
-use Rattle.message.specs.Exchange.{writeNumber, answered, readNumber, writes, heads, reads}
+use Rattle.message.specs.Exchange.{writeNumber, answered, readNumber, writes, sends, reads}
 use Rattle.format.specs.Answer.{cmdOver, cantOf, createdOf, noticeOf}
 use Rattle.message.specs.Granted.{Answers, AnswersGranted}
-use Rattle.format.proofs.OutcomeLaws.{outcome-zero, message-zero, message-header}
+use Rattle.format.proofs.OutcomeLaws.{message-zero, message-header}
 use Rattle.format.proofs.TestLaws.{Passed, zero-passed}
 
 -- what test 6 asks of a message of a known form
@@ -45,6 +44,11 @@ fits-number f h carried buffer room p =
     let enough : 10 ≤ 10 + carried = omega arith in
     let most : 10 + carried ≤ 266 = omega (arith, p .short) in
     rw (le-ltb (length buffer) 266 room, le-ltb _ _ enough, le-ltb _ _ most, ne-eqb (h .host) 0 (p .hosted), p .unused, ← p .size, eq-eqb (10 + carried) (10 + carried) refl)
+
+-- a writer whose tests all pass sends its message
+pub writes-sends : (h : Header) (string buffer : List ℕ) → writeNumber (answerForm (h .cmd)) h (length string) buffer ≡ 0 → writes answerForm h string buffer ≡ sends h string buffer
+unfolding writes answered sends outcome
+writes-sends h string buffer e = rw e
 
 -- what a reader of requests found: a host, a CMD of the table, and no unused field that is not zero
 pub record Asked (h : Header) : Type 0 where
@@ -157,32 +161,32 @@ module _ (h : Header) (buffer : List ℕ) (a : Asked h) (room : 266 ≤ length b
       (fits-number (replies (op (h .cmd))) h carried buffer room
       (record { hosted = a .hosted; unused = reply-unused; size = size; short = short }))
 
-  reply : replies (op (h .cmd)) .carried ≡ Nothing → writes answerForm h [] buffer .outcome ≡ Granted 10
-  unfolding writes answered carriedLength
-  reply e = sym (outcome-zero _ 10 (replied 0 (rw e) (omega arith)))
+  reply : replies (op (h .cmd)) .carried ≡ Nothing → writes answerForm h [] buffer ≡ sends h [] buffer
+  unfolding carriedLength
+  reply e = writes-sends h [] buffer (replied 0 (rw e) (omega arith))
 
-  contents : replies (op (h .cmd)) .carried ≡ Counted → h .arg2 ≤ 256 → heads answerForm h (h .arg2) buffer .outcome ≡ Granted (10 + h .arg2)
-  unfolding heads answered carriedLength
-  contents e short = sym (outcome-zero _ (10 + h .arg2) (replied (h .arg2) (rw e) short))
+  contents : (string : List ℕ) → replies (op (h .cmd)) .carried ≡ Counted → length string ≡ h .arg2 → h .arg2 ≤ 256 → writes answerForm h string buffer ≡ sends h string buffer
+  unfolding carriedLength
+  contents string e size short = writes-sends h string buffer (rw size (replied (h .arg2) (rw e) short))
 
   created : (pid : ℕ) → replies (op (h .cmd)) .pid ≡ true → replies (op (h .cmd)) .carried ≡ Nothing
-      → writes answerForm (createdOf h pid) [] buffer .outcome ≡ Granted 10
-  unfolding writes answered carriedLength createdOf
+      → writes answerForm (createdOf h pid) [] buffer ≡ sends (createdOf h pid) [] buffer
+  unfolding carriedLength createdOf
   created pid named e =
       let r = replies (op (h .cmd)) in
       let p : Fits r (createdOf h pid) 0 =
       record { hosted = a .hosted; unused = named-unused r h pid named reply-unused; size = rw e; short = omega arith } in
-      sym (outcome-zero _ 10 (rw (answerForm-reply (h .cmd) (a .known)) (fits-number r (createdOf h pid) 0 buffer room p)))
+      writes-sends (createdOf h pid) [] buffer (rw (answerForm-reply (h .cmd) (a .known)) (fits-number r (createdOf h pid) 0 buffer room p))
 
-  cant : (h .cmd ≡ 0 → ⊥) → writes answerForm (cantOf h) [] buffer .outcome ≡ Granted 10
-  unfolding writes answered carriedLength cantOf unusedZero
+  cant : (h .cmd ≡ 0 → ⊥) → writes answerForm (cantOf h) [] buffer ≡ sends (cantOf h) [] buffer
+  unfolding carriedLength cantOf unusedZero
   cant other =
       let f = withoutString (asks (op (h .cmd))) in
       let low : h .cmd < 128 = omega (arith, a .known) in
       let p : Fits f (cantOf h) 0 =
       record { hosted = a .hosted; unused = a .unused; size = refl; short = omega arith } in
       let known : answerForm (cantOf h .cmd) ≡ Known f = rw (lt-ltb (h .cmd) 128 low) (answerForm-cant (h .cmd) other (a .known)) in
-      sym (outcome-zero _ 10 (rw known (fits-number f (cantOf h) 0 buffer room p)))
+      writes-sends (cantOf h) [] buffer (rw known (fits-number f (cantOf h) 0 buffer room p))
 
   answers : Answers h buffer
   answers = record { reply = reply; created = created; contents = contents; cant = cant }
@@ -208,11 +212,11 @@ module _ (host pid reason : ℕ) (buffer : List ℕ) (hosted : host ≡ 0 → �
   by-kind (suc (suc (suc (suc k)))) l silent = absurd (omega arith)
 
 notice : (host kind pid reason : ℕ) (vector buffer : List ℕ) → (host ≡ 0 → ⊥) → kind < 4 → ((kind ≡ 0 → ⊥) → reason ≡ 0)
-    → length vector ≡ 9 → 266 ≤ length buffer → writes answerForm (noticeOf host kind pid reason) (lowFirst vector) buffer .outcome ≡ Granted 28
-unfolding writes answered noticeOf
+    → length vector ≡ 9 → 266 ≤ length buffer → writes answerForm (noticeOf host kind pid reason) (lowFirst vector) buffer ≡ sends (noticeOf host kind pid reason) (lowFirst vector) buffer
+unfolding noticeOf
 notice host kind pid reason vector buffer hosted low silent nine room =
     let size : length (lowFirst vector) ≡ 18 = length-lowFirst vector ∙ ap (λ (n : ℕ). 2 * n) nine in
-    rw size (sym (outcome-zero _ 28 (by-kind host pid reason buffer hosted room kind low silent)))
+    writes-sends (noticeOf host kind pid reason) (lowFirst vector) buffer (rw size (by-kind host pid reason buffer hosted room kind low silent))
 
 pub answers-granted : AnswersGranted
 answers-granted =

@@ -17,7 +17,7 @@ use Rattle.format.specs.declared.outcome.Reading.the-variants.{Message}
 use Rattle.format.specs.Outcome.{firstFailing}
 use Rattle.format.specs.Layout.{header, written, headerOf, stringOf, fixedRight}
 use Rattle.format.specs.Refusal.{layoutTests}
-use Rattle.message.specs.Exchange.{Forms, writeNumber, answered, readNumber, writes, heads, reads}
+use Rattle.message.specs.Exchange.{Forms, writeNumber, answered, readNumber, writes, reads}
 use Rattle.message.specs.RoundTrip.{ReadAs, WrittenAs, RoundTrip}
 use Rattle.format.proofs.OutcomeLaws.{granted-zero, granted-length, reading-zero, message-zero, message-header, rest-passes}
 use Rattle.format.proofs.TestLaws.{zero-passed, sized-between, headed-fixed}
@@ -47,20 +47,6 @@ module _ (forms : Forms) where
       let left : take n (writes forms h string buffer .buffer) ≡ written h string = rw (← laid, ← long) (take-overlay (written h string) buffer) in
       rw left (written-read h string (rest-passes 0 _ _ zero))
 
-  placed-is-read : (h : Header) (carried : ℕ) (buffer : List ℕ) (n : ℕ) → heads forms h carried buffer .outcome ≡ Granted n
-      → ReadAs forms (take n (heads forms h carried buffer .buffer)) h (take carried (drop 10 buffer))
-  unfolding heads writeNumber answered overlay written
-  placed-is-read h carried buffer n e =
-      let zero = granted-zero _ (10 + carried) n e in
-      let room = writeNumber-room (forms (h .cmd)) h carried buffer zero in
-      let string : List ℕ = take carried (drop 10 buffer) in
-      let short : carried ≤ length (drop 10 buffer) = simp length-drop (omega (arith, room .buffer-long, room .string-short)) in
-      let size : length string ≡ carried = length-take-le carried (drop 10 buffer) short in
-      let laid = answered-granted _ carried (header h) buffer zero .1 in
-      let left : take n (heads forms h carried buffer .buffer) ≡ written h string =
-      rw (← laid, ← granted-length _ (10 + carried) n e) (take-append-add (header h) (drop 10 buffer) carried) in
-      rw left (written-read h string (rw size (rest-passes 0 _ _ zero)))
-
   -- bytes whose number is 0 are the written form of their fields and string, and writing those is granted
   read-written : (m buffer : List ℕ) → Bytes m → 266 ≤ length buffer → readNumber (forms (headerOf m .cmd)) m ≡ 0
       → WrittenAs forms (headerOf m) (stringOf m) buffer m
@@ -87,4 +73,4 @@ module _ (forms : Forms) where
 
   pub round-trip : RoundTrip forms
   round-trip =
-      record { written-is-read = written-is-read; placed-is-read = placed-is-read; read-is-written = read-is-written }
+      record { written-is-read = written-is-read; read-is-written = read-is-written }

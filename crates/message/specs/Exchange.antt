@@ -7,6 +7,7 @@ use lib.Dec.{ltb, eqb}
 use Rattle.lists.specs.Buffer.{overlay}
 use Rattle.format.specs.declared.header.Header.{Header}
 use Rattle.format.specs.declared.outcome.Outcome.{Outcome}
+use Rattle.format.specs.declared.outcome.Outcome.the-variants.{Granted}
 use Rattle.format.specs.declared.outcome.Reading.{Reading}
 use Rattle.ops.specs.declared.table.Found.{Found}
 use Rattle.format.specs.Outcome.{outcome, reading, test, firstFailing}
@@ -17,6 +18,10 @@ use Rattle.format.specs.Refusal.{layoutTests}
 pub record Written : Type 0 where
   pub outcome : Outcome
   pub buffer : List ℕ
+
+-- the two together
+abbrev pub wrote : Outcome → List ℕ → Written
+wrote o buffer = record { outcome = o; buffer = buffer }
 
 -- 'The desk writer uses 1 (output buffer under 266), 3, 4, 5, 6': the first that fails for a string of this length
 unfoldable pub writeNumber : Found → Header → ℕ → List ℕ → ℕ
@@ -30,10 +35,6 @@ answered number carried bytes buffer =
       outcome = outcome number (10 + carried);
       buffer = cond (eqb number 0) (overlay bytes buffer) buffer;
     }
-
--- a message whose string stands behind the tenth byte of the buffer already: only its header is written
-abbrev pub headAs : Found → Header → ℕ → List ℕ → Written
-headAs found h carried buffer = answered (writeNumber found h carried buffer) carried (header h) buffer
 
 -- a message of this form
 abbrev pub writeAs : Found → Header → List ℕ → List ℕ → Written
@@ -55,9 +56,13 @@ Forms = ℕ → Found
 unfoldable pub writes : Forms → Header → List ℕ → List ℕ → Written
 writes forms h string buffer = writeAs (forms (h .cmd)) h string buffer
 
--- the same where the string stands in the buffer already
-unfoldable pub heads : Forms → Header → ℕ → List ℕ → Written
-heads forms h carried buffer = headAs (forms (h .cmd)) h carried buffer
+-- an answer of the gateway goes to the start of the buffer, with no test
+unfoldable pub sends : Header → List ℕ → List ℕ → Written
+sends h string buffer = wrote (Granted (10 + length string)) (overlay (written h string) buffer)
+
+-- the same where a string of this length stands after the tenth byte of the buffer already
+unfoldable pub sendsHead : Header → ℕ → List ℕ → Written
+sendsHead h carried buffer = wrote (Granted (10 + carried)) (overlay (header h) buffer)
 
 -- what reading any bytes finds
 unfoldable pub reads : Forms → List ℕ → Reading

@@ -1,29 +1,29 @@
--- The gateway's answers pass the tests of their own writers: to every request that was read there is a reply and a CAN'T, and a
--- notice for every report that passes test 14.
+-- The gateway's answers pass every test of a writer, so that it writes them with none: to every request that was read there is a reply and a
+-- CAN'T, and a notice for every report that passes test 14.
 use mathlib.Core.Path.{_≡_}
 use mathlib.Core.Bool.{true}
 use mathlib.Core.List.{List, []}
-use Prim.Native.Nat.{ℕ, _+_, _<_, _≤_}
+use Prim.Native.Nat.{ℕ, _<_, _≤_}
 use lib.ListN.{length}
 use Rattle.lists.specs.Word.{lowFirst}
 use Rattle.format.specs.declared.header.Header.{Header}
-use Rattle.format.specs.declared.outcome.Outcome.the-variants.{Granted}
 use Rattle.format.specs.declared.outcome.Reading.the-variants.{Message}
 use Rattle.ops.specs.declared.table.Carried.the-variants.{Nothing, Counted}
 use Rattle.ops.specs.Table.{op, replies, requestForm, answerForm}
-use Rattle.message.specs.Exchange.{writes, heads, reads}
+use Rattle.message.specs.Exchange.{writes, sends, reads}
 use Rattle.format.specs.Answer.{cantOf, createdOf, noticeOf}
 
--- every answer to a request with these fields is granted, in a buffer with room
+-- what the gateway sends in answer to a request with these fields is what a writer with all its tests writes, in a buffer with room
 pub record Answers (h : Header) (buffer : List ℕ) : Type 0 where
-  pub reply : replies (op (h .cmd)) .carried ≡ Nothing → writes answerForm h [] buffer .outcome ≡ Granted 10
+  pub reply : replies (op (h .cmd)) .carried ≡ Nothing → writes answerForm h [] buffer ≡ sends h [] buffer
   pub created : (pid : ℕ) → replies (op (h .cmd)) .pid ≡ true → replies (op (h .cmd)) .carried ≡ Nothing
-      → writes answerForm (createdOf h pid) [] buffer .outcome ≡ Granted 10
-  pub contents : replies (op (h .cmd)) .carried ≡ Counted → h .arg2 ≤ 256 → heads answerForm h (h .arg2) buffer .outcome ≡ Granted (10 + h .arg2)
-  pub cant : (h .cmd ≡ 0 → ⊥) → writes answerForm (cantOf h) [] buffer .outcome ≡ Granted 10
+      → writes answerForm (createdOf h pid) [] buffer ≡ sends (createdOf h pid) [] buffer
+  pub contents : (string : List ℕ) → replies (op (h .cmd)) .carried ≡ Counted → length string ≡ h .arg2 → h .arg2 ≤ 256
+      → writes answerForm h string buffer ≡ sends h string buffer
+  pub cant : (h .cmd ≡ 0 → ⊥) → writes answerForm (cantOf h) [] buffer ≡ sends (cantOf h) [] buffer
 
--- the answers to every request that was read, and the notice of every report of a known kind, are granted
+-- the answers to every request that was read, and the notice of every report of a known kind, pass every test
 pub record AnswersGranted : Type 0 where
   pub answers : (m : List ℕ) (h : Header) (buffer : List ℕ) → reads requestForm m ≡ Message h → 266 ≤ length buffer → Answers h buffer
   pub notice : (host kind pid reason : ℕ) (vector buffer : List ℕ) → (host ≡ 0 → ⊥) → kind < 4 → ((kind ≡ 0 → ⊥) → reason ≡ 0)
-      → length vector ≡ 9 → 266 ≤ length buffer → writes answerForm (noticeOf host kind pid reason) (lowFirst vector) buffer .outcome ≡ Granted 28
+      → length vector ≡ 9 → 266 ≤ length buffer → writes answerForm (noticeOf host kind pid reason) (lowFirst vector) buffer ≡ sends (noticeOf host kind pid reason) (lowFirst vector) buffer

@@ -8,7 +8,7 @@ use Rattle.format.specs.declared.header.Header.{Header}
 use Rattle.format.specs.declared.outcome.Outcome.the-variants.{Granted}
 use Rattle.format.specs.declared.outcome.Reading.the-variants.{Message}
 use Rattle.format.specs.Layout.{stringOf}
-use Rattle.message.specs.Exchange.{Forms, writes, heads, reads}
+use Rattle.message.specs.Exchange.{Forms, writes, reads}
 
 -- the message that a writer left in its buffer is read as these fields and this string
 pub record ReadAs (forms : Forms) (m : List ℕ) (h : Header) (string : List ℕ) : Type 0 where
@@ -21,11 +21,8 @@ pub record WrittenAs (forms : Forms) (h : Header) (string buffer m : List ℕ) :
   pub bytes : take (length m) (writes forms h string buffer .buffer) ≡ m
 
 -- Writing a message and reading it gives it back, and only its written form is read as it.
--- A string that stood in the buffer already counts as written.
 pub record RoundTrip (forms : Forms) : Type 0 where
   pub written-is-read : (h : Header) (string buffer : List ℕ) (n : ℕ) → writes forms h string buffer .outcome ≡ Granted n
       → ReadAs forms (take n (writes forms h string buffer .buffer)) h string
-  pub placed-is-read : (h : Header) (carried : ℕ) (buffer : List ℕ) (n : ℕ) → heads forms h carried buffer .outcome ≡ Granted n
-      → ReadAs forms (take n (heads forms h carried buffer .buffer)) h (take carried (drop 10 buffer))
   pub read-is-written : (m : List ℕ) (h : Header) (buffer : List ℕ) → Bytes m → 266 ≤ length buffer → reads forms m ≡ Message h
       → WrittenAs forms h (stringOf m) buffer m

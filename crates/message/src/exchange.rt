@@ -10,7 +10,7 @@ ghost use mathlib.Core.Path.{_≡_};
 ghost use Prim.Native.Nat.{_≤_};
 ghost use lib.ListN.{length};
 ghost use Rattle.format.specs.Layout.{headerOf};
-ghost use Rattle.message.specs.Exchange.{writeNumber, headAs, writeAs, readAs};
+ghost use Rattle.message.specs.Exchange.{writeNumber, writeAs, readAs};
 
 // The number of the first of a writer's tests that fails, or 0, for a string of this length.
 fn write_number(found: Found, h: Header, carried: usize, buffer: &[u8]) -> u8
@@ -23,19 +23,6 @@ fn write_number(found: Found, h: Header, carried: usize, buffer: &[u8]) -> u8
         return 3;
     }
     layout_number(true, found, h, 10 + carried)
-}
-
-// The header of a message whose string, of this length, stands behind the tenth byte already.
-pub(crate) fn write_head(found: Found, h: Header, carried: usize, buffer: &mut [u8]) -> Outcome
-    ensures { λ r. ⌜ r ≡ headAs found h carried (now (buffer .entry)) .outcome ⌝ }
-    ensures { λ _. ⌜ now (buffer .exit) ≡ headAs found h carried (now (buffer .entry)) .buffer ⌝ }
-{
-    let number = write_number(found, h, carried, buffer);
-    if number != 0 {
-        return Outcome::Refused(number);
-    }
-    h.put(buffer);
-    Outcome::Granted(10 + carried)
 }
 
 // A message: its header, and its string behind it.

@@ -5,10 +5,9 @@ mod request;
 pub mod theorems;
 
 pub use answer::read_answer;
-pub use answer::write_cant;
 pub use answer::write_contents;
-pub use answer::write_created;
 pub use answer::write_notice;
 pub use answer::write_reply;
+pub use request::Incoming;
 pub use request::read_request;
 pub use request::write_request;

@@ -1,13 +1,16 @@
 // Requests: the desk writes them, the gateway reads them.
-use crate::exchange::read;
 use crate::exchange::write;
 use format::Header;
 use format::Outcome;
-use format::Reading;
+use format::fixed_right;
+use format::layout_number;
+use ops::Form;
+use ops::Found;
 use ops::request_form;
 ghost use mathlib.Core.Path.{_≡_};
 ghost use Rattle.ops.specs.Table.{requestForm};
 ghost use Rattle.message.specs.Exchange.{writes, reads};
+ghost use Rattle.message.specs.Incoming.{incoming};
 
 // The desk writes a request with this string, by the tests 1, 3, 4, 5, 6.
 pub fn write_request(h: Header, string: &[u8], buffer: &mut [u8]) -> Outcome
@@ -17,13 +20,27 @@ pub fn write_request(h: Header, string: &[u8], buffer: &mut [u8]) -> Outcome
     write(request_form(h.cmd), h, string, buffer)
 }
 
-// The gateway reads any bytes as a request, by the tests 3 to 6.
-pub fn read_request(message: &[u8]) -> Reading
-    ensures { λ r. ⌜ r ≡ reads requestForm (now (message .entry)) ⌝ }
+// What the gateway finds in any bytes: a request, with the form of its op code, or the number of the first test that failed.
+pub enum Incoming {
+    Request(Header, Form),
+    Refused(u8),
+}
+
+// The gateway reads any bytes as a request, by the tests 3 to 6. The form of the op code is found here, and handed on.
+pub fn read_request(message: &[u8]) -> Incoming
+    ensures { λ r. ⌜ r ≡ incoming (reads requestForm (now (message .entry))) ⌝ }
 {
     if message.len() < 10 {
-        return Reading::Refused(3);
+        return Incoming::Refused(3);
     }
     let h = Header::of(message);
-    read(request_form(h.cmd), h, message)
+    let found = request_form(h.cmd);
+    let number = layout_number(fixed_right(message), found, h, message.len());
+    if number != 0 {
+        return Incoming::Refused(number);
+    }
+    match found {
+        Found::Known(form) => Incoming::Request(h, form),
+        Found::Unknown => Incoming::Refused(5),
+    }
 }

@@ -1,5 +1,4 @@
 -- Laws that the proofs of this crate, and of those above it, cite.
 pub mod EffectLaws
 pub mod ReplyLaws
-pub mod NoticeLaws
 pub mod AtLaws

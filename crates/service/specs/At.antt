@@ -6,58 +6,67 @@ use lib.Dec.{eqb, ltb}
 use Rattle.lists.specs.Buffer.{overlay}
 use Rattle.lists.specs.Word.{lowFirst}
 use Rattle.format.specs.declared.header.Header.{Header}
+use Rattle.format.specs.declared.outcome.Outcome.{Outcome}
 use Rattle.format.specs.declared.outcome.Outcome.the-variants.{Granted, Refused}
 use Rattle.format.specs.Outcome.{test, firstFailing}
 use Rattle.format.specs.Layout.{written}
 use Rattle.format.specs.Answer.{cantOf, createdOf, noticeOf}
 use Rattle.process.specs.declared.record.Process.{Process}
-use Rattle.process.specs.Local.{Local}
+use Rattle.process.specs.Local.{Local, local}
 use Rattle.process.specs.Request.{created}
 use Rattle.process.specs.Report.{accepts, recorded, passes, reported}
-use Rattle.rules.specs.Rule.{ruleOf, names, creates}
+use Rattle.rules.specs.Rule.{ruleOf, creates}
 use Rattle.rules.specs.Tests.{badReport}
 use Rattle.rules.specs.Step.{Answer, replyOf}
 use Rattle.tasks.specs.Task.{processTests}
+use Rattle.ops.specs.declared.table.Form.{Form}
+use Rattle.service.specs.declared.target.Target.{Target}
+use Rattle.service.specs.declared.target.Target.the-variants.{Named, OutOfRange, New, Nowhere}
 
 -- what is answered, and the process with its bytes after it
 pub record Left : Type 0 where
   pub answer : Answer
   pub left : Local
 
+-- the two together
+abbrev pub leaving : Answer → Local → Left
+leaving a l = record { answer = a; left = l }
+
+-- an outcome, and the output buffer after it
+abbrev pub answer : Outcome → List ℕ → Answer
+answer o buffer = record { outcome = o; buffer = buffer }
+
+-- what a call at one process answered and left: its outcome, the record and the bytes of the process, the output buffer
+abbrev pub served : Outcome → Process → List ℕ → List ℕ → Left
+served o p bytes buffer = leaving (answer o buffer) (local p bytes)
+
 -- ---- requests
 
--- the process that a request names, or 8 where it names none or the 'number over 7'
-unfoldable pub namedOf : Header → ℕ
-namedOf h = cond (names (h .cmd) && ltb (h .pid) 8) (h .pid) 8
+-- where a request goes, by the form of its op code: to the process that it names, to none where that is a 'number over 7', to a new one for
+-- CREATE, or to none for NOP
+unfoldable pub targetOf : Form → Header → Target
+targetOf form h = cond (form .pid) (cond (ltb (h .pid) 8) (Named (h .pid)) OutOfRange) (cond (creates (h .cmd)) New Nowhere)
 
--- the process that a request goes to, or 8 where there is none; CREATE goes to the lowest absent one
-unfoldable pub targetOf : Header → ℕ → ℕ
-targetOf h absent = cond (creates (h .cmd)) absent (namedOf h)
-
--- refused by this number, and the CAN'T is laid over the start of the reply buffer
-abbrev pub cantBy : ℕ → Header → List ℕ → Answer
-cantBy number h buffer = record { outcome = Refused number; buffer = overlay (written (cantOf h) []) buffer }
-
--- a request that goes to no process: refused by 13 or 7, or NOP
-unfoldable pub awayAnswer : Header → List ℕ → Answer
-awayAnswer h buffer = cond (creates (h .cmd)) (cantBy 13 h buffer) (cond (names (h .cmd)) (cantBy 7 h buffer) (replyOf h [] buffer))
+-- refused with this number, and the CAN'T is laid over the start of the reply buffer
+unfoldable pub cantBy : ℕ → Header → List ℕ → Answer
+cantBy number h buffer = answer (Refused number) (overlay (written (cantOf h) []) buffer)
 
 -- a request to the process that it names, by the number of its tests
 unfoldable pub namedBy : ℕ → Header → List ℕ → List ℕ → Local → Left
-namedBy zero h string buffer l = record { answer = replyOf h (ruleOf (h .cmd) .shown h l) buffer; left = ruleOf (h .cmd) .effect h string l }
-namedBy (suc n) h string buffer l = record { answer = cantBy (suc n) h buffer; left = l }
+namedBy zero h string buffer l = leaving (replyOf h (ruleOf (h .cmd) .shown h l) buffer) (ruleOf (h .cmd) .effect h string l)
+namedBy (suc n) h string buffer l = leaving (cantBy (suc n) h buffer) l
 
 -- the same by its tests 7 to 12
-abbrev pub namedAt : Header → List ℕ → List ℕ → Local → Left
+unfoldable pub namedAt : Header → List ℕ → List ℕ → Local → Left
 namedAt h string buffer l = namedBy (firstFailing (processTests h (l .process))) h string buffer l
 
--- CREATE, of process p
-abbrev pub createdAt : ℕ → Header → List ℕ → Left
-createdAt p h buffer = record { answer = replyOf (createdOf h p) [] buffer; left = created (h .host) }
+-- a granted request of this op code may change its process; EXAMINE does not
+unfoldable pub changes : ℕ → Bool
+changes cmd = not (eqb cmd 6)
 
--- a request that goes to process p
-unfoldable pub requestAt : ℕ → Header → List ℕ → List ℕ → Local → Left
-requestAt p h string buffer l = cond (creates (h .cmd)) (createdAt p h buffer) (namedAt h string buffer l)
+-- CREATE, of process p
+unfoldable pub createdAt : ℕ → Header → List ℕ → Left
+createdAt p h buffer = leaving (replyOf (createdOf h p) [] buffer) (created (h .host))
 
 -- ---- reports
 
@@ -69,15 +78,13 @@ reportAway p kind reason = firstFailing (test 14 (badReport kind reason) ∷ tes
 unfoldable pub noticeOr : ℕ → Bool → ℕ → ℕ → ℕ → List ℕ → List ℕ → Answer
 noticeOr host silent process kind reason words buffer =
     cond (not (eqb host 0) && not silent) (replyOf (noticeOf host kind process reason) (lowFirst words) buffer)
-    (record { outcome = Granted 0; buffer = buffer })
+    (answer (Granted 0) buffer)
 
 -- a report about process p, by the number of its tests; 'a refused one writes nothing at all'
 unfoldable pub reportBy : ℕ → ℕ → ℕ → ℕ → List ℕ → List ℕ → Local → Left
-reportBy zero p kind reason words buffer l = record {
-  answer = noticeOr (l .process .host) (passes kind (recorded words l .process)) p kind reason words buffer;
-  left = reported kind words l;
-}
-reportBy (suc n) p kind reason words buffer l = record { answer = record { outcome = Refused (suc n); buffer = buffer }; left = l }
+reportBy zero p kind reason words buffer l =
+    leaving (noticeOr (l .process .host) (passes kind (recorded words l .process)) p kind reason words buffer) (reported kind words l)
+reportBy (suc n) p kind reason words buffer l = leaving (answer (Refused (suc n)) buffer) l
 
 -- the tests 7 and 9 of a process whose number is under 8
 unfoldable pub reportNumberAt : ℕ → Process → ℕ

@@ -9,6 +9,14 @@ ghost use Rattle.process.specs.Local.{local, Tested};
 ghost use Rattle.rules.specs.Rule.{ruleOf};
 ghost use Rattle.rules.specs.Tests.{ruleTests};
 ghost use Rattle.tasks.specs.Task.{entryOf};
+ghost use Rattle.service.specs.At.{changes};
+
+// Whether a granted request of this op code may change its process; EXAMINE does not.
+pub fn changes(cmd: u8) -> bool
+    ensures { λ r. ⌜ r ≡ changes cmd ⌝ }
+{
+    cmd != 6
+}
 
 // One method of the process for each op code; k is the entry that BREAK or UNBREAK goes to.
 pub(crate) fn perform(h: Header, k: usize, p: Process, bytes: &mut [u8], string: &[u8]) -> Process

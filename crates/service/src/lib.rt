@@ -1,15 +1,18 @@
 // A request to one process, or a report about it: what its tests find, what it does, and what is answered.
 mod effect;
-mod passed;
-mod recipient;
 mod reply;
 mod report;
 mod request;
+mod served;
+mod target;
 
-pub use passed::Served;
-pub use recipient::creates;
-pub use recipient::named_of;
-pub use report::report_at;
-pub use report::report_away;
-pub use request::answer_at;
-pub use request::answer_away;
+pub use effect::changes;
+pub use reply::refuse;
+pub use reply::reply_plain;
+pub use report::check_report;
+pub use report::report_for_process;
+pub use request::answer_create;
+pub use request::answer_for_process;
+pub use served::Served;
+pub use target::Target;
+pub use target::target_of;

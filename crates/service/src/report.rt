@@ -1,15 +1,14 @@
 // A machine report, at the process that it is about.
-use crate::passed::Served;
+use crate::served::Served;
 use format::Outcome;
 use message::write_notice;
 use process::Process;
 ghost use mathlib.Core.Path.{_≡_};
-ghost use mathlib.Core.Bool.{false};
 ghost use Prim.Native.Nat.{_≤_};
 ghost use lib.ListN.{length};
 ghost use Rattle.process.specs.Local.{local, Tested};
 ghost use Rattle.rules.specs.Tests.{badReport};
-ghost use Rattle.service.specs.At.{reportAway, reportNumberAt, noticeOr, reportAt};
+ghost use Rattle.service.specs.At.{answer, served, reportAway, reportNumberAt, noticeOr, reportAt};
 
 // 14: the kind is over 3, or there is a reason with a kind that is not TRAP.
 fn bad_report(kind: u8, reason: u16) -> bool
@@ -25,7 +24,7 @@ fn bad_report(kind: u8, reason: u16) -> bool
 }
 
 // 14, or 7 where there is no process of this number, or 0.
-pub fn report_away(process: u8, kind: u8, reason: u16) -> u8
+pub fn check_report(process: u8, kind: u8, reason: u16) -> u8
     ensures { λ r. ⌜ r ≡ reportAway process kind reason ⌝ }
 {
     if bad_report(kind, reason) {
@@ -61,10 +60,8 @@ fn notify(
     words: [u16; 9],
     notice: &mut [u8],
 ) -> Outcome
-    requires { ⌜ badReport kind reason ≡ false ⌝ }
     requires { ⌜ 266 ≤ length (now notice) ⌝ }
-    ensures { λ r. ⌜ r ≡ noticeOr host silent process kind reason words (now (notice .entry)) .outcome ⌝ }
-    ensures { λ _. ⌜ now (notice .exit) ≡ noticeOr host silent process kind reason words (now (notice .entry)) .buffer ⌝ }
+    ensures { λ r. ⌜ answer r (now (notice .exit)) ≡ noticeOr host silent process kind reason words (now (notice .entry)) ⌝ }
 {
     if host == 0 {
         return Outcome::Granted(0);
@@ -76,7 +73,7 @@ fn notify(
 }
 
 // A report about a process, with its record and its bytes: its tests, what it does and its notice.
-pub fn report_at(
+pub fn report_for_process(
     process: u8,
     kind: u8,
     reason: u16,
@@ -85,13 +82,9 @@ pub fn report_at(
     bytes: &mut [u8],
     notice: &mut [u8],
 ) -> Served
-    requires { ⌜ badReport kind reason ≡ false ⌝ }
     requires { ⌜ Tested p (now bytes) ⌝ }
     requires { ⌜ 266 ≤ length (now notice) ⌝ }
-    ensures { λ r. ⌜ r .outcome ≡ reportAt process kind reason words (now (notice .entry)) (local p (now (bytes .entry))) .answer .outcome ⌝ }
-    ensures { λ r. ⌜ r .process ≡ reportAt process kind reason words (now (notice .entry)) (local p (now (bytes .entry))) .left .process ⌝ }
-    ensures { λ _. ⌜ now (bytes .exit) ≡ reportAt process kind reason words (now (notice .entry)) (local p (now (bytes .entry))) .left .bytes ⌝ }
-    ensures { λ _. ⌜ now (notice .exit) ≡ reportAt process kind reason words (now (notice .entry)) (local p (now (bytes .entry))) .answer .buffer ⌝ }
+    ensures { λ r. ⌜ served (r .outcome) (r .process) (now (bytes .exit)) (now (notice .exit)) ≡ reportAt process kind reason words (now (notice .entry)) (local p (now (bytes .entry))) ⌝ }
 {
     let number = report_number_at(p, kind);
     if number != 0 {

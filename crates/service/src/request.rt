@@ -1,119 +1,81 @@
 // A request that was read, at the process that it goes to.
-use crate::passed::Served;
-use crate::passed::serve;
-use crate::recipient::creates;
-use crate::recipient::names;
+use crate::effect::perform;
+use crate::reply::refuse;
+use crate::reply::reply_plain;
+use crate::reply::reply_to;
+use crate::served::Served;
 use format::Header;
-use format::Outcome;
-use message::write_cant;
-use message::write_created;
-use message::write_reply;
 use process::Process;
 use tasks::Task;
 use tasks::task_of;
 ghost use mathlib.Core.Path.{_≡_};
-ghost use mathlib.Core.Bool.{true, _||_};
 ghost use Prim.Native.Nat.{_≤_, _<_};
 ghost use lib.ListN.{length};
+ghost use Rattle.format.specs.Outcome.{firstFailing};
 ghost use Rattle.process.specs.Local.{local, Tested};
-ghost use Rattle.rules.specs.Rule.{names, creates};
-ghost use Rattle.service.specs.Reply.{Answerable};
-ghost use Rattle.service.specs.At.{cantBy, awayAnswer, namedAt, createdAt, requestAt};
+ghost use Rattle.rules.specs.Rule.{ruleOf};
+ghost use Rattle.rules.specs.Tests.{ruleTests};
+ghost use Rattle.tasks.specs.Task.{entryOf};
+ghost use Rattle.service.specs.At.{served, namedBy, namedAt, createdAt};
 
-// The CAN'T goes out, and nothing else is done.
-fn refuse(h: Header, number: u8, reply: &mut [u8]) -> Outcome
-    requires { ⌜ (h .cmd ≡ 0 → ⊥) ⌝ }
-    requires { ⌜ Answerable h ⌝ }
-    requires { ⌜ 266 ≤ length (now reply) ⌝ }
-    ensures { λ r. ⌜ r ≡ cantBy number h (now (reply .entry)) .outcome ⌝ }
-    ensures { λ _. ⌜ now (reply .exit) ≡ cantBy number h (now (reply .entry)) .buffer ⌝ }
-{
-    write_cant(h, reply);
-    Outcome::Refused(number)
-}
-
-// A request that goes to no process: refused, or NOP.
-pub fn answer_away(h: Header, reply: &mut [u8]) -> Outcome
-    requires { ⌜ Answerable h ⌝ }
-    requires { ⌜ 266 ≤ length (now reply) ⌝ }
-    ensures { λ r. ⌜ r ≡ awayAnswer h (now (reply .entry)) .outcome ⌝ }
-    ensures { λ _. ⌜ now (reply .exit) ≡ awayAnswer h (now (reply .entry)) .buffer ⌝ }
-{
-    let cmd = h.cmd;
-    if creates(cmd) {
-        return refuse(h, 13, reply);
-    }
-    if names(cmd) {
-        return refuse(h, 7, reply);
-    }
-    write_reply(h, reply)
-}
-
-// A request that names this process: its tests, what it does and its reply, or the CAN'T.
-fn answer_named(h: Header, p: Process, bytes: &mut [u8], string: &[u8], reply: &mut [u8]) -> Served
-    requires { ⌜ names (h .cmd) ≡ true ⌝ }
-    requires { ⌜ Tested p (now bytes) ⌝ }
-    requires { ⌜ length (now string) ≤ h .arg2 ⌝ }
-    requires { ⌜ Answerable h ⌝ }
-    requires { ⌜ 266 ≤ length (now reply) ⌝ }
-    ensures { λ r. ⌜ r .outcome ≡ namedAt h (now (string .entry)) (now (reply .entry)) (local p (now (bytes .entry))) .answer .outcome ⌝ }
-    ensures { λ r. ⌜ r .process ≡ namedAt h (now (string .entry)) (now (reply .entry)) (local p (now (bytes .entry))) .left .process ⌝ }
-    ensures { λ _. ⌜ now (bytes .exit) ≡ namedAt h (now (string .entry)) (now (reply .entry)) (local p (now (bytes .entry))) .left .bytes ⌝ }
-    ensures { λ _. ⌜ now (reply .exit) ≡ namedAt h (now (string .entry)) (now (reply .entry)) (local p (now (bytes .entry))) .answer .buffer ⌝ }
-{
-    let task = task_of(h, p);
-    match task {
-        Task::Change(k) => serve(h, k, p, bytes, string, reply),
-        Task::Refuse(number) => Served {
-            outcome: refuse(h, number, reply),
-            process: p,
-        },
-    }
-}
-
-// CREATE, of process p.
-fn answer_create(h: Header, p: usize, bytes: &mut [u8], reply: &mut [u8]) -> Served
-    requires { ⌜ creates (h .cmd) ≡ true ⌝ }
-    requires { ⌜ p < 8 ⌝ }
-    requires { ⌜ length (now bytes) ≡ 4096 ⌝ }
-    requires { ⌜ Answerable h ⌝ }
-    requires { ⌜ 266 ≤ length (now reply) ⌝ }
-    ensures { λ r. ⌜ r .outcome ≡ createdAt p h (now (reply .entry)) .answer .outcome ⌝ }
-    ensures { λ r. ⌜ r .process ≡ createdAt p h (now (reply .entry)) .left .process ⌝ }
-    ensures { λ _. ⌜ now (bytes .exit) ≡ createdAt p h (now (reply .entry)) .left .bytes ⌝ }
-    ensures { λ _. ⌜ now (reply .exit) ≡ createdAt p h (now (reply .entry)) .answer .buffer ⌝ }
-{
-    let process = Process::create(h.host, bytes);
-    let outcome = write_created(h, p as u8, reply);
-    Served {
-        outcome: outcome,
-        process: process,
-    }
-}
-
-// A request that goes to process p, with its record and its bytes.
-pub fn answer_at(
+// Writes the reply to a request whose tests have passed, and does what it asks for.
+fn grant(
     h: Header,
-    p: usize,
+    k: usize,
     process: Process,
     bytes: &mut [u8],
     string: &[u8],
     reply: &mut [u8],
 ) -> Served
-    requires { ⌜ creates (h .cmd) || names (h .cmd) ≡ true ⌝ }
-    requires { ⌜ p < 8 ⌝ }
+    requires { ⌜ Tested process (now bytes) ⌝ }
+    requires { ⌜ firstFailing (ruleTests (ruleOf (h .cmd)) h process) ≡ 0 ⌝ }
+    requires { ⌜ k ≡ entryOf (h .cmd) (h .arg1) process ⌝ }
+    requires { ⌜ length (now string) ≤ h .arg2 ⌝ }
+    requires { ⌜ 266 ≤ length (now reply) ⌝ }
+    ensures { λ r. ⌜ served (r .outcome) (r .process) (now (bytes .exit)) (now (reply .exit)) ≡ namedBy 0 h (now (string .entry)) (now (reply .entry)) (local process (now (bytes .entry))) ⌝ }
+{
+    let outcome = reply_to(h, process, bytes, reply);
+    let next = perform(h, k, process, bytes, string);
+    Served {
+        outcome: outcome,
+        process: next,
+    }
+}
+
+// A request that names this process: its tests, what it does and its reply, or the CAN'T.
+pub fn answer_for_process(
+    h: Header,
+    process: Process,
+    bytes: &mut [u8],
+    string: &[u8],
+    reply: &mut [u8],
+) -> Served
     requires { ⌜ Tested process (now bytes) ⌝ }
     requires { ⌜ length (now string) ≤ h .arg2 ⌝ }
-    requires { ⌜ Answerable h ⌝ }
     requires { ⌜ 266 ≤ length (now reply) ⌝ }
-    ensures { λ r. ⌜ r .outcome ≡ requestAt p h (now (string .entry)) (now (reply .entry)) (local process (now (bytes .entry))) .answer .outcome ⌝ }
-    ensures { λ r. ⌜ r .process ≡ requestAt p h (now (string .entry)) (now (reply .entry)) (local process (now (bytes .entry))) .left .process ⌝ }
-    ensures { λ _. ⌜ now (bytes .exit) ≡ requestAt p h (now (string .entry)) (now (reply .entry)) (local process (now (bytes .entry))) .left .bytes ⌝ }
-    ensures { λ _. ⌜ now (reply .exit) ≡ requestAt p h (now (string .entry)) (now (reply .entry)) (local process (now (bytes .entry))) .answer .buffer ⌝ }
+    ensures { λ r. ⌜ served (r .outcome) (r .process) (now (bytes .exit)) (now (reply .exit)) ≡ namedAt h (now (string .entry)) (now (reply .entry)) (local process (now (bytes .entry))) ⌝ }
 {
-    let cmd = h.cmd;
-    if creates(cmd) {
-        return answer_create(h, p, bytes, reply);
+    let task = task_of(h, process);
+    match task {
+        Task::Change(k) => grant(h, k, process, bytes, string, reply),
+        Task::Refuse(number) => Served {
+            outcome: refuse(h, number, reply),
+            process: process,
+        },
     }
-    answer_named(h, process, bytes, string, reply)
+}
+
+// CREATE, of the process with this number.
+pub fn answer_create(h: Header, pid: usize, bytes: &mut [u8], reply: &mut [u8]) -> Served
+    requires { ⌜ pid < 8 ⌝ }
+    requires { ⌜ length (now bytes) ≡ 4096 ⌝ }
+    requires { ⌜ 266 ≤ length (now reply) ⌝ }
+    ensures { λ r. ⌜ served (r .outcome) (r .process) (now (bytes .exit)) (now (reply .exit)) ≡ createdAt pid h (now (reply .entry)) ⌝ }
+{
+    let process = Process::create(h.host, bytes);
+    let outcome = reply_plain(h.created(pid as u8), reply);
+    Served {
+        outcome: outcome,
+        process: process,
+    }
 }

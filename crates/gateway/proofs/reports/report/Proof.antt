@@ -1,13 +1,16 @@
 -- `gateway::reports::report` meets its contract, stage by stage. Assumes nothing.
-use mathlib.Core.Path.{refl, sym, _∙_}
+use mathlib.Core.Path.{_≡_, sym, _∙_}
 use Rattle.rules.specs.Tests.{lent}
-use Rattle.gateway.proofs.ReportLaws.{report-lent, report-away}
+use Rattle.image.specs.Form.{stateOf}
+use Rattle.gateway.specs.Called.{Did}
+use Rattle.gateway.proofs.ReportLaws.{report-away}
+use Rattle.gateway.proofs.LentLaws.{lent-passes, finished-refused, report-unfit, report-fit}
 use borrow.Author.Needs.{needs}
 use Rattle.gateway.proofs.reports.report.Statement.{statement}
 use Rattle.gateway.proofs.reports.report.Tie as tie
 
-lent-number-requires : tie.Need-lent-number-requires
-lent-number-requires c κs = search needs
+check-buffers-and-state-requires : tie.Need-check-buffers-and-state-requires
+check-buffers-and-state-requires c κs = search needs
 
 same-length : tie.Need-same-length
 same-length c = search needs
@@ -15,33 +18,20 @@ same-length c = search needs
 same-length-2 : tie.Need-same-length-2
 same-length-2 c = search needs
 
-returns : tie.Need-returns
-returns c =
-    let n = c .before in
-    let a = n .before .before .before .before .before .args in
-    rw (report-lent (lent (a .state) (a .memory .now)) (a .process) (a .kind) (a .reason) (a .words) (a .notice .now) _ (n .lent-number .ensures) (c .if1 .taken)) (refl, (refl, (refl, refl)))
-
-report-away-requires : tie.Need-report-away-requires
-report-away-requires c κs = search needs
-
 same-length-3 : tie.Need-same-length-3
 same-length-3 c = search needs
 
+returns : tie.Need-returns
+unfolding Did
+returns c =
+    let a = c .before .before .before .before .before .before .before .before .args in
+    report-unfit (a .state .now) (a .memory .now) (a .notice .now) (a .pid) (a .kind) (a .reason) (a .words) _ (c .before .check-buffers-and-state .ensures) (c .if1 .taken)
+
+check-report-requires : tie.Need-check-report-requires
+check-report-requires c κs = search needs
+
 same-length-4 : tie.Need-same-length-4
 same-length-4 c = search needs
-
-returns-2 : tie.Need-returns-2
-returns-2 c =
-    let n = c .before in
-    let i = n .before in
-    let a = i .before .before .before .before .before .before .args in
-    rw (report-away (lent (a .state) (a .memory .now)) (a .process) (a .kind) (a .reason) (a .words) (a .notice .now) (sym (i .before .lent-number .ensures) ∙ i .if1 .left) _ (n .report-away .ensures) (c .if2 .taken)) (refl, (refl, (refl, refl)))
-
-report-process-requires : tie.Need-report-process-requires
-report-process-requires c κs =
-    let j = c .before .before in
-    let i = j .before .before in
-    (sym (i .before .lent-number .ensures) ∙ i .if1 .left, sym (j .before .report-away .ensures) ∙ j .if2 .left)
 
 same-length-5 : tie.Need-same-length-5
 same-length-5 c = search needs
@@ -49,22 +39,51 @@ same-length-5 c = search needs
 same-length-6 : tie.Need-same-length-6
 same-length-6 c = search needs
 
+returns-2 : tie.Need-returns-2
+unfolding Did
+returns-2 c =
+    let a = c .before .before .before .before .before .before .before .before .before .before .args in
+    let zero = sym (c .before .before .before .check-buffers-and-state .ensures) ∙ c .before .before .if1 .left in
+    let st = lent (stateOf (a .state .now)) (a .memory .now) in
+    let passes = lent-passes (a .state .now) (a .memory .now) (a .notice .now) zero in
+    rw (report-fit (a .state .now) (a .memory .now) (a .notice .now) zero (a .pid) (a .kind) (a .reason) (a .words), report-away st (a .pid) (a .kind) (a .reason) (a .words) (a .notice .now) passes _ (c .before .check-report .ensures) (c .if2 .taken))
+    (sym (finished-refused (a .state .now) (a .memory .now) (a .notice .now) _))
+
+report-known-requires : tie.Need-report-known-requires
+report-known-requires c κs = (sym (c .before .before .before .before .before .before .check-buffers-and-state .ensures) ∙ c .before .before .before .before .before .if1 .left, sym (c .before .before .before .before .check-report .ensures) ∙ c .before .before .before .if2 .left)
+
+same-length-7 : tie.Need-same-length-7
+same-length-7 c = search needs
+
+same-length-8 : tie.Need-same-length-8
+same-length-8 c = search needs
+
+same-length-9 : tie.Need-same-length-9
+same-length-9 c = search needs
+
 returns-3 : tie.Need-returns-3
-returns-3 c = c .before .before .before .before .report-process .ensures
+unfolding Did
+returns-3 c =
+    let a = c .before .before .before .before .before .before .before .before .before .before .before .before .before .before .before .before .before .before .before .before .args in
+    let zero = sym (c .before .before .before .before .before .before .before .before .before .before .before .before .before .check-buffers-and-state .ensures) ∙ c .before .before .before .before .before .before .before .before .before .before .before .before .if1 .left in
+    rw (report-fit (a .state .now) (a .memory .now) (a .notice .now) zero (a .pid) (a .kind) (a .reason) (a .words)) (c .before .before .before .before .before .before .report-known .ensures)
 
 pub report-spec : {M : Type 1} → statement M
 report-spec =
     tie.close
     (tie.spec
-    lent-number-requires
+    check-buffers-and-state-requires
     same-length
     same-length-2
-    returns
-    report-away-requires
     same-length-3
+    returns
+    check-report-requires
     same-length-4
-    returns-2
-    report-process-requires
     same-length-5
     same-length-6
+    returns-2
+    report-known-requires
+    same-length-7
+    same-length-8
+    same-length-9
     returns-3)

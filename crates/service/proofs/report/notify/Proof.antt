@@ -1,25 +1,19 @@
--- `service::report::notify` meets its contract: nobody is told, or the notice is granted. Assumes nothing.
-use mathlib.Core.Path.{_≡_, refl, sym, ap, _∙_}
-use Prim.Native.Nat.{ℕ, _+_}
-use borrow.Author.Needs.{needs}
+-- `service::report::notify` meets its contract: nobody is told, or the notice is sent. Assumes nothing.
+use mathlib.Core.Path.{refl, ap}
 use borrow.Author.Tests.{eq-eqb, ne-eqb}
-use lib.ListN.{length}
-use Rattle.lists.specs.Word.{lowFirst}
-use Rattle.format.specs.declared.outcome.Outcome.the-variants.{Granted}
-use Rattle.format.specs.Answer.{noticeOf}
-use Rattle.service.specs.At.{noticeOr}
-use Rattle.service.proofs.NoticeLaws.{notice-granted, notice-long}
-use Rattle.service.proofs.ReplyLaws.{writes-buffer}
+use Rattle.message.specs.Exchange.{Written, sends}
+use Rattle.service.specs.At.{answer, noticeOr}
+use borrow.Author.Needs.{needs}
 use Rattle.service.proofs.report.notify.Statement.{statement}
 use Rattle.service.proofs.report.notify.Tie as tie
 
 returns : tie.Need-returns
 unfolding noticeOr
-returns c = rw (eq-eqb _ _ (c .if1 .taken)) (refl, refl)
+returns c = rw (eq-eqb _ _ (c .if1 .taken)) refl
 
 returns-2 : tie.Need-returns-2
 unfolding noticeOr
-returns-2 c = rw (ne-eqb _ _ (c .before .if1 .left), c .if2 .taken) (refl, refl)
+returns-2 c = rw (ne-eqb _ _ (c .before .if1 .left), c .if2 .taken) refl
 
 write-notice-requires : tie.Need-write-notice-requires
 write-notice-requires c κs = search needs
@@ -28,19 +22,10 @@ same-length : tie.Need-same-length
 same-length c = search needs
 
 returns-3 : tie.Need-returns-3
-unfolding noticeOr
+unfolding noticeOr sends
 returns-3 c =
-    let w = c .before .before in
-    let j = w .before .before in
-    let i = j .before in
-    let s = c .before .before .before .before .before .before .before in
-    let a = s .args in
-    let nine : length (a .words) ≡ 9 = s .good .1 .1 .1 .1 .1 .0 .1 .0 .1 in
-    let ok = notice-granted (a .host) (a .kind) (a .process) (a .reason) (a .words) (a .notice .now) (i .if1 .left) (s .pre .0) nine (s .pre .1) in
-    rw (ne-eqb _ _ (i .if1 .left), j .if2 .left) (
-      w .write-notice .ensures .0 ∙ ok ∙ ap (λ (n : ℕ). Granted (10 + n)) (sym (notice-long (a .words) nine)),
-      w .write-notice .ensures .1 ∙ writes-buffer (noticeOf (a .host) (a .kind) (a .process) (a .reason)) (lowFirst (a .words)) (a .notice .now) 28 ok,
-    )
+    rw (ne-eqb _ _ (c .before .before .before .before .before .if1 .left), c .before .before .before .before .if2 .left)
+    (ap (λ (w : Written). answer (w .outcome) (w .buffer)) (c .before .before .write-notice .ensures))
 
 pub notify-spec : {M : Type 1} → statement M
 notify-spec = tie.close (tie.spec returns returns-2 write-notice-requires same-length returns-3)

@@ -1,0 +1,92 @@
+-- The tests 1 and 2 on the bytes of a state, and what they say of its record. Assumes nothing.
+use mathlib.Core.Path.{_≡_, refl, sym, _∙_}
+use mathlib.Core.Bool.{Bool, true, false, not, cond}
+use mathlib.Core.List.{List}
+use Prim.Native.Nat.{ℕ}
+use native.Mathlib.Omega.{arith}
+use borrow.Author.Tests.{eqb-true}
+use lib.ListN.{length}
+use lib.Dec.{eqb}
+use Rattle.lists.proofs.Bool.{&&-left}
+use Rattle.format.specs.declared.outcome.Outcome.the-variants.{Refused}
+use Rattle.format.specs.Outcome.{firstFailing}
+use Rattle.state.specs.Gateway.{soundTest}
+use Rattle.rules.specs.Tests.{State, lent, noRoom}
+use Rattle.rules.specs.Step.{Call, request, report, answers, step, requested, noted}
+use Rattle.rules.specs.Isolation.{isGranted}
+use Rattle.image.specs.Form.{stateOf, stateFormed, stateSound}
+use Rattle.gateway.specs.Stage.{lentNumber}
+use Rattle.gateway.specs.Called.{lentOn, finished, refusedBy, bufferOf, callOn}
+use Rattle.gateway.proofs.StageLaws.{Fit, lent-fit, request-lent}
+use Rattle.gateway.proofs.ReportLaws.{report-lent}
+
+module _ (state memory buffer : List ℕ) where
+  abbrev pub s : State
+  s = lent (stateOf state) memory
+
+  -- of bytes that are a state's
+  lent-number : stateFormed state ≡ true → lentOn state memory buffer ≡ lentNumber s buffer
+  unfolding lentOn stateSound lentNumber firstFailing
+  lent-number f = rw f (go (noRoom memory buffer) (soundTest (stateOf state)))
+    where
+      go : (a b : Bool) → cond {A = ℕ} a 1 (cond b 0 2) ≡ cond a 1 (cond (not b) 2 0)
+      go true b = refl
+      go false true = refl
+      go false false = refl
+
+  pub lent-formed : lentOn state memory buffer ≡ 0 → stateFormed state ≡ true
+  unfolding lentOn stateSound
+  lent-formed e = go (stateFormed state) refl
+    where
+      none : (a : Bool) → cond {A = ℕ} a 1 2 ≡ 0 → ⊥
+      none true z = omega (arith, z)
+      none false z = omega (arith, z)
+
+      go : (t : Bool) → stateFormed state ≡ t → t ≡ true
+      go true f = refl
+      go false f = absurd (none (noRoom memory buffer) (rw f at e))
+
+  pub lent-passes : lentOn state memory buffer ≡ 0 → lentNumber s buffer ≡ 0
+  lent-passes e = sym (lent-number (lent-formed e)) ∙ e
+
+  pub lent-fits : lentOn state memory buffer ≡ 0 → Fit (stateOf state) memory buffer
+  lent-fits e = lent-fit (stateOf state) memory buffer (lent-passes e)
+
+  pub lent-long : lentOn state memory buffer ≡ 0 → length state ≡ 680
+  unfolding stateFormed
+  lent-long e = eqb-true (length state) 680 (&&-left (eqb (length state) 680) _ (lent-formed e))
+
+  -- a refused step leaves the bytes
+  pub finished-refused : (n : ℕ) → finished state (answers (Refused n) buffer s) ≡ refusedBy n state memory buffer
+  unfolding finished isGranted
+  finished-refused n = refl
+
+  -- a call that the tests 1 and 2 refuse
+  unfit : (c : Call) (n : ℕ) → bufferOf c ≡ buffer → n ≡ lentOn state memory buffer → (n ≡ lentNumber s buffer → step s c ≡ answers (Refused n) buffer s)
+      → refusedBy n state memory buffer ≡ callOn state memory c
+  unfolding callOn
+  unfit c n same e steps = go (stateFormed state) refl
+    where
+      go : (t : Bool) → stateFormed state ≡ t → refusedBy n state memory buffer ≡ callOn state memory c
+      go true f = rw (f, steps (e ∙ lent-number f)) (sym (finished-refused n))
+      go false f = rw (f, same, ← e)
+
+  pub request-unfit : (m : List ℕ) (n : ℕ) → n ≡ lentOn state memory buffer → (n ≡ 0 → ⊥) → refusedBy n state memory buffer ≡ callOn state memory (request m buffer)
+  unfolding bufferOf step
+  request-unfit m n e z = unfit (request m buffer) n refl e (λ i. request-lent s m buffer n i z)
+
+  pub report-unfit : (p kind reason : ℕ) (words : List ℕ) (n : ℕ) → n ≡ lentOn state memory buffer → (n ≡ 0 → ⊥)
+      → refusedBy n state memory buffer ≡ callOn state memory (report p kind reason words buffer)
+  unfolding bufferOf step
+  report-unfit p kind reason words n e z = unfit (report p kind reason words buffer) n refl e (λ i. report-lent s p kind reason words buffer n i z)
+
+  -- a call that they let pass
+  module _ (e : lentOn state memory buffer ≡ 0) where
+    pub request-fit : (m : List ℕ) → callOn state memory (request m buffer) ≡ finished state (requested m buffer (lent (stateOf state) memory))
+    unfolding callOn step
+    request-fit m = rw (lent-formed e)
+
+    pub report-fit : (p kind reason : ℕ) (words : List ℕ)
+        → callOn state memory (report p kind reason words buffer) ≡ finished state (noted p kind reason words buffer (lent (stateOf state) memory))
+    unfolding callOn step
+    report-fit p kind reason words = rw (lent-formed e)

@@ -1,0 +1,134 @@
+-- `gateway::requests::answer_named` meets its contract: that of the request at its process, in the slot and the bytes of the process. Assumes nothing.
+use mathlib.Core.Path.{_≡_, ap, sym, _∙_}
+use native.Mathlib.Omega.{arith}
+use Rattle.lists.specs.Buffer.{Bytes}
+use Rattle.state.proofs.SlotLaws.{startOf-is}
+use Rattle.rules.specs.Tests.{lent}
+use Rattle.image.specs.Form.{stateOf}
+use Rattle.gateway.proofs.PartLaws.{slot-back, tested-part, local-part}
+use Rattle.service.specs.At.{namedAt}
+use Rattle.service.proofs.AtLaws.{unchanged}
+use Rattle.gateway.proofs.AskedLaws.{asked-named}
+use Rattle.gateway.proofs.LentLaws.{lent-formed, lent-fits, lent-long}
+use Rattle.gateway.proofs.FinishLaws.{finished-served, finished-kept}
+use borrow.Author.Needs.{needs}
+use Rattle.gateway.proofs.requests.answer_named.Statement.{statement}
+use Rattle.gateway.proofs.requests.answer_named.Tie as tie
+
+read-process-at-requires : tie.Need-read-process-at-requires
+read-process-at-requires c κs =
+    let s = c .before .before .before .before .before in
+    let a = s .args in
+    (s .pre .0 .2, omega (arith, lent-long (a .state .now) (a .memory .now) (a .reply .now) (s .pre .1 .0)))
+
+start-requires : tie.Need-start-requires
+start-requires c κs = c .before .before .before .before .before .before .pre .0 .2
+
+add-end : tie.Need-add-end
+add-end c =
+    let s = c .before .before .before .before .before .before .before in
+    omega (arith, c .start .ensures, startOf-is (s .args .pid) (s .pre .0 .2), s .pre .0 .2)
+
+sub-answer-for-process : tie.Need-sub-answer-for-process
+sub-answer-for-process c = search needs
+
+part-answer-for-process-start : tie.Need-part-answer-for-process-start
+part-answer-for-process-start c = search needs
+
+part-answer-for-process-end : tie.Need-part-answer-for-process-end
+part-answer-for-process-end c =
+    let s = c .before .before .before .before .before .before .before in
+    let a = s .args in
+    omega (arith, c .start .ensures, startOf-is (a .pid) (s .pre .0 .2), s .pre .0 .2, lent-fits (a .state .now) (a .memory .now) (a .reply .now) (s .pre .1 .0) .memory)
+
+answer-for-process-requires : tie.Need-answer-for-process-requires
+answer-for-process-requires c κs =
+    let t = c .before .before in
+    let q = c .before .before .before in
+    let s = c .before .before .before .before .before .before .before .before .before in
+    let a = s .args in
+    let low = s .pre .0 .2 in
+    let fit = lent-fits (a .state .now) (a .memory .now) (a .reply .now) (s .pre .1 .0) in
+    rw (q .read-process-at .ensures)
+    (tested-part (stateOf (a .state .now)) (a .memory .now) (a .pid) (t .start .result) low (t .start .ensures) (fit .memory) (fit .sound), (s .pre .1 .1, fit .room))
+
+changes-requires : tie.Need-changes-requires
+changes-requires c κs = search needs
+
+keep-requires : tie.Need-keep-requires
+keep-requires c κs =
+    let s = c .before .before .before .before .before .before .before .before .before .before .before .before .before .before .before .before .before .before in
+    let a = s .args in
+    (s .pre .0 .2, lent-long (a .state .now) (a .memory .now) (a .reply .now) (s .pre .1 .0))
+
+same-length : tie.Need-same-length
+same-length c = search needs
+
+same-length-2 : tie.Need-same-length-2
+same-length-2 c = search needs
+
+same-length-3 : tie.Need-same-length-3
+same-length-3 c = search needs
+
+returns : tie.Need-returns
+returns c =
+    let f = c .before .before in
+    let v = c .before .before .before .before .before .before .before .before .before .before .before in
+    let t = c .before .before .before .before .before .before .before .before .before .before .before .before .before .before in
+    let q = c .before .before .before .before .before .before .before .before .before .before .before .before .before .before .before in
+    let k = c .before .before .before .before .before .before .before .before .before .before .before .before .before .before .before .before .before .before .before .before in
+    let s = c .before .before .before .before .before .before .before .before .before .before .before .before .before .before .before .before .before .before .before .before .before in
+    let a = s .args in
+    let st = lent (stateOf (a .state .now)) (a .memory .now) in
+    let bytes : Bytes (a .state .now) = λ i. omega (arith, k .slice-known .given i) in
+    let formed = lent-formed (a .state .now) (a .memory .now) (a .reply .now) (s .pre .1 .0) in
+    let whole = local-part (stateOf (a .state .now)) (a .memory .now) (a .pid) (t .start .result) (q .read-process-at .result) (t .start .ensures) (q .read-process-at .ensures) in
+    rw (f .keep .ensures, slot-back (a .pid) (t .start .result) (a .memory .now) (t .start .ensures) _)
+    (finished-served (a .state .now) (a .memory .now) bytes formed (a .pid) (s .pre .0 .2) _ _ _ _ _ (rw whole at (v .answer-for-process .ensures)) _ (asked-named (a .h) (a .string .now) (a .reply .now) st (a .pid) (s .pre .0)))
+
+same-length-4 : tie.Need-same-length-4
+same-length-4 c = search needs
+
+same-length-5 : tie.Need-same-length-5
+same-length-5 c = search needs
+
+same-length-6 : tie.Need-same-length-6
+same-length-6 c = search needs
+
+returns-2 : tie.Need-returns-2
+returns-2 c =
+    let v = c .before .before .before .before .before .before .before in
+    let t = c .before .before .before .before .before .before .before .before .before .before in
+    let q = c .before .before .before .before .before .before .before .before .before .before .before in
+    let k = c .before .before .before .before .before .before .before .before .before .before .before .before .before .before .before .before in
+    let s = c .before .before .before .before .before .before .before .before .before .before .before .before .before .before .before .before .before in
+    let a = s .args in
+    let st = lent (stateOf (a .state .now)) (a .memory .now) in
+    let bytes : Bytes (a .state .now) = λ i. omega (arith, k .slice-known .given i) in
+    let formed = lent-formed (a .state .now) (a .memory .now) (a .reply .now) (s .pre .1 .0) in
+    let whole = local-part (stateOf (a .state .now)) (a .memory .now) (a .pid) (t .start .result) (q .read-process-at .result) (t .start .ensures) (q .read-process-at .ensures) in
+    let same = unchanged (a .h) (a .string .now) (a .reply .now) _ (sym (c .before .changes .ensures) ∙ c .if1 .left) in
+    rw (slot-back (a .pid) (t .start .result) (a .memory .now) (t .start .ensures) _)
+    (finished-kept (a .state .now) (a .memory .now) bytes formed (a .pid) _ _ _ _ _ (rw whole at (v .answer-for-process .ensures)) same _ (asked-named (a .h) (a .string .now) (a .reply .now) st (a .pid) (s .pre .0)))
+
+pub answer-named-spec : {M : Type 1} → statement M
+answer-named-spec =
+    tie.close
+    (tie.spec
+    read-process-at-requires
+    start-requires
+    add-end
+    sub-answer-for-process
+    part-answer-for-process-start
+    part-answer-for-process-end
+    answer-for-process-requires
+    changes-requires
+    keep-requires
+    same-length
+    same-length-2
+    same-length-3
+    returns
+    same-length-4
+    same-length-5
+    same-length-6
+    returns-2)

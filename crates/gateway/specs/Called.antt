@@ -1,0 +1,67 @@
+-- A call on a state that is kept as bytes: what it answers, and state, memory and output buffer after it.
+use mathlib.Core.Path.{_≡_}
+use mathlib.Core.Bool.{Bool, cond}
+use mathlib.Core.List.{List, []}
+use Prim.Native.Nat.{ℕ}
+use lib.ListN.{length}
+use lib.Dec.{eqb}
+use Rattle.format.specs.declared.outcome.Outcome.{Outcome}
+use Rattle.format.specs.declared.outcome.Outcome.the-variants.{Granted, Refused}
+use Rattle.state.specs.Gateway.{freshStart}
+use Rattle.rules.specs.Tests.{lent, noRoom}
+use Rattle.rules.specs.Step.{Stepped, Call, request, report, store, step}
+use Rattle.rules.specs.Isolation.{isGranted}
+use Rattle.image.specs.Form.{stateBytes, stateOf, stateFormed, stateSound}
+
+-- what a call answered, and the bytes that it left in state, memory and output buffer
+pub record Called : Type 0 where
+  pub outcome : Outcome
+  pub state : List ℕ
+  pub memory : List ℕ
+  pub buffer : List ℕ
+
+-- the four together
+abbrev pub called : Outcome → List ℕ → List ℕ → List ℕ → Called
+called o state memory buffer = record { outcome = o; state = state; memory = memory; buffer = buffer }
+
+-- refused with this number, and nothing is written
+abbrev pub refusedBy : ℕ → List ℕ → List ℕ → List ℕ → Called
+refusedBy number state memory buffer = called (Refused number) state memory buffer
+
+-- a step of the rules, on the record that the bytes are the form of; a refused one leaves the bytes
+unfoldable pub finished : List ℕ → Stepped → Called
+finished state x =
+    called (x .answer .outcome) (cond (isGranted (x .answer .outcome)) (stateBytes (x .after .gateway)) state) (x .after .memory) (x .answer .buffer)
+
+-- the tests 1 and 2, which every call makes first
+unfoldable pub lentOn : List ℕ → List ℕ → List ℕ → ℕ
+lentOn state memory buffer = cond (noRoom memory buffer) 1 (cond (stateSound state) 0 2)
+
+-- the output buffer of a call
+unfoldable pub bufferOf : Call → List ℕ
+bufferOf (request m buffer) = buffer
+bufferOf (report p kind reason words buffer) = buffer
+bufferOf (store p a v) = []
+
+-- a call: the step of the rules on the record that the bytes are the form of; where they are no state's, it is refused by the tests 1 and 2
+unfoldable pub callOn : List ℕ → List ℕ → Call → Called
+callOn state memory c =
+    cond (stateFormed state) (finished state (step (lent (stateOf state) memory) c))
+    (refusedBy (lentOn state memory (bufferOf c)) state memory (bufferOf c))
+
+-- a call of the code on these bytes of a state and this memory answered and left this
+unfoldable pub Did : List ℕ → List ℕ → Call → Called → Type 0
+Did state memory c x = x ≡ callOn state memory c
+
+-- what a fresh start answers, and the bytes of the state after it
+pub record Started : Type 0 where
+  pub outcome : Outcome
+  pub state : List ℕ
+
+-- the two together
+abbrev pub started : Outcome → List ℕ → Started
+started o state = record { outcome = o; state = state }
+
+-- a fresh start with these processes, where the state's buffer has its length; else it is refused with 1
+unfoldable pub startOn : List Bool → List ℕ → Started
+startOn there state = cond (eqb (length state) 680) (started (Granted 0) (stateBytes (freshStart there))) (started (Refused 1) state)

@@ -1,0 +1,20 @@
+// The tests 1 and 2, which every call makes first.
+use image::state_sound;
+ghost use mathlib.Core.Path.{_≡_};
+ghost use Rattle.gateway.specs.Called.{lentOn};
+
+// Returns 1 where memory or output buffer has the wrong length, 2 where the bytes are not those of a sound state, else 0.
+pub(crate) fn check_buffers_and_state(state: &[u8], memory: &[u8], buffer: &[u8]) -> u8
+    ensures { λ r. ⌜ r ≡ lentOn (now (state .entry)) (now (memory .entry)) (now (buffer .entry)) ⌝ }
+{
+    if memory.len() != 32768 {
+        return 1;
+    }
+    if buffer.len() < 266 {
+        return 1;
+    }
+    if !state_sound(state) {
+        return 2;
+    }
+    0
+}

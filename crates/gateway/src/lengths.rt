@@ -1,0 +1,24 @@
+// How much of its output buffer a call wrote.
+use format::Outcome;
+ghost use mathlib.Core.Path.{_≡_};
+ghost use Rattle.gateway.specs.Lengths.{replyLength, noticeLength};
+
+// How many bytes of its buffer a request wrote: the reply, the CAN'T, or nothing.
+pub fn reply_length(outcome: Outcome) -> usize
+    ensures { λ r. ⌜ r ≡ replyLength outcome ⌝ }
+{
+    match outcome {
+        Outcome::Granted(n) => n,
+        Outcome::Refused(n) => if n < 7 { 0 } else { 10 },
+    }
+}
+
+// How many bytes of its buffer a report wrote: the notice, or nothing.
+pub fn notice_length(outcome: Outcome) -> usize
+    ensures { λ r. ⌜ r ≡ noticeLength outcome ⌝ }
+{
+    match outcome {
+        Outcome::Granted(n) => n,
+        Outcome::Refused(_) => 0,
+    }
+}

@@ -1,0 +1,9 @@
+// What a call at one process returns.
+use format::Outcome;
+use process::Process;
+
+// The outcome, and the process after it.
+pub struct Served {
+    pub outcome: Outcome,
+    pub process: Process,
+}
