@@ -1,0 +1,4 @@
+-- Laws that the proofs of this crate cite.
+pub mod SignLaws
+pub mod ShortLaws
+pub mod ReturnLaws

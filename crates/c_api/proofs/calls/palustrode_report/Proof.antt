@@ -1,0 +1,67 @@
+-- `c_api::calls::palustrode_report` meets its contract: that of the gateway's report, where the words have their length. Assumes nothing.
+use mathlib.Core.Path.{_≡_, refl, _∙_}
+use borrow.Author.Tests.{eq-eqb, ne-eqb}
+use lib.ListN.{length}
+use mir.Syntax.{w64}
+use mir.Val.{toZ, ofZ}
+use Rattle.rules.specs.Step.{report}
+use Rattle.c_api.specs.Called.{signed, reportOn}
+use Rattle.c_api.proofs.ShortLaws.{nine-words, report-short}
+use Rattle.c_api.proofs.ReturnLaws.{call-short, call-returns}
+use borrow.Author.Needs.{needs}
+use Rattle.c_api.proofs.calls.palustrode_report.Statement.{statement}
+use Rattle.c_api.proofs.calls.palustrode_report.Tie as tie
+
+minus-requires : tie.Need-minus-requires
+minus-requires c κs = search needs
+
+returns : tie.Need-returns
+unfolding reportOn signed
+returns c =
+    let a = c .before .before .before .before .before .before .args in
+    let same : toZ w64 (ofZ w64 (c .minus .result)) ≡ c .minus .result = search needs in
+    rw (ne-eqb (length (a .words .now)) 18 (c .before .if1 .taken)) (record { result-is = same ∙ c .minus .ensures; state-is = refl; memory-is = refl; buffer-is = refl })
+
+words-of-requires : tie.Need-words-of-requires
+words-of-requires c κs = c .before .before .if1 .left
+
+report-requires : tie.Need-report-requires
+report-requires c κs = search needs
+
+signed-requires : tie.Need-signed-requires
+signed-requires c κs =
+    let a = c .before .before .before .before .before .before .before .before .before .before .before .before .before .before .before .before .args in
+    let w = c .before .before .before .before .before .before .before .before .words-of .result in
+    let nine : length w ≡ 9 = rw (c .before .before .before .before .before .before .before .before .words-of .ensures) (nine-words (a .words .now)) in
+    call-short _ _ _ _ _ _ (report (a .pid) (a .kind) (a .reason) w (a .notice .now)) (c .before .before .before .before .before .before .report .ensures) (report-short (a .state .now) (a .memory .now) (a .pid) (a .kind) (a .reason) w (a .notice .now) nine)
+
+same-length : tie.Need-same-length
+same-length c = search needs
+
+same-length-2 : tie.Need-same-length-2
+same-length-2 c = search needs
+
+same-length-3 : tie.Need-same-length-3
+same-length-3 c = search needs
+
+returns-2 : tie.Need-returns-2
+unfolding reportOn
+returns-2 c =
+    let a = c .before .before .before .before .before .before .before .before .before .before .before .before .before .before .before .before .before .args in
+    let same : toZ w64 (ofZ w64 (c .signed .result)) ≡ c .signed .result = search needs in
+    rw (eq-eqb (length (a .words .now)) 18 (c .before .before .before .before .before .before .before .before .before .before .before .before .if1 .left), ← c .before .before .before .before .before .before .before .before .before .words-of .ensures)
+    (call-returns _ _ _ _ _ _ (report (a .pid) (a .kind) (a .reason) (c .before .before .before .before .before .before .before .before .before .words-of .result) (a .notice .now)) (c .before .before .before .before .before .before .before .report .ensures) _ (same ∙ c .signed .ensures))
+
+pub palustrode-report-spec : {M : Type 1} → statement M
+palustrode-report-spec =
+    tie.close
+    (tie.spec
+    minus-requires
+    returns
+    words-of-requires
+    report-requires
+    signed-requires
+    same-length
+    same-length-2
+    same-length-3
+    returns-2)

@@ -1,0 +1,57 @@
+-- What the exported functions return and leave.
+use mathlib.Core.Path.{_≡_}
+use mathlib.Core.Bool.{Bool, cond}
+use mathlib.Core.List.{List, [], _∷_}
+use Prim.Native.Nat.{ℕ, _<_, _/_, _%_}
+use lib.IntN.{ℤ, pos, _-ℤ_}
+use lib.ListN.{length}
+use lib.Dec.{eqb}
+use Rattle.lists.specs.Word.{vectorOf}
+use Rattle.format.specs.declared.outcome.Outcome.{Outcome}
+use Rattle.format.specs.declared.outcome.Outcome.the-variants.{Granted, Refused}
+use Rattle.rules.specs.Step.{report}
+use Rattle.gateway.specs.Called.{Called, Started, refusedBy, callOn, startOn}
+
+-- minus this number
+abbrev pub minus : ℕ → ℤ
+minus n = pos 0 -ℤ pos n
+
+-- the length granted, 0 or more, or minus the number of the refusal
+unfoldable pub signed : Outcome → ℤ
+signed (Granted n) = pos n
+signed (Refused n) = minus n
+
+-- a granted length that a signed number holds
+abbrev pub Short : Outcome → Type 0
+Short (Granted n) = n < 65536
+Short (Refused n) = Unit {0}
+
+-- a call returned this number, and left these bytes in state, memory and output buffer
+pub record Returns (x : Called) (result : ℤ) (state memory buffer : List ℕ) : Type 0 where
+  pub result-is : result ≡ signed (x .outcome)
+  pub state-is : state ≡ x .state
+  pub memory-is : memory ≡ x .memory
+  pub buffer-is : buffer ≡ x .buffer
+
+-- a report whose nine words are 18 bytes, low byte first; words of another length are a lent buffer of the wrong length, test 1
+unfoldable pub reportOn : List ℕ → List ℕ → ℕ → ℕ → ℕ → List ℕ → List ℕ → Called
+reportOn state memory pid kind reason words notice =
+    cond (eqb (length words) 18) (callOn state memory (report pid kind reason (vectorOf words) notice)) (refusedBy 1 state memory notice)
+
+-- process p is there where bit p is set
+unfoldable pub bitsOf : ℕ → List Bool
+bitsOf n =
+    eqb (n % 2) 1
+    ∷ eqb (n / 2 % 2) 1
+    ∷ eqb (n / 4 % 2) 1
+    ∷ eqb (n / 8 % 2) 1
+    ∷ eqb (n / 16 % 2) 1
+    ∷ eqb (n / 32 % 2) 1
+    ∷ eqb (n / 64 % 2) 1
+    ∷ eqb (n / 128 % 2) 1
+    ∷ []
+
+-- a fresh start returned this number, and left these bytes of the state
+pub record Starts (x : Started) (result : ℤ) (state : List ℕ) : Type 0 where
+  pub result-is : result ≡ signed (x .outcome)
+  pub state-is : state ≡ x .state

@@ -1,0 +1,81 @@
+// The exported functions.
+use crate::result::minus;
+use crate::result::signed;
+use gateway::fresh_start;
+use gateway::report;
+use gateway::request;
+use words::vector_of;
+ghost use mathlib.Core.Path.{_≡_};
+ghost use lib.ListN.{length};
+ghost use Rattle.lists.specs.Word.{vectorOf};
+ghost use Rattle.rules.specs.Step.{request};
+ghost use Rattle.gateway.specs.Called.{callOn, startOn};
+ghost use Rattle.c_api.specs.Called.{Returns, Starts, reportOn, bitsOf};
+
+fn bits(there: u8) -> [bool; 8]
+    ensures { λ r. ⌜ r ≡ bitsOf there ⌝ }
+{
+    [
+        there % 2 == 1,
+        there / 2 % 2 == 1,
+        there / 4 % 2 == 1,
+        there / 8 % 2 == 1,
+        there / 16 % 2 == 1,
+        there / 32 % 2 == 1,
+        there / 64 % 2 == 1,
+        there / 128 % 2 == 1,
+    ]
+}
+
+// A fresh start with the processes whose bits are set.
+#[no_mangle]
+pub extern "C" fn palustrode_fresh_start(there: u8, state: &mut [u8]) -> i64
+    ensures { λ r. ⌜ Starts (startOn (bitsOf there) (now (state .entry))) r (now (state .exit)) ⌝ }
+{
+    let outcome = fresh_start(bits(there), state);
+    signed(outcome)
+}
+
+// A request.
+#[no_mangle]
+pub extern "C" fn palustrode_request(
+    state: &mut [u8],
+    memory: &mut [u8],
+    message: &[u8],
+    reply: &mut [u8],
+) -> i64
+    ensures { λ r. ⌜ Returns (callOn (now (state .entry)) (now (memory .entry)) (request (now (message .entry)) (now (reply .entry)))) r (now (state .exit)) (now (memory .exit)) (now (reply .exit)) ⌝ }
+{
+    let outcome = request(state, memory, message, reply);
+    signed(outcome)
+}
+
+// The nine words of 18 bytes, low byte first.
+fn words_of(words: &[u8]) -> [u16; 9]
+    requires { ⌜ length (now words) ≡ 18 ⌝ }
+    ensures { λ r. ⌜ r ≡ vectorOf (now (words .entry)) ⌝ }
+{
+    let mut vector = [0u8; 18];
+    bytes::copy(words, &mut vector);
+    vector_of(vector)
+}
+
+// A machine report; the nine words are 18 bytes, low byte first.
+#[no_mangle]
+pub extern "C" fn palustrode_report(
+    state: &mut [u8],
+    memory: &mut [u8],
+    pid: u8,
+    kind: u8,
+    reason: u16,
+    words: &[u8],
+    notice: &mut [u8],
+) -> i64
+    ensures { λ r. ⌜ Returns (reportOn (now (state .entry)) (now (memory .entry)) pid kind reason (now (words .entry)) (now (notice .entry))) r (now (state .exit)) (now (memory .exit)) (now (notice .exit)) ⌝ }
+{
+    if words.len() != 18 {
+        return minus(1);
+    }
+    let outcome = report(state, memory, pid, kind, reason, words_of(words), notice);
+    signed(outcome)
+}

@@ -1,5 +1,0 @@
--- Laws that the proofs of this crate cite.
-pub mod SignLaws
-pub mod ShortLaws
-pub mod LentLaws
-pub mod FinishLaws
