@@ -1,5 +1,6 @@
 -- The definitions that the contracts of this crate, and of those above it, cite. Words in quotation marks are document 01's.
 pub mod Outcome
+pub mod Sizes
 pub mod Layout
 pub mod Refusal
 pub mod Answer

@@ -1,5 +1,7 @@
 // The headers of the answers to a request, and of a notice.
 use crate::header::Header;
+use ops::CANT;
+use ops::NOTICE;
 ghost use mathlib.Core.Path.{_≡_};
 ghost use Rattle.format.specs.Answer.{cantOf, createdOf, noticeOf};
 
@@ -10,7 +12,11 @@ impl Header {
     {
         Header {
             host: self.host,
-            cmd: if self.cmd < 128 { self.cmd + 128 } else { 255 },
+            cmd: if self.cmd < CANT {
+                self.cmd + CANT
+            } else {
+                255
+            },
             pid: self.pid,
             arg1: self.arg1,
             arg2: self.arg2,
@@ -36,7 +42,7 @@ impl Header {
     {
         Header {
             host: host,
-            cmd: if kind < 4 { kind + 64 } else { 255 },
+            cmd: if kind < 4 { kind + NOTICE } else { 255 },
             pid: pid,
             arg1: reason,
             arg2: 0,

@@ -1,4 +1,5 @@
 // The ten bytes that every message starts with, and the string behind them.
+use crate::sizes::HEADER_BYTES;
 use words::high_byte;
 use words::low_byte;
 use words::word_of;
@@ -8,6 +9,7 @@ ghost use lib.ListN.{length};
 ghost use lib.Seq.{paste};
 ghost use Rattle.lists.specs.Buffer.{overlay};
 ghost use Rattle.format.specs.Layout.{header, headerOf, stringOf, fixedRight};
+ghost use Rattle.format.specs.Sizes.{HEADER-BYTES};
 
 // The fields of a message. HOST is the sender of a request, and the host that an answer is for.
 pub struct Header {
@@ -21,7 +23,7 @@ pub struct Header {
 impl Header {
     // The ten bytes go to the start of a buffer.
     pub fn put(self, buffer: &mut [u8])
-        requires { ⌜ 10 ≤ length (now buffer) ⌝ }
+        requires { ⌜ HEADER-BYTES ≤ length (now buffer) ⌝ }
         ensures { λ _. ⌜ now (buffer .exit) ≡ overlay (header self) (now (buffer .entry)) ⌝ }
     {
         buffer[0] = 0;
@@ -38,7 +40,7 @@ impl Header {
 
     // The fields in a message's first ten bytes.
     pub fn of(message: &[u8]) -> Header
-        requires { ⌜ 10 ≤ length (now message) ⌝ }
+        requires { ⌜ HEADER-BYTES ≤ length (now message) ⌝ }
         ensures { λ r. ⌜ r ≡ headerOf (now (message .entry)) ⌝ }
     {
         Header {
@@ -53,15 +55,15 @@ impl Header {
 
 // A string goes behind the tenth byte of a buffer.
 pub fn put_string(string: &[u8], buffer: &mut [u8])
-    requires { ⌜ 10 + length (now string) ≤ length (now buffer) ⌝ }
-    ensures { λ _. ⌜ now (buffer .exit) ≡ paste (now (buffer .entry)) 10 (now (string .entry)) (length (now (string .entry))) ⌝ }
+    requires { ⌜ HEADER-BYTES + length (now string) ≤ length (now buffer) ⌝ }
+    ensures { λ _. ⌜ now (buffer .exit) ≡ paste (now (buffer .entry)) HEADER-BYTES (now (string .entry)) (length (now (string .entry))) ⌝ }
 {
-    bytes::copy(string, &mut buffer[10..]);
+    bytes::copy(string, &mut buffer[HEADER_BYTES..]);
 }
 
 // TYPE, LINK and STYPE are right.
 pub fn fixed_right(message: &[u8]) -> bool
-    requires { ⌜ 10 ≤ length (now message) ⌝ }
+    requires { ⌜ HEADER-BYTES ≤ length (now message) ⌝ }
     ensures { λ r. ⌜ r ≡ fixedRight (now (message .entry)) ⌝ }
 {
     if message[0] != 0 {
@@ -77,8 +79,8 @@ pub fn fixed_right(message: &[u8]) -> bool
 pub fn string(message: &[u8]) -> &[u8]
     ensures { λ r. ⌜ now r ≡ stringOf (now (message .entry)) ⌝ }
 {
-    if 10 <= message.len() {
-        &message[10..]
+    if HEADER_BYTES <= message.len() {
+        &message[HEADER_BYTES..]
     } else {
         &message[..0]
     }

@@ -9,6 +9,7 @@ mod answer;
 mod header;
 mod outcome;
 mod refusal;
+mod sizes;
 
 pub use header::Header;
 pub use header::fixed_right;
@@ -17,3 +18,6 @@ pub use header::string;
 pub use outcome::Outcome;
 pub use outcome::Reading;
 pub use refusal::layout_number;
+pub use sizes::HEADER_BYTES;
+pub use sizes::MESSAGE_BYTES;
+pub use sizes::STRING_BYTES;

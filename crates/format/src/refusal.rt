@@ -1,5 +1,7 @@
 // The tests of a message's layout, 3 to 6, in their order.
 use crate::header::Header;
+use crate::sizes::HEADER_BYTES;
+use crate::sizes::MESSAGE_BYTES;
 use ops::Carried;
 use ops::Form;
 use ops::Found;
@@ -42,10 +44,10 @@ fn carried_length(carried: Carried, arg2: u16) -> usize
 fn wrong_length(length: usize) -> bool
     ensures { λ r. ⌜ r ≡ wrongLength length ⌝ }
 {
-    if length < 10 {
+    if length < HEADER_BYTES {
         return true;
     }
-    266 < length
+    MESSAGE_BYTES < length
 }
 
 // Test 4: TYPE, LINK or STYPE is wrong, or HOST is 0. `fixed` says that the first three are right.
@@ -66,7 +68,7 @@ fn misfits(f: Form, h: Header, length: usize) -> bool
         return true;
     }
     let carried = f.carried;
-    length != 10 + carried_length(carried, h.arg2)
+    length != HEADER_BYTES + carried_length(carried, h.arg2)
 }
 
 // The number of the first test that fails, or 0.

@@ -9,11 +9,12 @@ use Rattle.format.specs.declared.outcome.Outcome.{Outcome}
 use Rattle.format.specs.declared.outcome.Outcome.the-variants.{Granted, Refused}
 use Rattle.rules.specs.Tests.{State}
 use Rattle.rules.specs.Step.{Answer, requested, noted}
+use Rattle.format.specs.Sizes.{HEADER-BYTES}
 
 -- of a request: the reply; from number 7 on the ten bytes of the CAN'T; else nothing
 unfoldable pub replyLength : Outcome → ℕ
 replyLength (Granted n) = n
-replyLength (Refused n) = cond (ltb n 7) 0 10
+replyLength (Refused n) = cond (ltb n 7) 0 HEADER-BYTES
 
 -- of a report: the notice, or nothing
 unfoldable pub noticeLength : Outcome → ℕ

@@ -1,4 +1,5 @@
 // The tests 1 and 2, which every call makes first.
+use format::MESSAGE_BYTES;
 use image::state_sound;
 ghost use mathlib.Core.Path.{_≡_};
 ghost use Rattle.gateway.specs.Called.{lentOn};
@@ -10,7 +11,7 @@ pub(crate) fn check_buffers_and_state(state: &[u8], memory: &[u8], buffer: &[u8]
     if memory.len() != 32768 {
         return 1;
     }
-    if buffer.len() < 266 {
+    if buffer.len() < MESSAGE_BYTES {
         return 1;
     }
     if !state_sound(state) {

@@ -1,4 +1,5 @@
 // How much of its output buffer a call wrote.
+use format::HEADER_BYTES;
 use format::Outcome;
 ghost use mathlib.Core.Path.{_≡_};
 ghost use Rattle.gateway.specs.Lengths.{replyLength, noticeLength};
@@ -9,7 +10,7 @@ pub fn reply_length(outcome: Outcome) -> usize
 {
     match outcome {
         Outcome::Granted(n) => n,
-        Outcome::Refused(n) => if n < 7 { 0 } else { 10 },
+        Outcome::Refused(n) => if n < 7 { 0 } else { HEADER_BYTES },
     }
 }
 

@@ -1,6 +1,7 @@
 // Answers, that is replies, CAN'Ts and notices: the gateway writes them, the desk reads them. The gateway's writers make no tests, because
 // every answer to a request that was read passes them (`answers_are_granted`).
 use crate::exchange::read;
+use format::HEADER_BYTES;
 use format::Header;
 use format::Outcome;
 use format::Reading;
@@ -15,23 +16,24 @@ ghost use Rattle.lists.specs.Word.{lowFirst};
 ghost use Rattle.ops.specs.Table.{answerForm};
 ghost use Rattle.message.specs.Exchange.{wrote, sends, sendsHead, reads};
 ghost use Rattle.format.specs.Answer.{noticeOf};
+ghost use Rattle.format.specs.Sizes.{HEADER-BYTES};
 
 // Writes an answer that carries no string.
 pub fn write_reply(answer: Header, buffer: &mut [u8]) -> Outcome
-    requires { ⌜ 10 ≤ length (now buffer) ⌝ }
+    requires { ⌜ HEADER-BYTES ≤ length (now buffer) ⌝ }
     ensures { λ r. ⌜ wrote r (now (buffer .exit)) ≡ sends answer [] (now (buffer .entry)) ⌝ }
 {
     answer.put(buffer);
-    Outcome::Granted(10)
+    Outcome::Granted(HEADER_BYTES)
 }
 
 // Writes the header of CONTENTS, whose ARG2 bytes stand after the tenth byte of the buffer already.
 pub fn write_contents(answer: Header, buffer: &mut [u8]) -> Outcome
-    requires { ⌜ 10 ≤ length (now buffer) ⌝ }
+    requires { ⌜ HEADER-BYTES ≤ length (now buffer) ⌝ }
     ensures { λ r. ⌜ wrote r (now (buffer .exit)) ≡ sendsHead answer (answer .arg2) (now (buffer .entry)) ⌝ }
 {
     answer.put(buffer);
-    Outcome::Granted(10 + answer.arg2 as usize)
+    Outcome::Granted(HEADER_BYTES + answer.arg2 as usize)
 }
 
 // Writes the notice to a host that a process has stopped: kind 0 TRAP, 1 HALT, 2 BPT, 3 TTRAP.
@@ -57,7 +59,7 @@ pub fn write_notice(
 pub fn read_answer(message: &[u8]) -> Reading
     ensures { λ r. ⌜ r ≡ reads answerForm (now (message .entry)) ⌝ }
 {
-    if message.len() < 10 {
+    if message.len() < HEADER_BYTES {
         return Reading::Refused(3);
     }
     let h = Header::of(message);

@@ -1,5 +1,6 @@
 // Requests: the desk writes them, the gateway reads them.
 use crate::exchange::write;
+use format::HEADER_BYTES;
 use format::Header;
 use format::Outcome;
 use format::fixed_right;
@@ -30,7 +31,7 @@ pub enum Incoming {
 pub fn read_request(message: &[u8]) -> Incoming
     ensures { λ r. ⌜ r ≡ incoming (reads requestForm (now (message .entry))) ⌝ }
 {
-    if message.len() < 10 {
+    if message.len() < HEADER_BYTES {
         return Incoming::Refused(3);
     }
     let h = Header::of(message);

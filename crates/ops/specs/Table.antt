@@ -5,6 +5,7 @@ use mathlib.Core.List.{List, [], _∷_}
 use Prim.Native.Nat.{ℕ, _-_}
 use lib.ListN.{length, getD}
 use lib.Dec.{ltb, eqb}
+use Rattle.ops.specs.Codes.{NOP, NOTICE, CANT}
 use Rattle.ops.specs.declared.table.Carried.{Carried}
 use Rattle.ops.specs.declared.table.Carried.the-variants.{Nothing, Counted, Vector}
 use Rattle.ops.specs.declared.table.Form.{Form}
@@ -119,7 +120,7 @@ stripped Unknown = Unknown
 
 -- 'CAN'T adds 128 to CMD': the fields of the request and no string; '128 is not accepted, since NOP is never refused'
 unfoldable pub cantForm : ℕ → Found
-cantForm cmd = cond (eqb cmd 0) Unknown (stripped (requestForm cmd))
+cantForm cmd = cond (eqb cmd NOP) Unknown (stripped (requestForm cmd))
 
 -- the form of a notice by its kind
 unfoldable pub noticeForm : ℕ → Found
@@ -127,4 +128,4 @@ noticeForm kind = cond (ltb kind (length notices)) (Known (getD notices kind bar
 
 -- 'The desk reader accepts CMD 0 to 13, 129 to 141 and 64 to 67': the form of an answer, that is of a reply, notice or CAN'T
 unfoldable pub answerForm : ℕ → Found
-answerForm cmd = cond (ltb cmd 64) (replyForm cmd) (cond (ltb cmd 128) (noticeForm (cmd - 64)) (cantForm (cmd - 128)))
+answerForm cmd = cond (ltb cmd NOTICE) (replyForm cmd) (cond (ltb cmd CANT) (noticeForm (cmd - NOTICE)) (cantForm (cmd - CANT)))

@@ -23,8 +23,25 @@
 //    66                       PID ---- ---- 18     BPT, a notice
 //    67                       PID ---- ---- 18     TTRAP, a notice
 //   CAN'T: CMD + 128, the request's fields and no string; none for NOP.
+mod codes;
 mod table;
 
+pub use codes::BREAK;
+pub use codes::CANT;
+pub use codes::CREATE;
+pub use codes::DEBUG;
+pub use codes::DEPOSIT;
+pub use codes::DEPOSIT_VECTOR;
+pub use codes::DESTROY;
+pub use codes::END_DEBUG;
+pub use codes::EXAMINE;
+pub use codes::NOP;
+pub use codes::NOTICE;
+pub use codes::PROCEED;
+pub use codes::RESUME;
+pub use codes::SINGLE_STEP;
+pub use codes::STOP;
+pub use codes::UNBREAK;
 pub use table::Carried;
 pub use table::Form;
 pub use table::Found;

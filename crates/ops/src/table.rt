@@ -1,4 +1,7 @@
 // The table of op codes: which fields each message uses, and what string it carries. Nothing else knows which op uses what.
+use crate::codes::CANT;
+use crate::codes::NOP;
+use crate::codes::NOTICE;
 ghost use mathlib.Core.Path.{_≡_};
 ghost use Rattle.ops.specs.Table.{rowOf, requestForm, answerForm, replyForm, noticeForm, cantForm, withoutString};
 
@@ -169,7 +172,7 @@ fn reply_form(cmd: u8) -> Found
 fn cant_form(cmd: u8) -> Found
     ensures { λ r. ⌜ r ≡ cantForm cmd ⌝ }
 {
-    if cmd == 0 {
+    if cmd == NOP {
         return Found::Unknown;
     }
     let found = request_form(cmd);
@@ -196,11 +199,11 @@ fn notice_form(kind: u8) -> Found
 pub fn answer_form(cmd: u8) -> Found
     ensures { λ r. ⌜ r ≡ answerForm cmd ⌝ }
 {
-    if cmd < 64 {
+    if cmd < NOTICE {
         return reply_form(cmd);
     }
-    if cmd < 128 {
-        return notice_form(cmd - 64);
+    if cmd < CANT {
+        return notice_form(cmd - NOTICE);
     }
-    cant_form(cmd - 128)
+    cant_form(cmd - CANT)
 }

@@ -19,6 +19,7 @@ use Rattle.rules.specs.Rule.{ruleOf, creates}
 use Rattle.rules.specs.Tests.{badReport}
 use Rattle.rules.specs.Step.{Answer, replyOf}
 use Rattle.tasks.specs.Task.{processTests}
+use Rattle.ops.specs.Codes.{EXAMINE}
 use Rattle.ops.specs.declared.table.Form.{Form}
 use Rattle.service.specs.declared.target.Target.{Target}
 use Rattle.service.specs.declared.target.Target.the-variants.{Named, OutOfRange, New, Nowhere}
@@ -62,7 +63,7 @@ namedAt h string buffer l = namedBy (firstFailing (processTests h (l .process)))
 
 -- a granted request of this op code may change its process; EXAMINE does not
 unfoldable pub changes : ℕ → Bool
-changes cmd = not (eqb cmd 6)
+changes cmd = not (eqb cmd EXAMINE)
 
 -- CREATE, of process p
 unfoldable pub createdAt : ℕ → Header → List ℕ → Left

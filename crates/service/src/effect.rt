@@ -1,5 +1,17 @@
 // What a request does to the process that it names, once its tests have passed.
 use format::Header;
+use ops::BREAK;
+use ops::DEBUG;
+use ops::DEPOSIT;
+use ops::DEPOSIT_VECTOR;
+use ops::DESTROY;
+use ops::END_DEBUG;
+use ops::EXAMINE;
+use ops::PROCEED;
+use ops::RESUME;
+use ops::SINGLE_STEP;
+use ops::STOP;
+use ops::UNBREAK;
 use process::Process;
 ghost use mathlib.Core.Path.{_≡_};
 ghost use Prim.Native.Nat.{_≤_};
@@ -15,7 +27,7 @@ ghost use Rattle.service.specs.At.{changes};
 pub fn changes(cmd: u8) -> bool
     ensures { λ r. ⌜ r ≡ changes cmd ⌝ }
 {
-    cmd != 6
+    cmd != EXAMINE
 }
 
 // One method of the process for each op code; k is the entry that BREAK or UNBREAK goes to.
@@ -30,17 +42,17 @@ pub(crate) fn perform(h: Header, k: usize, p: Process, bytes: &mut [u8], string:
     let cmd = h.cmd;
     let at = h.arg1;
     match cmd {
-        1 => p.debug(h.host),
-        2 => p.end_debug(bytes),
-        3 => p.stop(bytes),
-        4 => p.deposit(bytes, at as usize, string),
-        5 => p.resume(),
-        7 => p.deposit_vector(at as usize, string),
-        8 => p.set_break(k, at, h.arg2, bytes),
-        9 => p.remove_from(k, bytes),
-        10 => p.single_step(bytes),
-        11 => p.proceed(bytes),
-        13 => Process::cleared(),
+        DEBUG => p.debug(h.host),
+        END_DEBUG => p.end_debug(bytes),
+        STOP => p.stop(bytes),
+        DEPOSIT => p.deposit(bytes, at as usize, string),
+        RESUME => p.resume(),
+        DEPOSIT_VECTOR => p.deposit_vector(at as usize, string),
+        BREAK => p.set_break(k, at, h.arg2, bytes),
+        UNBREAK => p.remove_from(k, bytes),
+        SINGLE_STEP => p.single_step(bytes),
+        PROCEED => p.proceed(bytes),
+        DESTROY => Process::cleared(),
         _ => p,
     }
 }

@@ -1,8 +1,10 @@
 // The answers to a request.
+use format::HEADER_BYTES;
 use format::Header;
 use format::Outcome;
 use message::write_contents;
 use message::write_reply;
+use ops::EXAMINE;
 use process::Process;
 ghost use mathlib.Core.Path.{_≡_};
 ghost use mathlib.Core.List.{[]};
@@ -15,10 +17,11 @@ ghost use Rattle.rules.specs.Rule.{ruleOf};
 ghost use Rattle.rules.specs.Tests.{ruleTests};
 ghost use Rattle.rules.specs.Step.{replyOf};
 ghost use Rattle.service.specs.At.{answer, cantBy};
+ghost use Rattle.format.specs.Sizes.{MESSAGE-BYTES, STRING-BYTES};
 
 // Writes the reply that carries no string.
 pub fn reply_plain(h: Header, reply: &mut [u8]) -> Outcome
-    requires { ⌜ 266 ≤ length (now reply) ⌝ }
+    requires { ⌜ MESSAGE-BYTES ≤ length (now reply) ⌝ }
     ensures { λ r. ⌜ answer r (now (reply .exit)) ≡ replyOf h [] (now (reply .entry)) ⌝ }
 {
     write_reply(h, reply)
@@ -26,7 +29,7 @@ pub fn reply_plain(h: Header, reply: &mut [u8]) -> Outcome
 
 // Writes the CAN'T, and refuses with this number.
 pub fn refuse(h: Header, number: u8, reply: &mut [u8]) -> Outcome
-    requires { ⌜ 266 ≤ length (now reply) ⌝ }
+    requires { ⌜ MESSAGE-BYTES ≤ length (now reply) ⌝ }
     ensures { λ r. ⌜ answer r (now (reply .exit)) ≡ cantBy number h (now (reply .entry)) ⌝ }
 {
     write_reply(h.cant(), reply);
@@ -35,13 +38,13 @@ pub fn refuse(h: Header, number: u8, reply: &mut [u8]) -> Outcome
 
 // Writes the reply to EXAMINE: the bytes asked for, and the header in front of them.
 fn reply_contents(h: Header, process: Process, bytes: &[u8], reply: &mut [u8]) -> Outcome
-    requires { ⌜ (h .arg1 + h .arg2 ≤ length (now bytes)) × (h .arg2 ≤ 256) ⌝ }
-    requires { ⌜ 266 ≤ length (now reply) ⌝ }
+    requires { ⌜ (h .arg1 + h .arg2 ≤ length (now bytes)) × (h .arg2 ≤ STRING-BYTES) ⌝ }
+    requires { ⌜ MESSAGE-BYTES ≤ length (now reply) ⌝ }
     ensures { λ r. ⌜ answer r (now (reply .exit)) ≡ replyOf h (examined (h .arg1) (h .arg2) (local process (now (bytes .entry)))) (now (reply .entry)) ⌝ }
 {
     let at = h.arg1 as usize;
-    let end = 10 + h.arg2 as usize;
-    process.examine(bytes, at, &mut reply[10..end]);
+    let end = HEADER_BYTES + h.arg2 as usize;
+    process.examine(bytes, at, &mut reply[HEADER_BYTES..end]);
     write_contents(h, reply)
 }
 
@@ -49,11 +52,11 @@ fn reply_contents(h: Header, process: Process, bytes: &[u8], reply: &mut [u8]) -
 pub(crate) fn reply_to(h: Header, process: Process, bytes: &[u8], reply: &mut [u8]) -> Outcome
     requires { ⌜ length (now bytes) ≡ 4096 ⌝ }
     requires { ⌜ firstFailing (ruleTests (ruleOf (h .cmd)) h process) ≡ 0 ⌝ }
-    requires { ⌜ 266 ≤ length (now reply) ⌝ }
+    requires { ⌜ MESSAGE-BYTES ≤ length (now reply) ⌝ }
     ensures { λ r. ⌜ answer r (now (reply .exit)) ≡ replyOf h (ruleOf (h .cmd) .shown h (local process (now (bytes .entry)))) (now (reply .entry)) ⌝ }
 {
     let cmd = h.cmd;
-    if cmd == 6 {
+    if cmd == EXAMINE {
         return reply_contents(h, process, bytes, reply);
     }
     reply_plain(h, reply)

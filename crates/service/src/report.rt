@@ -9,6 +9,7 @@ ghost use lib.ListN.{length};
 ghost use Rattle.process.specs.Local.{local, Tested};
 ghost use Rattle.rules.specs.Tests.{badReport};
 ghost use Rattle.service.specs.At.{answer, served, reportAway, reportNumberAt, noticeOr, reportAt};
+ghost use Rattle.format.specs.Sizes.{MESSAGE-BYTES};
 
 // 14: the kind is over 3, or there is a reason with a kind that is not TRAP.
 fn bad_report(kind: u8, reason: u16) -> bool
@@ -60,7 +61,7 @@ fn notify(
     words: [u16; 9],
     notice: &mut [u8],
 ) -> Outcome
-    requires { ⌜ 266 ≤ length (now notice) ⌝ }
+    requires { ⌜ MESSAGE-BYTES ≤ length (now notice) ⌝ }
     ensures { λ r. ⌜ answer r (now (notice .exit)) ≡ noticeOr host silent process kind reason words (now (notice .entry)) ⌝ }
 {
     if host == 0 {
@@ -83,7 +84,7 @@ pub fn report_for_process(
     notice: &mut [u8],
 ) -> Served
     requires { ⌜ Tested p (now bytes) ⌝ }
-    requires { ⌜ 266 ≤ length (now notice) ⌝ }
+    requires { ⌜ MESSAGE-BYTES ≤ length (now notice) ⌝ }
     ensures { λ r. ⌜ served (r .outcome) (r .process) (now (bytes .exit)) (now (notice .exit)) ≡ reportAt process kind reason words (now (notice .entry)) (local p (now (bytes .entry))) ⌝ }
 {
     let number = report_number_at(p, kind);

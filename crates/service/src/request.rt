@@ -17,6 +17,7 @@ ghost use Rattle.rules.specs.Rule.{ruleOf};
 ghost use Rattle.rules.specs.Tests.{ruleTests};
 ghost use Rattle.tasks.specs.Task.{entryOf};
 ghost use Rattle.service.specs.At.{served, namedBy, namedAt, createdAt};
+ghost use Rattle.format.specs.Sizes.{MESSAGE-BYTES};
 
 // Writes the reply to a request whose tests have passed, and does what it asks for.
 fn grant(
@@ -31,7 +32,7 @@ fn grant(
     requires { ⌜ firstFailing (ruleTests (ruleOf (h .cmd)) h process) ≡ 0 ⌝ }
     requires { ⌜ k ≡ entryOf (h .cmd) (h .arg1) process ⌝ }
     requires { ⌜ length (now string) ≤ h .arg2 ⌝ }
-    requires { ⌜ 266 ≤ length (now reply) ⌝ }
+    requires { ⌜ MESSAGE-BYTES ≤ length (now reply) ⌝ }
     ensures { λ r. ⌜ served (r .outcome) (r .process) (now (bytes .exit)) (now (reply .exit)) ≡ namedBy 0 h (now (string .entry)) (now (reply .entry)) (local process (now (bytes .entry))) ⌝ }
 {
     let outcome = reply_to(h, process, bytes, reply);
@@ -52,7 +53,7 @@ pub fn answer_for_process(
 ) -> Served
     requires { ⌜ Tested process (now bytes) ⌝ }
     requires { ⌜ length (now string) ≤ h .arg2 ⌝ }
-    requires { ⌜ 266 ≤ length (now reply) ⌝ }
+    requires { ⌜ MESSAGE-BYTES ≤ length (now reply) ⌝ }
     ensures { λ r. ⌜ served (r .outcome) (r .process) (now (bytes .exit)) (now (reply .exit)) ≡ namedAt h (now (string .entry)) (now (reply .entry)) (local process (now (bytes .entry))) ⌝ }
 {
     let task = task_of(h, process);
@@ -69,7 +70,7 @@ pub fn answer_for_process(
 pub fn answer_create(h: Header, pid: usize, bytes: &mut [u8], reply: &mut [u8]) -> Served
     requires { ⌜ pid < 8 ⌝ }
     requires { ⌜ length (now bytes) ≡ 4096 ⌝ }
-    requires { ⌜ 266 ≤ length (now reply) ⌝ }
+    requires { ⌜ MESSAGE-BYTES ≤ length (now reply) ⌝ }
     ensures { λ r. ⌜ served (r .outcome) (r .process) (now (bytes .exit)) (now (reply .exit)) ≡ createdAt pid h (now (reply .entry)) ⌝ }
 {
     let process = Process::create(h.host, bytes);

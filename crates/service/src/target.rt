@@ -1,5 +1,6 @@
 // Where a request goes.
 use format::Header;
+use ops::CREATE;
 use ops::Form;
 ghost use mathlib.Core.Path.{_≡_};
 ghost use Rattle.service.specs.At.{targetOf};
@@ -26,7 +27,7 @@ pub fn target_of(form: Form, h: Header) -> Target
         }
         return Target::OutOfRange;
     }
-    if h.cmd == 12 {
+    if h.cmd == CREATE {
         return Target::New;
     }
     Target::Nowhere

@@ -3,6 +3,7 @@ use mathlib.Core.Bool.{not, cond}
 use mathlib.Core.List.{List, [], _∷_}
 use Prim.Native.Nat.{ℕ, zero, suc}
 use lib.Dec.{eqb}
+use Rattle.ops.specs.Codes.{BREAK, UNBREAK}
 use Rattle.format.specs.declared.header.Header.{Header}
 use Rattle.format.specs.Outcome.{Test, test, firstFailing}
 use Rattle.process.specs.declared.record.Process.{Process}
@@ -21,7 +22,7 @@ taskBy (suc n) task = Refuse (suc n)
 
 -- the entry of the process that a BREAK or UNBREAK at this address goes to; others go to none, and have 0
 unfoldable pub entryOf : ℕ → ℕ → Process → ℕ
-entryOf cmd a p = cond (eqb cmd 8) (entryFor a p) (cond (eqb cmd 9) (find (At a) p) 0)
+entryOf cmd a p = cond (eqb cmd BREAK) (entryFor a p) (cond (eqb cmd UNBREAK) (find (At a) p) 0)
 
 -- by the tests 11 and 12
 unfoldable pub entryTask : ℕ → ℕ → Process → Task

@@ -3,6 +3,15 @@ use crate::task::Task;
 use breakpoints::Want;
 use breakpoints::placed;
 use format::Header;
+use ops::BREAK;
+use ops::DEBUG;
+use ops::DEPOSIT;
+use ops::DEPOSIT_VECTOR;
+use ops::EXAMINE;
+use ops::PROCEED;
+use ops::RESUME;
+use ops::SINGLE_STEP;
+use ops::UNBREAK;
 use process::Process;
 use process::Run;
 ghost use mathlib.Core.Path.{_≡_};
@@ -10,12 +19,13 @@ ghost use mathlib.Core.Bool.{_&&_};
 ghost use lib.Dec.{leb};
 ghost use Rattle.rules.specs.Rule.{public, ruleOf};
 ghost use Rattle.tasks.specs.Task.{entryTask, ruleTask};
+ghost use Rattle.ops.specs.Codes.{BREAK, UNBREAK};
 
 // 8: the asker debugs the process; for DEBUG, no other host does.
 fn right(cmd: u8, p: Process, asker: u8) -> bool
     ensures { λ r. ⌜ r ≡ ruleOf cmd .right (public p) asker ⌝ }
 {
-    if cmd != 1 {
+    if cmd != DEBUG {
         return p.host == asker;
     }
     p.host == 0 || p.host == asker
@@ -25,13 +35,13 @@ fn right(cmd: u8, p: Process, asker: u8) -> bool
 fn runs(cmd: u8, run: Run) -> bool
     ensures { λ r. ⌜ r ≡ ruleOf cmd .runs run ⌝ }
 {
-    if cmd == 5 {
+    if cmd == RESUME {
         return run.halted();
     }
-    if cmd == 10 {
+    if cmd == SINGLE_STEP {
         return run.halted();
     }
-    if cmd == 11 {
+    if cmd == PROCEED {
         return run.at_break();
     }
     true
@@ -51,16 +61,16 @@ fn range(h: Header) -> bool
     let arg1 = h.arg1;
     let arg2 = h.arg2;
     let end = arg1 as usize + arg2 as usize;
-    if h.cmd == 4 {
+    if h.cmd == DEPOSIT {
         return end <= 4096;
     }
-    if h.cmd == 6 {
+    if h.cmd == EXAMINE {
         return readable(end, arg2);
     }
-    if h.cmd == 7 {
+    if h.cmd == DEPOSIT_VECTOR {
         return end <= 18;
     }
-    if h.cmd == 8 {
+    if h.cmd == BREAK {
         return placed(arg1);
     }
     true
@@ -68,7 +78,7 @@ fn range(h: Header) -> bool
 
 // 11: a BREAK at this address has an entry to go to.
 fn break_task(a: u16, p: Process) -> Task
-    ensures { λ r. ⌜ r ≡ entryTask 8 a p ⌝ }
+    ensures { λ r. ⌜ r ≡ entryTask BREAK a p ⌝ }
 {
     let k = p.entry_for(a);
     if k < 8 {
@@ -79,7 +89,7 @@ fn break_task(a: u16, p: Process) -> Task
 
 // 12: there is a breakpoint to remove.
 fn unbreak_task(a: u16, p: Process) -> Task
-    ensures { λ r. ⌜ r ≡ entryTask 9 a p ⌝ }
+    ensures { λ r. ⌜ r ≡ entryTask UNBREAK a p ⌝ }
 {
     let k = p.find(Want::At(a));
     if k < 8 {
@@ -92,10 +102,10 @@ fn unbreak_task(a: u16, p: Process) -> Task
 fn entry_task(cmd: u8, a: u16, p: Process) -> Task
     ensures { λ r. ⌜ r ≡ entryTask cmd a p ⌝ }
 {
-    if cmd == 8 {
+    if cmd == BREAK {
         return break_task(a, p);
     }
-    if cmd == 9 {
+    if cmd == UNBREAK {
         return unbreak_task(a, p);
     }
     Task::Change(0)

@@ -1,0 +1,10 @@
+// The sizes of a message.
+
+// The ten bytes that every message starts with.
+pub const HEADER_BYTES: usize = 10;
+
+// The longest string after them.
+pub const STRING_BYTES: usize = 256;
+
+// The longest message, and so the room that every output buffer needs.
+pub const MESSAGE_BYTES: usize = 266;
