@@ -8,7 +8,7 @@ pub(crate) fn text(bytes: &[u8]) {
     io::write_all(STDOUT_FILENO, bytes);
 }
 
-fn character(c: u8) {
+pub(crate) fn character(c: u8) {
     text(&[c]);
 }
 

@@ -31,7 +31,7 @@ fn row(cmd: u8) -> bool {
         return false;
     };
     if cmd < 10 {
-        show::text(b" ");
+        show::character(32);
     }
     show::numbers(b" %  ", [cmd as u64, 0, 0, 0, 0, 0, 0]);
     if let Found::Known(request) = ops::request_form(cmd) {

@@ -33,6 +33,16 @@ fn sample(f: Form, cmd: u8) -> Header {
     }
 }
 
+// The length of a request's string.
+fn carried(f: Form, h: Header) -> usize {
+    let carried = f.carried;
+    if let Carried::Counted = carried {
+        h.arg2 as usize
+    } else {
+        0
+    }
+}
+
 // Each is written into the same buffer: what stands behind the ten bytes of EXAMINE's reply is then its string.
 fn op(cmd: u8) {
     let Found::Known(f) = ops::request_form(cmd) else {
@@ -40,21 +50,14 @@ fn op(cmd: u8) {
     };
     let h = sample(f, cmd);
     let mut buffer = [97u8; 266];
-    show::text(b"\n");
-    let request = write_request(f, h, &mut buffer);
+    show::character(10);
+    let string = show::front(b"abc", carried(f, h));
+    let request = message::write_request(h, string, &mut buffer);
     show::written(request, &buffer, false);
     let reply = write_reply(h, &mut buffer);
     show::written(reply, &buffer, true);
     let cant = message::write_cant(h, &mut buffer);
     show::written(cant, &buffer, true);
-}
-
-fn write_request(f: Form, h: Header, buffer: &mut [u8]) -> Outcome {
-    let carried = f.carried;
-    if let Carried::Counted = carried {
-        return message::write_request(h, b"abc", buffer);
-    }
-    message::write_request(h, b"", buffer)
 }
 
 // CREATE's reply has the number of the new process.
