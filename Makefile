@@ -1,4 +1,5 @@
-# make test   the gate: layout of the files, every proof, must-fail edit and program, then a recording and the library from outside
+# make test   the gate: format of the files, every proof, wrong program and program, then a recording and the library from outside
+# make edits  the wrong programs that the gate leaves out; CRATES="process rules" or SINCE=HEAD~3 (the crates changed since then) for some
 # make model  the library against the model; CALLS=2000000 SEED=7 for a longer run
 # make bench  instructions a call, stack and code size of the library, beside the model
 # make fuzz   a coverage-guided fuzzer on library and model; SECONDS=600 for a longer run
@@ -6,10 +7,13 @@
 
 SECONDS = 60
 
-.PHONY: test run model bench fuzz library
+.PHONY: test edits run model bench fuzz library
 
 test:
 	@sh checks/gate
+
+edits:
+	@SINCE="$(SINCE)" sh checks/edits $(CRATES)
 
 CALLS = 200000
 SEED = 1
@@ -30,7 +34,6 @@ fuzz: library
 run: target/bin/replay
 	@sh examples/play examples/handover.txt
 
-target/bin/%: crates.txt $(shell find crates -type f)
-	@mkdir -p target
-	@rt check $* >target/run.log 2>&1 || { cat target/run.log; exit 1; }
+target/bin/%: crates.txt $(shell find crates -type f ! -name '*.edit')
+	@sh checks/build $* >&2
 	@touch $@

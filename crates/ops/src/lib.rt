@@ -1,7 +1,7 @@
 // The table of op codes: which fields each message of RFC 643 uses, and what string it carries.
 //
-// As the program layout prints it from table.rt: the fields that a message uses, and the string that it carries, which is none, ARG2 bytes,
-// or the 18 bytes of a state vector, low byte first. An unused field is zero.
+// As the program message_tables prints it from table.rt: the fields that a message uses, and the string that it carries, which is none,
+// ARG2 bytes, or the 18 bytes of a state vector, low byte first. An unused field is zero.
 //
 //   CMD  request              reply
 //     0  --- ---- ---- none   --- ---- ---- none   NOP

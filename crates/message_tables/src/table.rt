@@ -10,37 +10,37 @@ pub(crate) fn show_table() {
     show::text(b"CAN'T: CMD + 128, the request's fields and no string; none for NOP.\n");
 }
 
+// A row for each CMD that is known. The names are in the order of CMD.
 fn rows() {
+    let names =
+        b"NOP\nDEBUG\nEND DEBUG\nSTOP\nDEPOSIT\nRESUME\nEXAMINE\nDEPOSIT STATE VECTOR\nBREAK\nUNBREAK\nSINGLE STEP\nPROCEED BPT\n\
+        CREATE PROCESS\nDESTROY PROCESS\nTRAP, a notice\nHALT, a notice\nBPT, a notice\nTTRAP, a notice\n";
+    let mut next = 0;
     let mut cmd: u8 = 0;
     while cmd < 128 {
-        row(cmd);
+        if row(cmd) {
+            next = show::line(names, next);
+        }
         cmd += 1;
     }
 }
 
-// A line for a CMD that is known, and none for one that is not.
-fn row(cmd: u8) {
+// Prints all but the name of a CMD that is known, and returns whether it is.
+fn row(cmd: u8) -> bool {
     let Found::Known(answer) = ops::answer_form(cmd) else {
-        return;
+        return false;
     };
-    width_three(cmd);
+    if cmd < 10 {
+        show::character(32);
+    }
+    show::numbers(b" %  ", [cmd as u64, 0, 0, 0, 0, 0, 0]);
     if let Found::Known(request) = ops::request_form(cmd) {
         form(request);
     } else {
         show::text(b"                     ");
     }
     form(answer);
-    name(cmd);
-    show::text(b"\n");
-}
-
-fn width_three(cmd: u8) {
-    if cmd < 10 {
-        show::text(b" ");
-    }
-    show::text(b" ");
-    show::number(cmd as u64);
-    show::text(b"  ");
+    true
 }
 
 // The used fields, and what is carried.
@@ -61,29 +61,5 @@ fn used(yes: bool, name: &[u8], dashes: &[u8]) {
         show::text(name);
     } else {
         show::text(dashes);
-    }
-}
-
-fn name(cmd: u8) {
-    match cmd {
-        0 => show::text(b"NOP"),
-        1 => show::text(b"DEBUG"),
-        2 => show::text(b"END DEBUG"),
-        3 => show::text(b"STOP"),
-        4 => show::text(b"DEPOSIT"),
-        5 => show::text(b"RESUME"),
-        6 => show::text(b"EXAMINE"),
-        7 => show::text(b"DEPOSIT STATE VECTOR"),
-        8 => show::text(b"BREAK"),
-        9 => show::text(b"UNBREAK"),
-        10 => show::text(b"SINGLE STEP"),
-        11 => show::text(b"PROCEED BPT"),
-        12 => show::text(b"CREATE PROCESS"),
-        13 => show::text(b"DESTROY PROCESS"),
-        64 => show::text(b"TRAP, a notice"),
-        65 => show::text(b"HALT, a notice"),
-        66 => show::text(b"BPT, a notice"),
-        67 => show::text(b"TTRAP, a notice"),
-        _ => show::text(b"?"),
     }
 }

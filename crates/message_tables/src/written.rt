@@ -23,59 +23,44 @@ fn ops() {
     }
 }
 
+fn sample(f: Form, cmd: u8) -> Header {
+    Header {
+        host: 5,
+        cmd: cmd,
+        pid: if f.pid { 2 } else { 0 },
+        arg1: if f.arg1 { 258 } else { 0 },
+        arg2: if f.arg2 { 3 } else { 0 },
+    }
+}
+
+// The length of a request's string.
+fn carried(f: Form, h: Header) -> usize {
+    let carried = f.carried;
+    if let Carried::Counted = carried {
+        h.arg2 as usize
+    } else {
+        0
+    }
+}
+
+// Each is written into the same buffer: what stands behind the ten bytes of EXAMINE's reply is then its string.
 fn op(cmd: u8) {
     let Found::Known(f) = ops::request_form(cmd) else {
         return;
     };
     let h = sample(f, cmd);
-    show::text(b"\n");
-    request(f, h);
-    reply(h);
-    cant(h);
-}
-
-fn sample(f: Form, cmd: u8) -> Header {
-    let mut h = Header {
-        host: 5,
-        cmd: cmd,
-        pid: 0,
-        arg1: 0,
-        arg2: 0,
-    };
-    if f.pid {
-        h.pid = 2;
-    }
-    if f.arg1 {
-        h.arg1 = 258;
-    }
-    if f.arg2 {
-        h.arg2 = 3;
-    }
-    h
-}
-
-fn request(f: Form, h: Header) {
-    let mut buffer = [0u8; 266];
-    let written = write_request(f, h, &mut buffer);
-    show::written_request(written, &buffer);
-}
-
-fn write_request(f: Form, h: Header, buffer: &mut [u8]) -> Outcome {
-    let carried = f.carried;
-    match carried {
-        Carried::Counted => message::write_request(h, b"abc", buffer),
-        Carried::Nothing => message::write_request(h, b"", buffer),
-        Carried::Vector => message::write_request(h, b"", buffer),
-    }
-}
-
-fn reply(h: Header) {
     let mut buffer = [97u8; 266];
-    let written = write_reply(h, &mut buffer);
-    show::written_answer(written, &buffer);
+    show::character(10);
+    let string = show::front(b"abc", carried(f, h));
+    let request = message::write_request(h, string, &mut buffer);
+    show::written(request, &buffer, false);
+    let reply = write_reply(h, &mut buffer);
+    show::written(reply, &buffer, true);
+    let cant = message::write_cant(h, &mut buffer);
+    show::written(cant, &buffer, true);
 }
 
-// EXAMINE's reply carries what stands in the buffer; CREATE's has the number of the new process.
+// CREATE's reply has the number of the new process.
 fn write_reply(h: Header, buffer: &mut [u8]) -> Outcome {
     let cmd = h.cmd;
     match cmd {
@@ -83,12 +68,6 @@ fn write_reply(h: Header, buffer: &mut [u8]) -> Outcome {
         12 => message::write_created(h, 7, buffer),
         _ => message::write_reply(h, buffer),
     }
-}
-
-fn cant(h: Header) {
-    let mut buffer = [0u8; 266];
-    let written = message::write_cant(h, &mut buffer);
-    show::written_answer(written, &buffer);
 }
 
 pub(crate) fn show_notices() {
@@ -107,5 +86,5 @@ fn notice(kind: u8, reason: u16) {
     let mut buffer = [0u8; 266];
     let vector: [u16; 9] = [1, 2, 3, 4, 5, 6, 4094, 256, 61440];
     let written = message::write_notice(5, kind, 2, reason, vector, &mut buffer);
-    show::written_answer(written, &buffer);
+    show::written(written, &buffer, true);
 }

@@ -1,10 +1,10 @@
--- `layout::show::hex` ends: the index rises to the length. Assumes nothing.
+-- `message_tables::show::hex` ends: the index rises to the length. Assumes nothing.
 use Prim.Native.Nat.{_≤_, _-_}
 use native.Mathlib.Omega.{arith}
 use borrow.Author.Needs.{needs}
 use lib.ListN.{length}
-use Rattle.layout.proofs.show.hex.Statement.{statement}
-use Rattle.layout.proofs.show.hex.Tie as tie
+use Rattle.message_tables.proofs.show.hex.Statement.{statement}
+use Rattle.message_tables.proofs.show.hex.Tie as tie
 
 abbrev Inv-loop : tie.InvT-loop
 Inv-loop bytes i₀ i = (i ≤ length bytes)

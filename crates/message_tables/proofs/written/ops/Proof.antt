@@ -1,9 +1,9 @@
--- `layout::written::ops` ends: CMD rises to 128. Assumes nothing.
+-- `message_tables::written::ops` ends: CMD rises to 128. Assumes nothing.
 use Prim.Native.Nat.{_≤_, _-_}
 use native.Mathlib.Omega.{arith}
 use borrow.Author.Needs.{needs}
-use Rattle.layout.proofs.written.ops.Statement.{statement}
-use Rattle.layout.proofs.written.ops.Tie as tie
+use Rattle.message_tables.proofs.written.ops.Statement.{statement}
+use Rattle.message_tables.proofs.written.ops.Tie as tie
 
 abbrev Inv-loop : tie.InvT-loop
 Inv-loop cmd₀ cmd = (cmd ≤ 128)

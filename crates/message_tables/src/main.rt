@@ -10,6 +10,5 @@ fn main() {
     written::show_ops();
     written::show_notices();
     refused::show_writer();
-    refused::show_request_reader();
-    refused::show_answer_reader();
+    refused::show_readers();
 }

@@ -1,9 +1,9 @@
--- `layout::show::front` meets its contract: a part that was tested to be within the whole has the length asked. Assumes nothing.
+-- `message_tables::show::front` meets its contract: a part that was tested to be within the whole has the length asked. Assumes nothing.
 use mathlib.Core.Path.{sym}
 use borrow.Author.Needs.{needs}
 use lib.Seq.{length-take-le}
-use Rattle.layout.proofs.show.front.Statement.{statement}
-use Rattle.layout.proofs.show.front.Tie as tie
+use Rattle.message_tables.proofs.show.front.Statement.{statement}
+use Rattle.message_tables.proofs.show.front.Tie as tie
 
 slice-aggregate-result : tie.Need-slice-aggregate-result
 slice-aggregate-result c = sym (length-take-le _ _ (c .before .if1 .taken))
