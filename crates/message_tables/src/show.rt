@@ -1,8 +1,10 @@
 // Printing of text, numbers, bytes, outcomes and readings. What a check of this crate costs goes by the number of functions and of texts
 // in quotation marks, so both are few.
+use format::Header;
 use format::Outcome;
 use format::Reading;
 use libc::STDOUT_FILENO;
+use message::Incoming;
 
 pub(crate) fn text(bytes: &[u8]) {
     io::write_all(STDOUT_FILENO, bytes);
@@ -56,36 +58,51 @@ fn hex(bytes: &[u8]) {
     }
 }
 
-// What a reader found in a message.
-fn reading(found: Reading, message: &[u8]) {
-    match found {
-        Reading::Message(h) => {
-            numbers(
-                b"  is HOST % CMD % PID % ARG1 % ARG2 % string",
-                [
-                    h.host as u64,
-                    h.cmd as u64,
-                    h.pid as u64,
-                    h.arg1 as u64,
-                    h.arg2 as u64,
-                    0,
-                    0,
-                ],
-            );
-            hex(format::string(message));
-        }
-        Reading::Refused(n) => numbers(b"  refused %", [n as u64, 0, 0, 0, 0, 0, 0]),
+// The fields of a message, and its string.
+fn fields(h: Header, message: &[u8]) {
+    numbers(
+        b"  is HOST % CMD % PID % ARG1 % ARG2 % string",
+        [
+            h.host as u64,
+            h.cmd as u64,
+            h.pid as u64,
+            h.arg1 as u64,
+            h.arg2 as u64,
+            0,
+            0,
+        ],
+    );
+    hex(format::string(message));
+}
+
+fn refused(number: u8) {
+    numbers(b"  refused %", [number as u64, 0, 0, 0, 0, 0, 0]);
+}
+
+// What the desk finds in a message.
+fn read_answer(message: &[u8]) {
+    match message::read_answer(message) {
+        Reading::Message(h) => fields(h, message),
+        Reading::Refused(n) => refused(n),
     }
-    character(10);
+}
+
+// What the gateway finds in a message.
+fn read_request(message: &[u8]) {
+    match message::read_request(message) {
+        Incoming::Request(h, _) => fields(h, message),
+        Incoming::Refused(n) => refused(n),
+    }
 }
 
 // What the desk, or else the gateway, reads of a message.
 pub(crate) fn read(message: &[u8], desk: bool) {
     if desk {
-        reading(message::read_answer(message), message);
+        read_answer(message);
     } else {
-        reading(message::read_request(message), message);
+        read_request(message);
     }
+    character(10);
 }
 
 // A message, and what is read of it.

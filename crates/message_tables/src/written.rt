@@ -6,8 +6,11 @@ use format::Outcome;
 use ops::Carried;
 use ops::Form;
 use ops::Found;
+ghost use Prim.Native.Nat.{_≤_};
+ghost use lib.ListN.{length};
+ghost use Rattle.format.specs.Sizes.{HEADER-BYTES};
 
-// Of each op code the request, the reply that grants it and the CAN'T.
+// Of each op code the request, the reply that grants it and, but for NOP, the CAN'T.
 pub(crate) fn show_ops() {
     show::text(
         b"\nOf each op code the request, the reply and the CAN'T, each with what the other end reads of it:\n",
@@ -56,30 +59,31 @@ fn op(cmd: u8) {
     show::written(request, &buffer, false);
     let reply = write_reply(h, &mut buffer);
     show::written(reply, &buffer, true);
-    let cant = message::write_cant(h, &mut buffer);
+    if cmd == ops::NOP {
+        return;
+    }
+    let cant = message::write_reply(h.cant(), &mut buffer);
     show::written(cant, &buffer, true);
 }
 
 // CREATE's reply has the number of the new process.
-fn write_reply(h: Header, buffer: &mut [u8]) -> Outcome {
+fn write_reply(h: Header, buffer: &mut [u8]) -> Outcome
+    requires { ⌜ HEADER-BYTES ≤ length (now buffer) ⌝ }
+{
     let cmd = h.cmd;
     match cmd {
-        6 => message::write_contents(h, buffer),
-        12 => message::write_created(h, 7, buffer),
+        ops::EXAMINE => message::write_contents(h, buffer),
+        ops::CREATE => message::write_reply(h.created(7), buffer),
         _ => message::write_reply(h, buffer),
     }
 }
 
 pub(crate) fn show_notices() {
-    show::text(
-        b"\nThe notices, then a reason that HALT does not carry and a kind that there is not:\n",
-    );
+    show::text(b"\nThe notices:\n");
     notice(0, 4);
     notice(1, 0);
     notice(2, 0);
     notice(3, 0);
-    notice(1, 4);
-    notice(4, 0);
 }
 
 fn notice(kind: u8, reason: u16) {
