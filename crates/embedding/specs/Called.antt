@@ -12,7 +12,7 @@ use Rattle.state.specs.Gateway.{freshStart}
 use Rattle.rules.specs.Tests.{lent, noRoom}
 use Rattle.rules.specs.Step.{Stepped, requested, noted}
 use Rattle.rules.specs.Isolation.{isGranted}
-use Rattle.image.specs.Form.{stateBytes, stateOf, stateFormed, stateSound}
+use Rattle.state_bytes.specs.Form.{stateBytes, stateOf, stateFormed, stateSound}
 
 -- what a call returns, and state, memory and output buffer after it
 pub record Called : Type 0 where
@@ -37,16 +37,16 @@ Short (Refused n) = Unit {0}
 
 -- a call on the record that the bytes are the form of; a refused one leaves the bytes
 unfoldable pub finished : List ℕ → Stepped → Called
-finished image x = record {
+finished state x = record {
   result = signed (x .answer .outcome);
-  state = cond (isGranted (x .answer .outcome)) (stateBytes (x .after .gateway)) image;
+  state = cond (isGranted (x .answer .outcome)) (stateBytes (x .after .gateway)) state;
   memory = x .after .memory;
   buffer = x .answer .buffer;
 }
 
 -- bytes that are no state's: refused by this number, and nothing is written
 unfoldable pub unformed : ℕ → List ℕ → List ℕ → List ℕ → Called
-unformed number image memory buffer = record { result = minus number; state = image; memory = memory; buffer = buffer }
+unformed number state memory buffer = record { result = minus number; state = state; memory = memory; buffer = buffer }
 
 -- the tests 1 and 2 where the bytes are no state's
 unfoldable pub unformedNumber : List ℕ → List ℕ → ℕ
@@ -54,20 +54,20 @@ unformedNumber memory buffer = cond (noRoom memory buffer) 1 2
 
 -- the tests 1 and 2
 unfoldable pub lentOn : List ℕ → List ℕ → List ℕ → ℕ
-lentOn image memory buffer = cond (noRoom memory buffer) 1 (cond (stateSound image) 0 2)
+lentOn state memory buffer = cond (noRoom memory buffer) 1 (cond (stateSound state) 0 2)
 
 -- a request: the tests 1 and 2 where the bytes are no state's, else the gateway's call on the record that they are the form of
 unfoldable pub requestOn : List ℕ → List ℕ → List ℕ → List ℕ → Called
-requestOn image memory message reply =
-    cond (stateFormed image) (finished image (requested message reply (lent (stateOf image) memory)))
-    (unformed (unformedNumber memory reply) image memory reply)
+requestOn state memory message reply =
+    cond (stateFormed state) (finished state (requested message reply (lent (stateOf state) memory)))
+    (unformed (unformedNumber memory reply) state memory reply)
 
 -- a report, in the same way; the words are 18 bytes, low byte first, and words of another length are a lent buffer of the wrong length, test 1
 unfoldable pub reportOn : List ℕ → List ℕ → ℕ → ℕ → ℕ → List ℕ → List ℕ → Called
-reportOn image memory p kind reason words notice =
-    cond (not (eqb (length words) 18)) (unformed 1 image memory notice)
-    (cond (stateFormed image) (finished image (noted p kind reason (vectorOf words) notice (lent (stateOf image) memory)))
-    (unformed (unformedNumber memory notice) image memory notice))
+reportOn state memory p kind reason words notice =
+    cond (not (eqb (length words) 18)) (unformed 1 state memory notice)
+    (cond (stateFormed state) (finished state (noted p kind reason (vectorOf words) notice (lent (stateOf state) memory)))
+    (unformed (unformedNumber memory notice) state memory notice))
 
 -- process p is there where bit p is set
 unfoldable pub bitsOf : ℕ → List Bool
@@ -84,8 +84,8 @@ bitsOf n =
 
 -- a fresh start, where the state's buffer has its length
 unfoldable pub startOn : ℕ → List ℕ → List ℕ
-startOn there image = cond (eqb (length image) 680) (stateBytes (freshStart (bitsOf there))) image
+startOn there state = cond (eqb (length state) 680) (stateBytes (freshStart (bitsOf there))) state
 
 -- 0 where the state's buffer has its length, else refused by 1
 unfoldable pub startResult : List ℕ → ℤ
-startResult image = cond (eqb (length image) 680) (pos 0) (minus 1)
+startResult state = cond (eqb (length state) 680) (pos 0) (minus 1)

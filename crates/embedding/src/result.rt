@@ -1,13 +1,13 @@
 // What a call returns.
 use format::Outcome;
-use image::put_process_at;
 use process::Process;
+use state_bytes::put_process_at;
 ghost use mathlib.Core.Path.{_≡_};
 ghost use mathlib.Core.Bool.{cond};
 ghost use Prim.Native.Nat.{_<_};
 ghost use lib.ListN.{length};
 ghost use Rattle.rules.specs.Isolation.{isGranted};
-ghost use Rattle.image.specs.Form.{withProcessBytes};
+ghost use Rattle.state_bytes.specs.Form.{withProcessBytes};
 ghost use Rattle.embedding.specs.Called.{minus, Short, signed};
 
 // Minus this number.
@@ -29,16 +29,16 @@ pub(crate) fn signed(outcome: Outcome) -> i64
 }
 
 // The same, and where it is granted the record of process p goes back into its bytes.
-pub(crate) fn finish(outcome: Outcome, next: Process, p: usize, image: &mut [u8]) -> i64
+pub(crate) fn finish(outcome: Outcome, next: Process, p: usize, state: &mut [u8]) -> i64
     requires { ⌜ Short outcome ⌝ }
     requires { ⌜ p < 8 ⌝ }
-    requires { ⌜ length (now image) ≡ 680 ⌝ }
+    requires { ⌜ length (now state) ≡ 680 ⌝ }
     ensures { λ r. ⌜ r ≡ signed outcome ⌝ }
-    ensures { λ _. ⌜ now (image .exit) ≡ cond (isGranted outcome) (withProcessBytes p next (now (image .entry))) (now (image .entry)) ⌝ }
+    ensures { λ _. ⌜ now (state .exit) ≡ cond (isGranted outcome) (withProcessBytes p next (now (state .entry))) (now (state .entry)) ⌝ }
 {
     match outcome {
         Outcome::Granted(n) => {
-            put_process_at(next, p, image);
+            put_process_at(next, p, state);
             n as i64
         }
         Outcome::Refused(n) => minus(n),

@@ -7,7 +7,7 @@ use Rattle.rules.specs.Tests.{lent}
 use Rattle.rules.specs.Isolation.{isGranted}
 use Rattle.service.specs.At.{awayAnswer}
 use Rattle.gateway.proofs.AskedLaws.{answerable, carried-short, asked-away}
-use Rattle.image.specs.Form.{stateOf}
+use Rattle.state_bytes.specs.Form.{stateOf}
 use Rattle.embedding.specs.Called.{signed, finished}
 use Rattle.embedding.proofs.ShortLaws.{asked-short}
 use Rattle.embedding.proofs.LentLaws.{lent-formed, lent-fits, lent-long}
@@ -22,7 +22,7 @@ target-of-requires : tie.Need-target-of-requires
 target-of-requires c κs =
     let s = c .before .before .before .before .before in
     let a = s .args in
-    omega (arith, lent-long (a .image .now) (a .memory .now) (a .reply .now) (s .pre .1))
+    omega (arith, lent-long (a .state .now) (a .memory .now) (a .reply .now) (s .pre .1))
 
 string-requires : tie.Need-string-requires
 string-requires c κs = search needs
@@ -32,7 +32,7 @@ answer-process-requires c κs =
     let i = c .before .before .before .before in
     let s = i .before .before .before .before .before .before .before in
     let a = s .args in
-    let fit = lent-fits (a .image .now) (a .memory .now) (a .reply .now) (s .pre .1) in
+    let fit = lent-fits (a .state .now) (a .memory .now) (a .reply .now) (s .pre .1) in
     let short = carried-short (a .message .now) (a .h) (s .pre .0) (a .reply .now) (fit .room) in
     ((i .before .target-of .ensures, i .if1 .taken), (s .pre .1, (rw (c .before .string .ensures) short, answerable (a .message .now) (a .h) (s .pre .0))))
 
@@ -56,7 +56,7 @@ answer-away-requires : tie.Need-answer-away-requires
 answer-away-requires c κs =
     let s = c .before .before .before .before .before .before .before .before in
     let a = s .args in
-    let fit = lent-fits (a .image .now) (a .memory .now) (a .reply .now) (s .pre .1) in
+    let fit = lent-fits (a .state .now) (a .memory .now) (a .reply .now) (s .pre .1) in
     (answerable (a .message .now) (a .h) (s .pre .0), fit .room)
 
 signed-requires : tie.Need-signed-requires
@@ -65,7 +65,7 @@ signed-requires c κs =
     let i = w .before .before in
     let s = i .before .before .before .before .before .before .before in
     let a = s .args in
-    let g = stateOf (a .image .now) in
+    let g = stateOf (a .state .now) in
     let st = lent g (a .memory .now) in
     let far = rw (i .before .target-of .ensures) at (i .if1 .left) in
     let short = rw (asked-away (a .h) (stringOf (a .message .now)) (a .reply .now) st far) at (asked-short (a .h) (stringOf (a .message .now)) (a .reply .now) st) in
@@ -85,14 +85,14 @@ returns-2 c =
     let k = i .before .before .before .before .before .before in
     let s = k .before in
     let a = s .args in
-    let g = stateOf (a .image .now) in
+    let g = stateOf (a .state .now) in
     let far = rw (i .before .target-of .ensures) at (i .if1 .left) in
-    let bytes : Bytes (a .image .now) = λ i. omega (arith, k .slice-known .given i) in
-    let formed = lent-formed (a .image .now) (a .memory .now) (a .reply .now) (s .pre .1) in
+    let bytes : Bytes (a .state .now) = λ i. omega (arith, k .slice-known .given i) in
+    let formed = lent-formed (a .state .now) (a .memory .now) (a .reply .now) (s .pre .1) in
     let same : toZ w64 (ofZ w64 (c .signed .result)) ≡ c .signed .result = search needs in
     rw (asked-away (a .h) (stringOf (a .message .now)) (a .reply .now) (lent g (a .memory .now)) far) (
       same ∙ c .signed .ensures ∙ ap signed (w .answer-away .ensures .0),
-      (sym (kept-bytes (a .image .now) bytes formed (isGranted (awayAnswer (a .h) (a .reply .now) .outcome))), (refl, w .answer-away .ensures .1)),
+      (sym (kept-bytes (a .state .now) bytes formed (isGranted (awayAnswer (a .h) (a .reply .now) .outcome))), (refl, w .answer-away .ensures .1)),
     )
 
 pub answer-spec : {M : Type 1} → statement M

@@ -9,7 +9,7 @@ use Rattle.rules.specs.Step.{put}
 use Rattle.rules.specs.Isolation.{isGranted}
 use Rattle.gateway.proofs.PartLaws.{slot-back, tested-part, local-part}
 use Rattle.gateway.proofs.ReportLaws.{report-low, report-good, report-heard}
-use Rattle.image.specs.Form.{stateOf}
+use Rattle.state_bytes.specs.Form.{stateOf}
 use Rattle.embedding.specs.Called.{signed, finished}
 use Rattle.embedding.proofs.ShortLaws.{noted-short}
 use Rattle.embedding.proofs.LentLaws.{lent-formed, lent-passes, lent-fits, lent-long}
@@ -24,19 +24,19 @@ read-process-at-requires : tie.Need-read-process-at-requires
 read-process-at-requires c κs =
     let s = c .before .before .before .before in
     let a = s .args in
-    let g = stateOf (a .image .now) in
+    let g = stateOf (a .state .now) in
     let st = lent g (a .memory .now) in
-    let passes = lent-passes (a .image .now) (a .memory .now) (a .notice .now) (s .pre .0) in
+    let passes = lent-passes (a .state .now) (a .memory .now) (a .notice .now) (s .pre .0) in
     let low = report-low st (a .process) (a .kind) (a .reason) (a .words) (a .notice .now) passes (s .pre .1) in
-    (low, omega (arith, lent-long (a .image .now) (a .memory .now) (a .notice .now) (s .pre .0)))
+    (low, omega (arith, lent-long (a .state .now) (a .memory .now) (a .notice .now) (s .pre .0)))
 
 start-requires : tie.Need-start-requires
 start-requires c κs =
     let s = c .before .before .before .before .before in
     let a = s .args in
-    let g = stateOf (a .image .now) in
+    let g = stateOf (a .state .now) in
     let st = lent g (a .memory .now) in
-    let passes = lent-passes (a .image .now) (a .memory .now) (a .notice .now) (s .pre .0) in
+    let passes = lent-passes (a .state .now) (a .memory .now) (a .notice .now) (s .pre .0) in
     let low = report-low st (a .process) (a .kind) (a .reason) (a .words) (a .notice .now) passes (s .pre .1) in
     low
 
@@ -44,9 +44,9 @@ add-end : tie.Need-add-end
 add-end c =
     let s = c .before .before .before .before .before .before in
     let a = s .args in
-    let g = stateOf (a .image .now) in
+    let g = stateOf (a .state .now) in
     let st = lent g (a .memory .now) in
-    let passes = lent-passes (a .image .now) (a .memory .now) (a .notice .now) (s .pre .0) in
+    let passes = lent-passes (a .state .now) (a .memory .now) (a .notice .now) (s .pre .0) in
     let low = report-low st (a .process) (a .kind) (a .reason) (a .words) (a .notice .now) passes (s .pre .1) in
     omega (arith, c .start .ensures, startOf-is (a .process) low, low)
 
@@ -60,11 +60,11 @@ part-report-at-end : tie.Need-part-report-at-end
 part-report-at-end c =
     let s = c .before .before .before .before .before .before in
     let a = s .args in
-    let g = stateOf (a .image .now) in
+    let g = stateOf (a .state .now) in
     let st = lent g (a .memory .now) in
-    let passes = lent-passes (a .image .now) (a .memory .now) (a .notice .now) (s .pre .0) in
+    let passes = lent-passes (a .state .now) (a .memory .now) (a .notice .now) (s .pre .0) in
     let low = report-low st (a .process) (a .kind) (a .reason) (a .words) (a .notice .now) passes (s .pre .1) in
-    omega (arith, c .start .ensures, startOf-is (a .process) low, low, lent-fits (a .image .now) (a .memory .now) (a .notice .now) (s .pre .0) .memory)
+    omega (arith, c .start .ensures, startOf-is (a .process) low, low, lent-fits (a .state .now) (a .memory .now) (a .notice .now) (s .pre .0) .memory)
 
 report-at-requires : tie.Need-report-at-requires
 report-at-requires c κs =
@@ -72,11 +72,11 @@ report-at-requires c κs =
     let q = t .before in
     let s = q .before .before .before .before .before in
     let a = s .args in
-    let g = stateOf (a .image .now) in
+    let g = stateOf (a .state .now) in
     let st = lent g (a .memory .now) in
-    let passes = lent-passes (a .image .now) (a .memory .now) (a .notice .now) (s .pre .0) in
+    let passes = lent-passes (a .state .now) (a .memory .now) (a .notice .now) (s .pre .0) in
     let low = report-low st (a .process) (a .kind) (a .reason) (a .words) (a .notice .now) passes (s .pre .1) in
-    let fit = lent-fits (a .image .now) (a .memory .now) (a .notice .now) (s .pre .0) in
+    let fit = lent-fits (a .state .now) (a .memory .now) (a .notice .now) (s .pre .0) in
     rw (q .read-process-at .ensures) (
       report-good st (a .process) (a .kind) (a .reason) (a .words) (a .notice .now) passes (s .pre .1),
       (tested-part g (a .memory .now) (a .process) (t .start .result) low (t .start .ensures) (fit .memory) (fit .sound), fit .room),
@@ -89,14 +89,14 @@ finish-requires c κs =
     let q = t .before in
     let s = q .before .before .before .before .before in
     let a = s .args in
-    let g = stateOf (a .image .now) in
+    let g = stateOf (a .state .now) in
     let st = lent g (a .memory .now) in
-    let passes = lent-passes (a .image .now) (a .memory .now) (a .notice .now) (s .pre .0) in
+    let passes = lent-passes (a .state .now) (a .memory .now) (a .notice .now) (s .pre .0) in
     let low = report-low st (a .process) (a .kind) (a .reason) (a .words) (a .notice .now) passes (s .pre .1) in
     let nine : length (a .words) ≡ 9 = s .good .1 .1 .1 .1 .1 .0 .1 .0 .1 in
     let whole = local-part g (a .memory .now) (a .process) (t .start .result) (q .read-process-at .result) (t .start .ensures) (q .read-process-at .ensures) in
     let short = rw (report-heard st (a .process) (a .kind) (a .reason) (a .words) (a .notice .now) passes (s .pre .1)) at (noted-short (a .process) (a .kind) (a .reason) (a .words) (a .notice .now) st nine) in
-    (rw (v .report-at .ensures .0, whole) short, (low, lent-long (a .image .now) (a .memory .now) (a .notice .now) (s .pre .0)))
+    (rw (v .report-at .ensures .0, whole) short, (low, lent-long (a .state .now) (a .memory .now) (a .notice .now) (s .pre .0)))
 
 same-length : tie.Need-same-length
 same-length c = search needs
@@ -117,19 +117,19 @@ returns c =
     let k = q .before .before .before .before in
     let s = k .before in
     let a = s .args in
-    let g = stateOf (a .image .now) in
+    let g = stateOf (a .state .now) in
     let st = lent g (a .memory .now) in
-    let passes = lent-passes (a .image .now) (a .memory .now) (a .notice .now) (s .pre .0) in
+    let passes = lent-passes (a .state .now) (a .memory .now) (a .notice .now) (s .pre .0) in
     let low = report-low st (a .process) (a .kind) (a .reason) (a .words) (a .notice .now) passes (s .pre .1) in
-    let bytes : Bytes (a .image .now) = λ i. omega (arith, k .slice-known .given i) in
-    let formed = lent-formed (a .image .now) (a .memory .now) (a .notice .now) (s .pre .0) in
+    let bytes : Bytes (a .state .now) = λ i. omega (arith, k .slice-known .given i) in
+    let formed = lent-formed (a .state .now) (a .memory .now) (a .notice .now) (s .pre .0) in
     let whole = local-part g (a .memory .now) (a .process) (t .start .result) (q .read-process-at .result) (t .start .ensures) (q .read-process-at .ensures) in
     let same : toZ w64 (ofZ w64 (f .finish .result)) ≡ f .finish .result = search needs in
     rw (report-heard st (a .process) (a .kind) (a .reason) (a .words) (a .notice .now) passes (s .pre .1), ← whole) (
       same ∙ f .finish .ensures .0 ∙ ap signed (v .report-at .ensures .0),
       (
         rw (← v .report-at .ensures .0, ← v .report-at .ensures .1 .0)
-            (f .finish .ensures .1 ∙ changed-bytes (a .image .now) bytes formed (isGranted (v .report-at .result .outcome)) (a .process) (v .report-at .result .process) low),
+            (f .finish .ensures .1 ∙ changed-bytes (a .state .now) bytes formed (isGranted (v .report-at .result .outcome)) (a .process) (v .report-at .result .process) low),
         (
           rw (v .report-at .ensures .1 .1 .0) (slot-back (a .process) (t .start .result) (a .memory .now) (t .start .ensures) _),
           v .report-at .ensures .1 .1 .1,

@@ -6,7 +6,7 @@ use borrow.Author.Needs.{needs}
 use borrow.Author.Tests.{eq-eqb, ne-eqb}
 use Rattle.lists.proofs.Buffer.{overlay-all}
 use Rattle.state.specs.Gateway.{freshStart}
-use Rattle.image.specs.Form.{stateBytes}
+use Rattle.state_bytes.specs.Form.{stateBytes}
 use Rattle.embedding.specs.Called.{startOn, startResult}
 use Rattle.embedding.proofs.SignLaws.{minus-again}
 use Rattle.embedding.proofs.calls.palustrode_fresh_start.Statement.{statement}
