@@ -6,8 +6,8 @@ use Prim.Native.Nat.{ℕ, _<_}
 use Rattle.lists.specs.Buffer.{Bytes}
 use Rattle.process.specs.declared.record.Process.{Process}
 use Rattle.state.specs.Gateway.{withProcess}
-use Rattle.state_bytes.specs.Form.{stateBytes, stateOf, stateFormed, withProcessBytes}
-use Rattle.state_bytes.proofs.InverseLaws.{inverse}
+use Rattle.state_bytes.specs.State.{stateBytes, stateOf, stateFormed, withProcessBytes}
+use Rattle.state_bytes.proofs.StateLaws.{inverse}
 
 module _ (state : List ℕ) (bytes : Bytes state) (formed : stateFormed state ≡ true) where
   -- no process changed

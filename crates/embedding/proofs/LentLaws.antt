@@ -17,7 +17,8 @@ use Rattle.rules.specs.Isolation.{isGranted}
 use Rattle.gateway.specs.Stage.{lentNumber}
 use Rattle.gateway.proofs.StageLaws.{Fit, lent-fit, request-lent}
 use Rattle.gateway.proofs.ReportLaws.{report-lent}
-use Rattle.state_bytes.specs.Form.{stateOf, stateFormed, stateSound}
+use Rattle.state_bytes.specs.State.{stateOf, stateFormed, stateSound}
+use Rattle.state_bytes.specs.Widths.{stateWidth}
 use Rattle.embedding.specs.Called.{lentOn, signed, finished, unformed, unformedNumber, requestOn, reportOn}
 
 module _ (state memory buffer : List ℕ) where
@@ -57,9 +58,9 @@ module _ (state memory buffer : List ℕ) where
   pub lent-fits : lentOn state memory buffer ≡ 0 → Fit (stateOf state) memory buffer
   lent-fits e = lent-fit (stateOf state) memory buffer (lent-passes e)
 
-  pub lent-long : lentOn state memory buffer ≡ 0 → length state ≡ 680
+  pub lent-long : lentOn state memory buffer ≡ 0 → length state ≡ stateWidth
   unfolding stateFormed
-  lent-long e = eqb-true (length state) 680 (&&-left (eqb (length state) 680) _ (lent-formed e))
+  lent-long e = eqb-true (length state) stateWidth (&&-left (eqb (length state) stateWidth) _ (lent-formed e))
 
   -- ---- requests
 

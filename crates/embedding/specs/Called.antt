@@ -12,7 +12,8 @@ use Rattle.state.specs.Gateway.{freshStart}
 use Rattle.rules.specs.Tests.{lent, noRoom}
 use Rattle.rules.specs.Step.{Stepped, requested, noted}
 use Rattle.rules.specs.Isolation.{isGranted}
-use Rattle.state_bytes.specs.Form.{stateBytes, stateOf, stateFormed, stateSound}
+use Rattle.state_bytes.specs.State.{stateBytes, stateOf, stateFormed, stateSound}
+use Rattle.state_bytes.specs.Widths.{stateWidth}
 
 -- what a call returns, and state, memory and output buffer after it
 pub record Called : Type 0 where
@@ -84,8 +85,8 @@ bitsOf n =
 
 -- a fresh start, where the state's buffer has its length
 unfoldable pub startOn : ℕ → List ℕ → List ℕ
-startOn there state = cond (eqb (length state) 680) (stateBytes (freshStart (bitsOf there))) state
+startOn there state = cond (eqb (length state) stateWidth) (stateBytes (freshStart (bitsOf there))) state
 
 -- 0 where the state's buffer has its length, else refused by 1
 unfoldable pub startResult : List ℕ → ℤ
-startResult state = cond (eqb (length state) 680) (pos 0) (minus 1)
+startResult state = cond (eqb (length state) stateWidth) (pos 0) (minus 1)

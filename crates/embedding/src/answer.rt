@@ -24,12 +24,13 @@ ghost use Rattle.rules.specs.Step.{noted};
 ghost use Rattle.service.specs.Reply.{Answerable};
 ghost use Rattle.service.specs.At.{targetOf, reportAway};
 ghost use Rattle.gateway.specs.Stage.{asked};
-ghost use Rattle.state_bytes.specs.Form.{stateOf};
+ghost use Rattle.state_bytes.specs.State.{stateOf};
+ghost use Rattle.state_bytes.specs.Widths.{stateWidth};
 ghost use Rattle.embedding.specs.Called.{lentOn, finished};
 
 // The process that a request goes to, or 8 where there is none.
 fn target_of(h: Header, state: &[u8]) -> usize
-    requires { ⌜ 680 ≤ length (now state) ⌝ }
+    requires { ⌜ stateWidth ≤ length (now state) ⌝ }
     ensures { λ r. ⌜ r ≡ targetOf h (lowestAbsent (stateOf (now (state .entry)))) ⌝ }
 {
     let cmd = h.cmd;

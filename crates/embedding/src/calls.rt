@@ -4,10 +4,10 @@ use crate::answer::report_process;
 use crate::lent::lent_number;
 use crate::result::minus;
 use format::Reading;
-use gateway::fresh_start;
 use message::read_request;
 use service::report_away;
-use state_bytes::put_state;
+use state_bytes::STATE_BYTES;
+use state_bytes::put_fresh_start;
 use words::vector_of;
 ghost use mathlib.Core.Path.{_≡_};
 ghost use lib.ListN.{length};
@@ -35,10 +35,10 @@ pub extern "C" fn palustrode_fresh_start(there: u8, state: &mut [u8]) -> i64
     ensures { λ r. ⌜ r ≡ startResult (now (state .entry)) ⌝ }
     ensures { λ _. ⌜ now (state .exit) ≡ startOn there (now (state .entry)) ⌝ }
 {
-    if state.len() != 680 {
+    if state.len() != STATE_BYTES {
         return minus(1);
     }
-    put_state(fresh_start(bits(there)), state);
+    put_fresh_start(bits(there), state);
     0
 }
 

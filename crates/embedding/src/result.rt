@@ -7,7 +7,8 @@ ghost use mathlib.Core.Bool.{cond};
 ghost use Prim.Native.Nat.{_<_};
 ghost use lib.ListN.{length};
 ghost use Rattle.rules.specs.Isolation.{isGranted};
-ghost use Rattle.state_bytes.specs.Form.{withProcessBytes};
+ghost use Rattle.state_bytes.specs.State.{withProcessBytes};
+ghost use Rattle.state_bytes.specs.Widths.{stateWidth};
 ghost use Rattle.embedding.specs.Called.{minus, Short, signed};
 
 // Minus this number.
@@ -32,7 +33,7 @@ pub(crate) fn signed(outcome: Outcome) -> i64
 pub(crate) fn finish(outcome: Outcome, next: Process, p: usize, state: &mut [u8]) -> i64
     requires { ⌜ Short outcome ⌝ }
     requires { ⌜ p < 8 ⌝ }
-    requires { ⌜ length (now state) ≡ 680 ⌝ }
+    requires { ⌜ length (now state) ≡ stateWidth ⌝ }
     ensures { λ r. ⌜ r ≡ signed outcome ⌝ }
     ensures { λ _. ⌜ now (state .exit) ≡ cond (isGranted outcome) (withProcessBytes p next (now (state .entry))) (now (state .entry)) ⌝ }
 {

@@ -1,6 +1,6 @@
 -- Laws that the proofs of this crate cite.
 pub mod ChunkLaws
-pub mod FormLaws
-pub mod InverseLaws
-pub mod PlaceLaws
-pub mod SoundLaws
+pub mod EntryLaws
+pub mod NumberLaws
+pub mod ProcessLaws
+pub mod StateLaws

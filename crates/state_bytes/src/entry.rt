@@ -1,18 +1,22 @@
-// The eight bytes of an entry.
+// The bytes of an entry, and of all entries of a process.
 use crate::number::byte_to_u64;
 use crate::number::put_u64_le;
 use crate::number::to_u64;
 use crate::number::u64_le;
+use crate::widths::ENTRY_BYTES;
+use crate::widths::ENTRY_COUNT;
 use breakpoints::Breakpoint;
 use words::flag;
 ghost use mathlib.Core.Path.{_≡_};
-ghost use Prim.Native.Nat.{_≤_, _<_};
-ghost use lib.ListN.{length, getD};
+ghost use Prim.Native.Nat.{_*_, _≤_, _<_};
+ghost use lib.ListN.{length, getD, take, drop};
 ghost use Rattle.lists.specs.Buffer.{overlay};
 ghost use Rattle.lists.specs.Joined.{joined};
-ghost use Rattle.state_bytes.specs.Chunk.{chunks, everyChunk};
 ghost use Rattle.breakpoints.specs.Entry.{free};
-ghost use Rattle.state_bytes.specs.Form.{u64LeBytes, entryBytes, entryOfNumber, entryOf, entryFormed, entryZero};
+ghost use Rattle.state_bytes.specs.Chunk.{chunks};
+ghost use Rattle.state_bytes.specs.Entry.{entryBytes, entryOf, entryOfNumber, entriesBits, flagsFormed};
+ghost use Rattle.state_bytes.specs.Number.{u64LeBytes};
+ghost use Rattle.state_bytes.specs.Widths.{entryCount, entryWidth, entriesWidth};
 
 fn entry_of_number(w: u64) -> Breakpoint
     ensures { λ r. ⌜ r ≡ entryOfNumber w ⌝ }
@@ -27,16 +31,36 @@ fn entry_of_number(w: u64) -> Breakpoint
     }
 }
 
-pub(crate) fn read_entry(bytes: &[u8]) -> Breakpoint
-    requires { ⌜ 8 ≤ length (now bytes) ⌝ }
-    ensures { λ r. ⌜ r ≡ entryOf (now (bytes .entry)) ⌝ }
+// Entry k of these entries.
+fn read_entry(entries: &[u8], k: usize) -> Breakpoint
+    requires { ⌜ k < entryCount ⌝ }
+    requires { ⌜ entriesWidth ≤ length (now entries) ⌝ }
+    ensures { λ r. ⌜ r ≡ entryOf (take entryWidth (drop (entryWidth * k) (now (entries .entry)))) ⌝ }
 {
-    entry_of_number(u64_le(bytes))
+    let at = ENTRY_BYTES * k;
+    let end = at + ENTRY_BYTES;
+    entry_of_number(u64_le(&entries[at..end]))
+}
+
+pub(crate) fn read_entries(entries: &[u8]) -> [Breakpoint; 8]
+    requires { ⌜ entriesWidth ≤ length (now entries) ⌝ }
+    ensures { λ r. ⌜ r ≡ chunks entryWidth entryOf entryCount (now (entries .entry)) ⌝ }
+{
+    [
+        read_entry(entries, 0),
+        read_entry(entries, 1),
+        read_entry(entries, 2),
+        read_entry(entries, 3),
+        read_entry(entries, 4),
+        read_entry(entries, 5),
+        read_entry(entries, 6),
+        read_entry(entries, 7),
+    ]
 }
 
 // The number whose bytes are those of entry k.
 fn entry_number(entries: [Breakpoint; 8], k: usize) -> u64
-    requires { ⌜ k < 8 ⌝ }
+    requires { ⌜ k < entryCount ⌝ }
     ensures { λ r. ⌜ u64LeBytes r ≡ entryBytes (getD entries k free) ⌝ }
 {
     let flags = flag(entries[k].used) as u64 + flag(entries[k].lifted) as u64 * 256;
@@ -47,81 +71,46 @@ fn entry_number(entries: [Breakpoint; 8], k: usize) -> u64
     flags + address * 65536 + count * 4294967296 + low * 281474976710656 + high * 72057594037927936
 }
 
-// Entry k.
+// Writes entry k.
 fn put_entry(entries: [Breakpoint; 8], k: usize, bytes: &mut [u8])
-    requires { ⌜ k < 8 ⌝ }
-    requires { ⌜ 8 ≤ length (now bytes) ⌝ }
+    requires { ⌜ k < entryCount ⌝ }
+    requires { ⌜ entryWidth ≤ length (now bytes) ⌝ }
     ensures { λ _. ⌜ now (bytes .exit) ≡ overlay (entryBytes (getD entries k free)) (now (bytes .entry)) ⌝ }
 {
     put_u64_le(entry_number(entries, k), bytes);
 }
 
-// Both flags are 0 or 1.
-fn entry_formed(bytes: &[u8]) -> bool
-    requires { ⌜ 8 ≤ length (now bytes) ⌝ }
-    ensures { λ r. ⌜ r ≡ entryFormed (now (bytes .entry)) ⌝ }
-{
-    bytes[0] <= 1 && bytes[1] <= 1
-}
-
-// All eight entries.
-pub(crate) fn read_entries(bytes: &[u8]) -> [Breakpoint; 8]
-    requires { ⌜ 64 ≤ length (now bytes) ⌝ }
-    ensures { λ r. ⌜ r ≡ chunks 8 entryOf 8 (now (bytes .entry)) ⌝ }
-{
-    [
-        read_entry(&bytes[0..8]),
-        read_entry(&bytes[8..16]),
-        read_entry(&bytes[16..24]),
-        read_entry(&bytes[24..32]),
-        read_entry(&bytes[32..40]),
-        read_entry(&bytes[40..48]),
-        read_entry(&bytes[48..56]),
-        read_entry(&bytes[56..64]),
-    ]
-}
-
 pub(crate) fn put_entries(entries: [Breakpoint; 8], bytes: &mut [u8])
-    requires { ⌜ 64 ≤ length (now bytes) ⌝ }
+    requires { ⌜ entriesWidth ≤ length (now bytes) ⌝ }
     ensures { λ _. ⌜ now (bytes .exit) ≡ overlay (joined entryBytes entries) (now (bytes .entry)) ⌝ }
 {
     let mut k = 0;
-    while k < 8 {
-        let at = 8 * k;
+    while k < ENTRY_COUNT {
+        let at = ENTRY_BYTES * k;
         put_entry(entries, k, &mut bytes[at..]);
         k += 1;
     }
 }
 
-pub(crate) fn entries_formed(bytes: &[u8]) -> bool
-    requires { ⌜ 64 ≤ length (now bytes) ⌝ }
-    ensures { λ r. ⌜ r ≡ everyChunk 8 entryFormed 8 (now (bytes .entry)) ⌝ }
+// The bits that are set in one of the entries: each is read once for every test of them.
+pub(crate) fn entries_bits(entries: &[u8]) -> u64
+    requires { ⌜ entriesWidth ≤ length (now entries) ⌝ }
+    ensures { λ r. ⌜ r ≡ entriesBits (now (entries .entry)) ⌝ }
 {
+    let mut bits = 0;
     let mut k = 0;
-    while k < 8 {
-        let at = 8 * k;
-        let end = at + 8;
-        if !entry_formed(&bytes[at..end]) {
-            return false;
-        }
+    while k < ENTRY_COUNT {
+        let at = ENTRY_BYTES * k;
+        let end = at + ENTRY_BYTES;
+        bits = bits | u64_le(&entries[at..end]);
         k += 1;
     }
-    true
+    bits
 }
 
-// All eight entries are zero bytes.
-pub(crate) fn entries_zero(bytes: &[u8]) -> bool
-    requires { ⌜ 64 ≤ length (now bytes) ⌝ }
-    ensures { λ r. ⌜ r ≡ everyChunk 8 entryZero 8 (now (bytes .entry)) ⌝ }
+// Both flags of every entry are 0 or 1.
+pub(crate) fn flags_formed(bits: u64) -> bool
+    ensures { λ r. ⌜ r ≡ flagsFormed bits ⌝ }
 {
-    let mut k = 0;
-    while k < 8 {
-        let at = 8 * k;
-        let end = at + 8;
-        if u64_le(&bytes[at..end]) != 0 {
-            return false;
-        }
-        k += 1;
-    }
-    true
+    bits % 256 <= 1 && bits / 256 % 256 <= 1
 }

@@ -1,4 +1,4 @@
-// The byte form of a state: 680 bytes, integers low byte first.
+// The byte form of a state: 680 bytes, integers low byte first. Its widths and places stand in widths.rt.
 //
 //     85 bytes for each of the eight processes, from process 0 on:
 //         0        there: 0 or 1
@@ -19,9 +19,11 @@ mod process_form;
 mod sound;
 mod state_form;
 pub mod theorems;
+mod widths;
 
 pub use place::lowest_absent;
 pub use place::put_process_at;
 pub use place::read_process_at;
 pub use sound::state_sound;
-pub use state_form::put_state;
+pub use state_form::put_fresh_start;
+pub use widths::STATE_BYTES;

@@ -3,7 +3,7 @@ ghost use mathlib.Core.Path.{_≡_};
 ghost use Prim.Native.Nat.{_≤_, _<_};
 ghost use lib.ListN.{length};
 ghost use Rattle.lists.specs.Buffer.{overlay};
-ghost use Rattle.state_bytes.specs.Form.{u32Le, u64Le, u64LeBytes};
+ghost use Rattle.state_bytes.specs.Number.{u32Le, u64Le, u64LeBytes};
 
 // Four bytes as a number, low byte first.
 fn u32_le(bytes: &[u8]) -> u32
@@ -38,14 +38,14 @@ pub(crate) fn put_u64_le(w: u64, bytes: &mut [u8])
     bytes[7] = (w / 72057594037927936 % 256) as u8;
 }
 
-// A word as a wider number.
+// A word as a number of 64 bits.
 pub(crate) fn to_u64(w: u16) -> u64
     ensures { λ r. ⌜ (r ≡ w) × (r < 65536) ⌝ }
 {
     w as u64
 }
 
-// A byte as a wider number.
+// A byte as a number of 64 bits.
 pub(crate) fn byte_to_u64(b: u8) -> u64
     ensures { λ r. ⌜ (r ≡ b) × (r < 256) ⌝ }
 {

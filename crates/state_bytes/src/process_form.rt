@@ -1,7 +1,13 @@
-// The 85 bytes of a process.
+// The bytes of a process: its head, the nine words, the eight entries.
 use crate::entry::put_entries;
 use crate::entry::read_entries;
 use crate::head::run_of;
+use crate::widths::ENTRIES_AT;
+use crate::widths::HOST_AT;
+use crate::widths::LAST_RUN;
+use crate::widths::RUN_AT;
+use crate::widths::THERE_AT;
+use crate::widths::VECTOR_AT;
 use process::Process;
 use words::flag;
 use words::vector_bytes;
@@ -11,11 +17,12 @@ ghost use Prim.Native.Nat.{_≤_};
 ghost use lib.ListN.{length};
 ghost use Rattle.lists.specs.Buffer.{overlay};
 ghost use Rattle.lists.specs.Word.{lowFirst, vectorOf};
-ghost use Rattle.state_bytes.specs.Form.{headBytes, processBytes, processOf, headFormed};
+ghost use Rattle.state_bytes.specs.Process.{headBytes, processBytes, processOf, headSound};
+ghost use Rattle.state_bytes.specs.Widths.{headWidth, vectorWidth, processWidth};
 
 // The nine words.
 fn read_vector(bytes: &[u8]) -> [u16; 9]
-    requires { ⌜ 18 ≤ length (now bytes) ⌝ }
+    requires { ⌜ vectorWidth ≤ length (now bytes) ⌝ }
     ensures { λ r. ⌜ r ≡ vectorOf (now (bytes .entry)) ⌝ }
 {
     [
@@ -32,35 +39,35 @@ fn read_vector(bytes: &[u8]) -> [u16; 9]
 }
 
 pub(crate) fn read_process(bytes: &[u8]) -> Process
-    requires { ⌜ 85 ≤ length (now bytes) ⌝ }
+    requires { ⌜ processWidth ≤ length (now bytes) ⌝ }
     ensures { λ r. ⌜ r ≡ processOf (now (bytes .entry)) ⌝ }
 {
-    let vector = read_vector(&bytes[3..21]);
-    let breaks = read_entries(&bytes[21..]);
-    let run = run_of(bytes[2]);
+    let vector = read_vector(&bytes[VECTOR_AT..ENTRIES_AT]);
+    let breaks = read_entries(&bytes[ENTRIES_AT..]);
+    let run = run_of(bytes[RUN_AT]);
     Process {
-        there: bytes[0] % 2 == 1,
-        host: bytes[1],
+        there: bytes[THERE_AT] % 2 == 1,
+        host: bytes[HOST_AT],
         run: run,
         vector: vector,
         breaks: breaks,
     }
 }
 
-// There, host and run state.
+// Writes whether it is there, host and run state.
 fn put_head(p: Process, bytes: &mut [u8])
-    requires { ⌜ 3 ≤ length (now bytes) ⌝ }
+    requires { ⌜ headWidth ≤ length (now bytes) ⌝ }
     ensures { λ _. ⌜ now (bytes .exit) ≡ overlay (headBytes p) (now (bytes .entry)) ⌝ }
 {
     let run = p.run;
-    bytes[0] = flag(p.there);
-    bytes[1] = p.host;
-    bytes[2] = run.number();
+    bytes[THERE_AT] = flag(p.there);
+    bytes[HOST_AT] = p.host;
+    bytes[RUN_AT] = run.number();
 }
 
 fn put_vector(vector: [u16; 9], bytes: &mut [u8])
-    requires { ⌜ 18 ≤ length (now bytes) ⌝ }
-    ensures { λ _. ⌜ length (lowFirst vector) ≡ 18 ⌝ }
+    requires { ⌜ vectorWidth ≤ length (now bytes) ⌝ }
+    ensures { λ _. ⌜ length (lowFirst vector) ≡ vectorWidth ⌝ }
     ensures { λ _. ⌜ now (bytes .exit) ≡ overlay (lowFirst vector) (now (bytes .entry)) ⌝ }
 {
     let words = vector_bytes(vector);
@@ -68,21 +75,27 @@ fn put_vector(vector: [u16; 9], bytes: &mut [u8])
 }
 
 pub(crate) fn put_process(p: Process, bytes: &mut [u8])
-    requires { ⌜ 85 ≤ length (now bytes) ⌝ }
-    ensures { λ _. ⌜ length (processBytes p) ≡ 85 ⌝ }
+    requires { ⌜ processWidth ≤ length (now bytes) ⌝ }
+    ensures { λ _. ⌜ length (processBytes p) ≡ processWidth ⌝ }
     ensures { λ _. ⌜ now (bytes .exit) ≡ overlay (processBytes p) (now (bytes .entry)) ⌝ }
 {
     let vector = p.vector;
     let breaks = p.breaks;
     put_head(p, bytes);
-    put_vector(vector, &mut bytes[3..]);
-    put_entries(breaks, &mut bytes[21..]);
+    put_vector(vector, &mut bytes[VECTOR_AT..]);
+    put_entries(breaks, &mut bytes[ENTRIES_AT..]);
 }
 
-// The flag is 0 or 1, and the run state one of the five.
-pub(crate) fn head_formed(bytes: &[u8]) -> bool
-    requires { ⌜ 3 ≤ length (now bytes) ⌝ }
-    ensures { λ r. ⌜ r ≡ headFormed (now (bytes .entry)) ⌝ }
+// The run state is one of the five, and the process is there, or absent with no host.
+pub(crate) fn head_sound(bytes: &[u8]) -> bool
+    requires { ⌜ headWidth ≤ length (now bytes) ⌝ }
+    ensures { λ r. ⌜ r ≡ headSound (now (bytes .entry)) ⌝ }
 {
-    bytes[0] <= 1 && bytes[2] <= 4
+    if bytes[RUN_AT] > LAST_RUN {
+        return false;
+    }
+    if bytes[THERE_AT] == 1 {
+        return true;
+    }
+    bytes[THERE_AT] == 0 && bytes[HOST_AT] == 0
 }

@@ -7,7 +7,7 @@ use Rattle.rules.specs.Tests.{lent}
 use Rattle.rules.specs.Isolation.{isGranted}
 use Rattle.service.specs.At.{awayAnswer}
 use Rattle.gateway.proofs.AskedLaws.{answerable, carried-short, asked-away}
-use Rattle.state_bytes.specs.Form.{stateOf}
+use Rattle.state_bytes.specs.State.{stateOf}
 use Rattle.embedding.specs.Called.{signed, finished}
 use Rattle.embedding.proofs.ShortLaws.{asked-short}
 use Rattle.embedding.proofs.LentLaws.{lent-formed, lent-fits, lent-long}

@@ -9,7 +9,7 @@ use Rattle.rules.specs.Step.{put}
 use Rattle.rules.specs.Isolation.{isGranted}
 use Rattle.gateway.proofs.PartLaws.{slot-back, tested-part, local-part}
 use Rattle.gateway.proofs.AskedLaws.{target-asks, asked-at}
-use Rattle.state_bytes.specs.Form.{stateOf}
+use Rattle.state_bytes.specs.State.{stateOf}
 use Rattle.embedding.specs.Called.{signed, finished}
 use Rattle.embedding.proofs.ShortLaws.{asked-short}
 use Rattle.embedding.proofs.LentLaws.{lent-formed, lent-fits, lent-long}

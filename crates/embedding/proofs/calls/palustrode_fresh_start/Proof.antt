@@ -1,12 +1,14 @@
 -- `embedding::calls::palustrode_fresh_start` meets its contract, by the length of the buffer. Assumes nothing.
 use mathlib.Core.Path.{refl, ap, _∙_}
+use mathlib.Core.Bool.{Bool}
+use mathlib.Core.List.{List}
 use native.Mathlib.Omega.{arith}
 use lib.ListN.{length}
 use borrow.Author.Needs.{needs}
 use borrow.Author.Tests.{eq-eqb, ne-eqb}
-use Rattle.lists.proofs.Buffer.{overlay-all}
 use Rattle.state.specs.Gateway.{freshStart}
-use Rattle.state_bytes.specs.Form.{stateBytes}
+use Rattle.state_bytes.specs.State.{stateBytes}
+use Rattle.state_bytes.specs.Widths.{stateWidth}
 use Rattle.embedding.specs.Called.{startOn, startResult}
 use Rattle.embedding.proofs.SignLaws.{minus-again}
 use Rattle.embedding.proofs.calls.palustrode_fresh_start.Statement.{statement}
@@ -17,16 +19,13 @@ minus-requires c κs = search needs
 
 returns : tie.Need-returns
 unfolding startOn startResult
-returns c = rw (c .minus .ensures, ne-eqb (length (c .before .before .before .args .state .now)) 680 (c .before .if1 .taken)) (minus-again 1 (omega arith), refl)
+returns c = rw (c .minus .ensures, ne-eqb (length (c .before .before .before .args .state .now)) stateWidth (c .before .if1 .taken)) (minus-again 1 (omega arith), refl)
 
 bits-requires : tie.Need-bits-requires
 bits-requires c κs = search needs
 
-fresh-start-requires : tie.Need-fresh-start-requires
-fresh-start-requires c κs = search needs
-
-put-state-requires : tie.Need-put-state-requires
-put-state-requires c κs = search needs
+put-fresh-start-requires : tie.Need-put-fresh-start-requires
+put-fresh-start-requires c κs = search needs
 
 same-length : tie.Need-same-length
 same-length c = search needs
@@ -35,12 +34,9 @@ returns-2 : tie.Need-returns-2
 unfolding startOn startResult
 returns-2 c =
     let w = c .before .before in
-    let f = w .before .before in
-    let b = f .before in
+    let b = w .before .before in
     let i = b .before in
-    let s = c .before .before .before .before .before .before .before .before in
-    let size = i .if1 .left in
-    rw (eq-eqb _ _ size) (refl, w .put-state .ensures .1 ∙ overlay-all _ (s .args .state .now) (omega (arith, w .put-state .ensures .0, size)) ∙ ap stateBytes (f .fresh-start .ensures ∙ ap freshStart (b .bits .ensures)))
+    rw (eq-eqb _ _ (i .if1 .left)) (refl, w .put-fresh-start .ensures ∙ ap (λ (l : List Bool). stateBytes (freshStart l)) (b .bits .ensures))
 
 pub palustrode-fresh-start-spec : {M : Type 1} → statement M
 palustrode-fresh-start-spec =
@@ -49,7 +45,6 @@ palustrode-fresh-start-spec =
     minus-requires
     returns
     bits-requires
-    fresh-start-requires
-    put-state-requires
+    put-fresh-start-requires
     same-length
     returns-2)

@@ -5,7 +5,7 @@ use Rattle.lists.specs.Word.{vectorOf}
 use Rattle.rules.specs.Tests.{lent}
 use Rattle.rules.specs.Isolation.{isGranted}
 use Rattle.gateway.proofs.ReportLaws.{report-away}
-use Rattle.state_bytes.specs.Form.{stateOf}
+use Rattle.state_bytes.specs.State.{stateOf}
 use Rattle.embedding.specs.Called.{signed, finished, unformed, reportOn}
 use Rattle.embedding.proofs.LentLaws.{lent-passes, report-unfit, report-fit}
 use mir.Syntax.{w64}

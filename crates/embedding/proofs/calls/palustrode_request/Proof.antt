@@ -3,7 +3,7 @@ use mathlib.Core.Path.{_≡_, refl, sym, _∙_}
 use Rattle.rules.specs.Tests.{lent}
 use Rattle.rules.specs.Isolation.{isGranted}
 use Rattle.gateway.proofs.StageLaws.{request-read, request-asked}
-use Rattle.state_bytes.specs.Form.{stateOf}
+use Rattle.state_bytes.specs.State.{stateOf}
 use Rattle.embedding.specs.Called.{signed, finished, unformed}
 use Rattle.embedding.proofs.LentLaws.{lent-passes, request-unfit, request-fit}
 use mir.Syntax.{w64}

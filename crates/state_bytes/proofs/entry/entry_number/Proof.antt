@@ -2,8 +2,8 @@
 use lib.ListN.{getD}
 use Rattle.lists.specs.Flag.{flag}
 use Rattle.breakpoints.specs.Entry.{free}
-use Rattle.state_bytes.specs.Form.{entryBytes}
-use Rattle.state_bytes.proofs.FormLaws.{packed-bytes, flag-byte}
+use Rattle.state_bytes.specs.Entry.{entryBytes}
+use Rattle.state_bytes.proofs.NumberLaws.{packed-bytes, flag-byte}
 use borrow.Author.Needs.{needs}
 use Rattle.state_bytes.proofs.entry.entry_number.Statement.{statement}
 use Rattle.state_bytes.proofs.entry.entry_number.Tie as tie

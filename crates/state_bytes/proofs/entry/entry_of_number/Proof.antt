@@ -1,6 +1,6 @@
 -- `state_bytes::entry::entry_of_number` meets its contract, field by field. Assumes nothing.
 use mathlib.Core.Path.{refl}
-use Rattle.state_bytes.specs.Form.{entryOfNumber}
+use Rattle.state_bytes.specs.Entry.{entryOfNumber}
 use borrow.Author.Needs.{needs}
 use Rattle.state_bytes.proofs.entry.entry_of_number.Statement.{statement}
 use Rattle.state_bytes.proofs.entry.entry_of_number.Tie as tie

@@ -1,7 +1,7 @@
 -- `state_bytes::entry::put_entries` meets its contract. The loop's invariant: the entries passed are laid over the bytes. Assumes nothing.
 use mathlib.Core.Path.{_≡_, refl, ap, _∙_}
 use mathlib.Core.List.{List}
-use Prim.Native.Nat.{ℕ, _-_, _*_, _≤_, _<_}
+use Prim.Native.Nat.{ℕ, _+_, _-_, _*_, _≤_, _<_}
 use native.Mathlib.Omega.{arith}
 use borrow.Author.Needs.{needs}
 use lib.ListN.{length, take, drop, length-drop}
@@ -9,19 +9,20 @@ use lib.Seq.{length-take-le, take-all}
 use Rattle.lists.specs.Buffer.{overlay}
 use Rattle.lists.proofs.Buffer.{length-overlay}
 use Rattle.breakpoints.specs.Entry.{free}
-use Rattle.state_bytes.specs.Form.{entryBytes}
+use Rattle.state_bytes.specs.Entry.{entryBytes}
+use Rattle.state_bytes.specs.Widths.{entryCount, entryWidth}
 use Rattle.lists.specs.Joined.{joined}
 use Rattle.state_bytes.proofs.ChunkLaws.{joined-step, length-joined-more}
-use Rattle.state_bytes.proofs.FormLaws.{length-entryBytes}
+use Rattle.state_bytes.proofs.EntryLaws.{length-entryBytes}
 use Rattle.state_bytes.proofs.entry.put_entries.Statement.{statement}
 use Rattle.state_bytes.proofs.entry.put_entries.Tie as tie
 
 abbrev Inv-loop : tie.InvT-loop
 Inv-loop entries bytes₀ k₀ bytes k =
-    (k ≤ 8) × (length entries ≡ 8) × (length bytes ≡ length bytes₀) × (length (joined entryBytes (take k entries)) ≡ 8 * k) × (bytes ≡ overlay (joined entryBytes (take k entries)) bytes₀)
+    (k ≤ entryCount) × (length entries ≡ entryCount) × (length bytes ≡ length bytes₀) × (length (joined entryBytes (take k entries)) ≡ entryWidth * k) × (bytes ≡ overlay (joined entryBytes (take k entries)) bytes₀)
 
 abbrev μ-loop : tie.MeasureT-loop
-μ-loop entries bytes₀ k₀ bytes k = 8 - k
+μ-loop entries bytes₀ k₀ bytes k = entryCount - k
 
 loop-holds : tie.Need-loop-holds Inv-loop μ-loop
 unfolding joined overlay
@@ -44,7 +45,7 @@ put-entry-requires c κs =
     let l = c .before .before in
     let s = l .before .before in
     let now = l .loop .bytes in
-    let at = 8 * l .loop .k in
+    let at = entryWidth * l .loop .k in
     let rest = length-take-le (length now - at) (drop at now) (simp length-drop (omega arith)) in
     (omega arith, omega (arith, rest, l .loop .inv .2, s .pre))
 
@@ -61,8 +62,8 @@ loop-again c =
     let s = l .before .before in
     let a = s .args in
     let h : l .loop .k < length (a .entries) = omega (arith, l .loop .inv .1) in
-    let laid = joined-step 8 entryBytes (a .entries) (l .loop .k) free (a .bytes .now) (l .loop .bytes) (q .put-entry .last .1 .1 .0) h (l .loop .inv .3) (l .loop .inv .4) (q .put-entry .ensures) in
-    let long = length-joined-more 8 entryBytes (a .entries) (l .loop .k) free h (l .loop .inv .3) (length-entryBytes _) in
+    let laid = joined-step entryBytes (a .entries) (l .loop .k) (entryWidth * l .loop .k) free (a .bytes .now) (l .loop .bytes) (q .put-entry .last .1 .1 .0) h (l .loop .inv .3) (l .loop .inv .4) (q .put-entry .ensures) in
+    let long : length (joined entryBytes (take (l .loop .k + 1) (a .entries))) ≡ entryWidth * (l .loop .k + 1) = length-joined-more entryWidth entryBytes (a .entries) (l .loop .k) (entryWidth * l .loop .k) free h (l .loop .inv .3) (length-entryBytes _) ∙ omega arith in
     (omega arith, l .loop .inv .1, ap (λ (b : List ℕ). length b) laid ∙ length-overlay _ (a .bytes .now) (omega (arith, long, s .pre)), long, laid)
 
 same-length : tie.Need-same-length Inv-loop μ-loop

@@ -2,7 +2,7 @@
 use native.Mathlib.Omega.{arith}
 use lib.ListN.{length-set}
 use Rattle.lists.proofs.Buffer.{sets-overlay}
-use Rattle.state_bytes.specs.Form.{u64LeBytes}
+use Rattle.state_bytes.specs.Number.{u64LeBytes}
 use borrow.Author.Needs.{needs}
 use Rattle.state_bytes.proofs.number.put_u64_le.Statement.{statement}
 use Rattle.state_bytes.proofs.number.put_u64_le.Tie as tie

@@ -1,15 +1,16 @@
 -- `state_bytes::place::lowest_absent` meets its contract. The loop's invariant: the first process that is not there is the first among those not passed. Assumes nothing.
 use mathlib.Core.Path.{_≡_, ap}
 use mathlib.Core.Bool.{Bool, not}
-use Prim.Native.Nat.{_+_, _-_, _≤_}
+use Prim.Native.Nat.{_+_, _-_, _*_, _≤_}
 use native.Mathlib.Omega.{arith}
 use lib.ListN.{length, drop, drop-of-length-le}
 use Rattle.lists.specs.First.{first}
 use Rattle.lists.proofs.First.{first-here, first-next}
 use Rattle.process.specs.declared.record.Process.{Process}
 use Rattle.state.specs.Gateway.{nobody, lowestAbsent}
-use Rattle.state_bytes.specs.Form.{stateOf}
-use Rattle.state_bytes.proofs.PlaceLaws.{eight-at, absent-at, present-at}
+use Rattle.state_bytes.specs.State.{stateOf}
+use Rattle.state_bytes.specs.Widths.{thereAt, processCount, processWidth}
+use Rattle.state_bytes.proofs.StateLaws.{eight-at, absent-at, present-at}
 use Rattle.state_bytes.proofs.place.lowest_absent.Statement.{statement}
 use Rattle.state_bytes.proofs.place.lowest_absent.Tie as tie
 
@@ -18,16 +19,13 @@ abbrev away : Process → Bool
 away q = not (q .there)
 
 abbrev Inv-loop : tie.InvT-loop
-Inv-loop state p₀ p = (p ≤ 8) × (first away (stateOf state .processes) ≡ first away (drop p (stateOf state .processes)) + p)
+Inv-loop state p₀ there₀ p there = (p ≤ processCount) × (there ≡ processWidth * p + thereAt) × (first away (stateOf state .processes) ≡ first away (drop p (stateOf state .processes)) + p)
 
 abbrev μ-loop : tie.MeasureT-loop
-μ-loop state p₀ p = 8 - p
+μ-loop state p₀ there₀ p there = processCount - p
 
 loop-holds : tie.Need-loop-holds Inv-loop μ-loop
-loop-holds c = (omega arith, omega arith)
-
-mul-there : tie.Need-mul-there Inv-loop μ-loop
-mul-there c = omega arith
+loop-holds c = (omega arith, omega arith, omega arith)
 
 shared-slice-read-if1 : tie.Need-shared-slice-read-if1 Inv-loop μ-loop
 shared-slice-read-if1 c = omega (arith, c .before .before .before .pre)
@@ -38,8 +36,11 @@ returns c =
     let l = c .before .before .before in
     let m = l .before .args .state .now in
     let k = l .loop .p in
-    let e = first-here away (stateOf m .processes) k nobody (omega (arith, eight-at m)) (absent-at m k (omega arith) (c .if1 .taken)) in
+    let e = first-here away (stateOf m .processes) k nobody (omega (arith, eight-at m)) (absent-at m k (l .loop .there) (omega arith) (l .loop .inv .1) (c .if1 .taken)) in
     omega arith
+
+add-there : tie.Need-add-there Inv-loop μ-loop
+add-there c = omega arith
 
 add-p : tie.Need-add-p Inv-loop μ-loop
 add-p c = omega arith
@@ -52,8 +53,8 @@ loop-again c =
     let l = c .before .before .before in
     let m = l .before .args .state .now in
     let k = l .loop .p in
-    let e = first-next away (stateOf m .processes) k nobody (omega (arith, eight-at m)) (present-at m k (omega arith) (c .if1 .left)) in
-    (omega arith, omega arith)
+    let e = first-next away (stateOf m .processes) k nobody (omega (arith, eight-at m)) (present-at m k (l .loop .there) (omega arith) (l .loop .inv .1) (c .if1 .left)) in
+    (omega arith, omega arith, omega arith)
 
 returns-2 : tie.Need-returns-2 Inv-loop μ-loop
 unfolding lowestAbsent
@@ -70,9 +71,9 @@ lowest-absent-spec =
     Inv-loop
     μ-loop
     loop-holds
-    mul-there
     shared-slice-read-if1
     returns
+    add-there
     add-p
     loop-less
     loop-again

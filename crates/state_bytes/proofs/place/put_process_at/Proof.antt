@@ -1,5 +1,5 @@
 -- `state_bytes::place::put_process_at` meets its contract: piece p is replaced. Assumes nothing.
-use Rattle.state_bytes.proofs.PlaceLaws.{put-at}
+use Rattle.state_bytes.proofs.StateLaws.{put-at}
 use borrow.Author.Needs.{needs}
 use Rattle.state_bytes.proofs.place.put_process_at.Statement.{statement}
 use Rattle.state_bytes.proofs.place.put_process_at.Tie as tie

@@ -1,5 +1,5 @@
 -- `state_bytes::place::read_process_at` meets its contract: piece p. Assumes nothing.
-use Rattle.state_bytes.proofs.PlaceLaws.{read-at}
+use Rattle.state_bytes.proofs.StateLaws.{read-at}
 use borrow.Author.Needs.{needs}
 use Rattle.state_bytes.proofs.place.read_process_at.Statement.{statement}
 use Rattle.state_bytes.proofs.place.read_process_at.Tie as tie

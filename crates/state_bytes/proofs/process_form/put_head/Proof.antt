@@ -3,7 +3,7 @@ use native.Mathlib.Omega.{arith}
 use borrow.Author.Needs.{needs}
 use lib.ListN.{length-set}
 use Rattle.lists.proofs.Buffer.{sets-overlay}
-use Rattle.state_bytes.specs.Form.{headBytes}
+use Rattle.state_bytes.specs.Process.{headBytes}
 use Rattle.state_bytes.proofs.process_form.put_head.Statement.{statement}
 use Rattle.state_bytes.proofs.process_form.put_head.Tie as tie
 

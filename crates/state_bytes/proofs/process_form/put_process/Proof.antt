@@ -1,4 +1,4 @@
--- `state_bytes::process_form::put_process` meets its contract: its parts one behind the other. Assumes nothing.
+-- `state_bytes::process_form::put_process` meets its contract: its parts one after the other. Assumes nothing.
 use mathlib.Core.Path.{_≡_, refl, sym, ap, _∙_}
 use mathlib.Core.List.{List, _++_}
 use Prim.Native.Nat.{ℕ, _+_}
@@ -7,10 +7,12 @@ use borrow.Author.Needs.{needs}
 use lib.ListN.{length, length-map, length-append}
 use Rattle.lists.specs.Buffer.{overlay}
 use Rattle.lists.specs.Word.{lowFirst}
-use Rattle.state_bytes.specs.Form.{entryBytes, headBytes}
+use Rattle.state_bytes.specs.Entry.{entryBytes}
+use Rattle.state_bytes.specs.Process.{headBytes}
+use Rattle.state_bytes.specs.Widths.{vectorAt, entriesAt}
 use Rattle.lists.specs.Joined.{joined}
 use Rattle.lists.proofs.Buffer.{laid-part}
-use Rattle.state_bytes.proofs.FormLaws.{length-processBytes, process-parts}
+use Rattle.state_bytes.proofs.ProcessLaws.{length-processBytes, process-parts}
 use Rattle.state_bytes.proofs.process_form.put_process.Statement.{statement}
 use Rattle.state_bytes.proofs.process_form.put_process.Tie as tie
 
@@ -54,9 +56,9 @@ returns c =
     let words = v .put-vector .ensures .0 in
     let eight = simp length-map at (s .good .0 .1 .1 .1 .1 .1 .1 .0 .1 .0 .1) in
     let front = headBytes (a .p) ++ lowFirst (a .p .vector) in
-    let size : 21 ≡ length front = sym (length-append (headBytes (a .p)) (lowFirst (a .p .vector)) ∙ omega (arith, words)) in
-    let one = laid-part (headBytes (a .p)) (lowFirst (a .p .vector)) (a .bytes .now) (h .put-head .last .1 .0) (v .put-vector .last .1 .0) 3 refl (h .put-head .ensures) (v .put-vector .ensures .1) in
-    let two = laid-part front (joined entryBytes (a .p .breaks)) (a .bytes .now) _ (e .put-entries .last .1 .0) 21 size one (e .put-entries .ensures) in
+    let size : entriesAt ≡ length front = sym (length-append (headBytes (a .p)) (lowFirst (a .p .vector)) ∙ omega (arith, words)) in
+    let one = laid-part (headBytes (a .p)) (lowFirst (a .p .vector)) (a .bytes .now) (h .put-head .last .1 .0) (v .put-vector .last .1 .0) vectorAt refl (h .put-head .ensures) (v .put-vector .ensures .1) in
+    let two = laid-part front (joined entryBytes (a .p .breaks)) (a .bytes .now) _ (e .put-entries .last .1 .0) entriesAt size one (e .put-entries .ensures) in
     (length-processBytes (a .p) words eight, two ∙ ap (λ (l : List ℕ). overlay l (a .bytes .now)) (process-parts (a .p)))
 
 pub put-process-spec : {M : Type 1} → statement M

@@ -7,6 +7,7 @@ use lib.Seq.{take-length}
 use Rattle.lists.specs.Buffer.{overlay}
 use Rattle.lists.specs.Word.{lowFirst}
 use Rattle.lists.proofs.Word.{length-lowFirst}
+use Rattle.state_bytes.specs.Widths.{vectorWidth}
 use Rattle.state_bytes.proofs.process_form.put_vector.Statement.{statement}
 use Rattle.state_bytes.proofs.process_form.put_vector.Tie as tie
 
@@ -29,7 +30,7 @@ returns c =
     let v = k .before .before .before in
     let s = c .before .before .before .before .before .before .before in
     let nine : length (s .args .vector) ≡ 9 = s .good .0 .1 .0 .1 in
-    let long : length (lowFirst (s .args .vector)) ≡ 18 = length-lowFirst (s .args .vector) ∙ omega (arith, nine) in
+    let long : length (lowFirst (s .args .vector)) ≡ vectorWidth = length-lowFirst (s .args .vector) ∙ omega (arith, nine) in
     (long, k .copy .ensures .1 ∙ rw (v .vector-bytes .ensures, take-length (lowFirst (s .args .vector))))
 
 pub put-vector-spec : {M : Type 1} → statement M

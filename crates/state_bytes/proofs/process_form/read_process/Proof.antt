@@ -2,7 +2,8 @@
 use native.Mathlib.Omega.{arith}
 use borrow.Author.Needs.{needs}
 use lib.ListN.{length-drop}
-use Rattle.state_bytes.specs.Form.{processOf}
+use Rattle.state_bytes.specs.Process.{processOf}
+use Rattle.state_bytes.specs.Widths.{entriesAt}
 use Rattle.state_bytes.proofs.ChunkLaws.{tail-part}
 use Rattle.state_bytes.proofs.process_form.read_process.Statement.{statement}
 use Rattle.state_bytes.proofs.process_form.read_process.Tie as tie
@@ -29,7 +30,7 @@ part-read-entries-end : tie.Need-part-read-entries-end
 part-read-entries-end c = search needs
 
 read-entries-requires : tie.Need-read-entries-requires
-read-entries-requires c κs = let s = c .before .before .before .before in rw (tail-part 21 (s .args .bytes .now)) (simp length-drop (omega (arith, s .pre)))
+read-entries-requires c κs = let s = c .before .before .before .before in rw (tail-part entriesAt (s .args .bytes .now)) (simp length-drop (omega (arith, s .pre)))
 
 shared-slice-read-run-of : tie.Need-shared-slice-read-run-of
 shared-slice-read-run-of c = search needs
@@ -50,7 +51,7 @@ returns c =
     let e = r .before .before in
     let v = e .before .before in
     let m = v .before .before .before .args .bytes .now in
-    rw (r .run-of .ensures, v .read-vector .ensures, e .read-entries .ensures, tail-part 21 m)
+    rw (r .run-of .ensures, v .read-vector .ensures, e .read-entries .ensures, tail-part entriesAt m)
 
 pub read-process-spec : {M : Type 1} → statement M
 read-process-spec =

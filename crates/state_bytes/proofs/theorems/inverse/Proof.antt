@@ -1,5 +1,5 @@
 -- The theorem of `state_bytes::theorems::inverse`. Assumes nothing.
-use Rattle.state_bytes.proofs.InverseLaws.{inverse}
+use Rattle.state_bytes.proofs.StateLaws.{inverse}
 use Rattle.state_bytes.proofs.theorems.inverse.Statement.{statement}
 use Rattle.state_bytes.proofs.theorems.inverse.Tie as tie
 
