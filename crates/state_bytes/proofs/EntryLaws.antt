@@ -26,15 +26,15 @@ unfolding entryBytes
 length-entryBytes b = refl
 
 -- the last four of eight bytes
-behind : (m : List ℕ) → u32Le (drop 4 m) ≡ getD m 4 0 + getD m 5 0 * 256 + getD m 6 0 * 65536 + getD m 7 0 * 16777216
-behind m = rw (getD-drop 4 m 0 0, getD-drop 4 m 1 0, getD-drop 4 m 2 0, getD-drop 4 m 3 0)
+last-four : (m : List ℕ) → u32Le (drop 4 m) ≡ getD m 4 0 + getD m 5 0 * 256 + getD m 6 0 * 65536 + getD m 7 0 * 16777216
+last-four m = rw (getD-drop 4 m 0 0, getD-drop 4 m 1 0, getD-drop 4 m 2 0, getD-drop 4 m 3 0)
 
 -- the entry in the number of eight bytes is the entry of the bytes
 pub entry-of-u64 : (m : List ℕ) → Bytes m → entryOfNumber (u64Le m) ≡ entryOf m
 unfolding entryOfNumber entryOf
 entry-of-u64 m z =
     rw (
-      behind m,
+      last-four m,
       used-bit _ _ _ _ _ _ _ _ (z 0) (z 1) (z 2) (z 3) (z 4) (z 5) (z 6) (z 7),
       lifted-bit _ _ _ _ _ _ _ _ (z 0) (z 1) (z 2) (z 3) (z 4) (z 5) (z 6) (z 7),
       address-word _ _ _ _ _ _ _ _ (z 0) (z 1) (z 2) (z 3) (z 4) (z 5) (z 6) (z 7),
@@ -102,7 +102,7 @@ flags-of-bytes : (c : List ℕ) → Bytes c → flagsFormed (u64Le c) ≡ entryF
 unfolding flagsFormed entryFormed
 flags-of-bytes c z =
     rw (
-      behind c,
+      last-four c,
       first-byte _ _ _ _ _ _ _ _ (z 0) (z 1) (z 2) (z 3) (z 4) (z 5) (z 6) (z 7),
       second-byte _ _ _ _ _ _ _ _ (z 0) (z 1) (z 2) (z 3) (z 4) (z 5) (z 6) (z 7),
     )

@@ -88,8 +88,8 @@ module _ (p : Process) (nine : length (p .vector) ≡ 9) (eight : length (p .bre
   words-long : length (lowFirst (p .vector)) ≡ vectorWidth
   words-long = length-lowFirst (p .vector) ∙ omega (arith, nine)
 
-  entries-behind : drop vectorWidth (lowFirst (p .vector) ++ joined entryBytes (p .breaks)) ≡ joined entryBytes (p .breaks)
-  entries-behind = drop-at (lowFirst (p .vector)) (joined entryBytes (p .breaks)) vectorWidth words-long
+  entries-after : drop vectorWidth (lowFirst (p .vector) ++ joined entryBytes (p .breaks)) ≡ joined entryBytes (p .breaks)
+  entries-after = drop-at (lowFirst (p .vector)) (joined entryBytes (p .breaks)) vectorWidth words-long
 
   entries-back : chunks entryWidth entryOf entryCount (joined entryBytes (p .breaks)) ≡ p .breaks
   entries-back =
@@ -104,11 +104,11 @@ module _ (p : Process) (nine : length (p .vector) ≡ 9) (eight : length (p .bre
   pub process-back : processOf (processBytes p) ≡ p
   unfolding processOf processBytes
   process-back =
-      rw (flag-back (p .there), run-back (p .run), take-at (lowFirst (p .vector)) (joined entryBytes (p .breaks)) vectorWidth words-long, vector-back (p .vector) nine, entries-behind, entries-back)
+      rw (flag-back (p .there), run-back (p .run), take-at (lowFirst (p .vector)) (joined entryBytes (p .breaks)) vectorWidth words-long, vector-back (p .vector) nine, entries-after, entries-back)
 
   pub process-formed : processFormed (processBytes p) ≡ true
   unfolding processFormed headFormed processBytes
-  process-formed = rw (flag-formed (p .there), run-formed (p .run), entries-behind) entries-formed
+  process-formed = rw (flag-formed (p .there), run-formed (p .run), entries-after) entries-formed
 
 pub process-forth : (m : List ℕ) → length m ≡ processWidth → Bytes m → processFormed m ≡ true → processBytes (processOf m) ≡ m
 unfolding processBytes processOf processFormed headFormed
@@ -117,8 +117,8 @@ process-forth m size b e =
     let run = leb (getD m runAt 0) lastRun in
     let head = &&-left (there && run) _ e in
     let entries = &&-right (there && run) (everyChunk entryWidth entryFormed entryCount (drop entriesAt m)) e in
-    let behind : length (drop vectorAt m) ≡ vectorWidth + entriesWidth = simp length-drop (omega (arith, size)) in
-    let long : length (take vectorWidth (drop vectorAt m)) ≡ vectorWidth = length-take-le vectorWidth (drop vectorAt m) (omega (arith, behind)) in
+    let after : length (drop vectorAt m) ≡ vectorWidth + entriesWidth = simp length-drop (omega (arith, size)) in
+    let long : length (take vectorWidth (drop vectorAt m)) ≡ vectorWidth = length-take-le vectorWidth (drop vectorAt m) (omega (arith, after)) in
     let last : length (drop entriesAt m) ≡ entriesWidth = simp length-drop (omega (arith, size)) in
     let further : drop entriesAt m ≡ drop vectorWidth (drop vectorAt m) = sym (drop-drop vectorWidth vectorAt m) in
     let front : take headWidth m ≡ elements (λ (i : ℕ). getD m i 0) headWidth = take-elements headWidth m (omega (arith, size)) in

@@ -20,7 +20,7 @@ number-requires : tie.Need-number-requires
 number-requires c κs = search needs
 
 slice-write-bytes-3 : tie.Need-slice-write-bytes-3
-slice-write-bytes-3 c = search needs
+slice-write-bytes-3 c = simp length-set (omega arith)
 
 same-length : tie.Need-same-length
 same-length c = search needs
