@@ -59,15 +59,15 @@ entry-forth m size b e =
 
 -- ---- all entries at once
 
+pub &&-true : (b : Bool) → b && true ≡ b
+&&-true true = refl
+&&-true false = refl
+
 -- a test that two numbers pass where their bits together do
 module _ (t : ℕ → Bool) (both : (a b : ℕ) → t (bitOr a b) ≡ t a && t b) where
   with-more : (bits n : ℕ) (m : List ℕ) → t (bitsWith bits n m) ≡ t bits && everyChunk entryWidth (λ (c : List ℕ). t (u64Le c)) n m
   unfolding bitsWith everyChunk
   with-more bits zero m = sym (&&-true (t bits))
-    where
-      &&-true : (b : Bool) → b && true ≡ b
-      &&-true true = refl
-      &&-true false = refl
   with-more bits (suc n) m =
       with-more (bitOr bits (u64Le (take entryWidth m))) n (drop entryWidth m)
       ∙ rw (both bits (u64Le (take entryWidth m))) (&&-assoc (t bits) (t (u64Le (take entryWidth m))) (everyChunk entryWidth (λ (c : List ℕ). t (u64Le c)) n (drop entryWidth m)))

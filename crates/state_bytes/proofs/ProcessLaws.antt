@@ -30,7 +30,7 @@ use Rattle.state_bytes.specs.Number.{flagOf}
 use Rattle.state_bytes.specs.Process.{headBytes, processBytes, processOf, headFormed, processFormed, headSound, processPlain, processSound}
 use Rattle.state_bytes.specs.Widths.{entryCount, entryWidth, thereAt, hostAt, runAt, headWidth, lastRun, vectorAt, vectorWidth, entriesAt, entriesWidth, processWidth}
 use Rattle.state_bytes.proofs.ChunkLaws.{bytes-take, bytes-drop, length-joined, chunks-joined, every-joined, joined-chunks, chunks-same, every-weaker}
-use Rattle.state_bytes.proofs.EntryLaws.{length-entryBytes, entry-back, entry-formed, entry-forth, entryZero, zero-bits, flags-bits, zero-free, zero-formed}
+use Rattle.state_bytes.proofs.EntryLaws.{&&-true, length-entryBytes, entry-back, entry-formed, entry-forth, entryZero, zero-bits, flags-bits, zero-free, zero-formed}
 use Rattle.state_bytes.proofs.NumberLaws.{flag-back, flag-formed, flag-forth, by-elements}
 
 -- ---- lengths
@@ -176,10 +176,6 @@ module _ (m : List ℕ) where
       let formed : flags ≡ true = every-weaker entryWidth entryZero entryFormed zero-formed entryCount (drop entriesAt m) zeros in
       let breaks : chunks entryWidth entryOf entryCount (drop entriesAt m) ≡ noBreaks = chunks-same entryWidth entryOf entryZero free zero-free entryCount (drop entriesAt m) zeros in
       rw (by-parts, formed, no-breaks-sound (processOf m) breaks) (&&-true (headSound m))
-    where
-      &&-true : (b : Bool) → b && true ≡ b
-      &&-true true = refl
-      &&-true false = refl
 
   pub plain-sound : processPlain m ≡ true → processSound m ≡ true
   unfolding processPlain

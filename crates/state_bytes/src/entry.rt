@@ -18,6 +18,7 @@ ghost use Rattle.state_bytes.specs.Entry.{entryBytes, entryOf, entryOfNu
 ghost use Rattle.state_bytes.specs.Number.{u64LeBytes};
 ghost use Rattle.state_bytes.specs.Widths.{entryCount, entryWidth, entriesWidth};
 
+// The entry whose eight bytes are those of this number.
 fn entry_of_number(w: u64) -> Breakpoint
     ensures { λ r. ⌜ r ≡ entryOfNumber w ⌝ }
 {
@@ -42,6 +43,7 @@ fn read_entry(entries: &[u8], k: usize) -> Breakpoint
     entry_of_number(u64_le(&entries[at..end]))
 }
 
+// All eight entries.
 pub(crate) fn read_entries(entries: &[u8]) -> [Breakpoint; 8]
     requires { ⌜ entriesWidth ≤ length (now entries) ⌝ }
     ensures { λ r. ⌜ r ≡ chunks entryWidth entryOf entryCount (now (entries .entry)) ⌝ }
@@ -80,6 +82,7 @@ fn put_entry(entries: [Breakpoint; 8], k: usize, bytes: &mut [u8])
     put_u64_le(entry_number(entries, k), bytes);
 }
 
+// Writes all eight entries.
 pub(crate) fn put_entries(entries: [Breakpoint; 8], bytes: &mut [u8])
     requires { ⌜ entriesWidth ≤ length (now bytes) ⌝ }
     ensures { λ _. ⌜ now (bytes .exit) ≡ overlay (joined entryBytes entries) (now (bytes .entry)) ⌝ }

@@ -23,7 +23,7 @@ pub(crate) fn u64_le(bytes: &[u8]) -> u64
     low as u64 + high as u64 * 4294967296
 }
 
-// A number as eight bytes: one store of the machine.
+// Writes a number as eight bytes: one store of the machine.
 pub(crate) fn put_u64_le(w: u64, bytes: &mut [u8])
     requires { ⌜ 8 ≤ length (now bytes) ⌝ }
     ensures { λ _. ⌜ now (bytes .exit) ≡ overlay (u64LeBytes w) (now (bytes .entry)) ⌝ }

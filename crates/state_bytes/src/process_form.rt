@@ -38,6 +38,7 @@ fn read_vector(bytes: &[u8]) -> [u16; 9]
     ]
 }
 
+// The record that these bytes are the form of.
 pub(crate) fn read_process(bytes: &[u8]) -> Process
     requires { ⌜ processWidth ≤ length (now bytes) ⌝ }
     ensures { λ r. ⌜ r ≡ processOf (now (bytes .entry)) ⌝ }
@@ -65,6 +66,7 @@ fn put_head(p: Process, bytes: &mut [u8])
     bytes[RUN_AT] = run.number();
 }
 
+// Writes the nine words.
 fn put_vector(vector: [u16; 9], bytes: &mut [u8])
     requires { ⌜ vectorWidth ≤ length (now bytes) ⌝ }
     ensures { λ _. ⌜ length (lowFirst vector) ≡ vectorWidth ⌝ }
@@ -74,6 +76,7 @@ fn put_vector(vector: [u16; 9], bytes: &mut [u8])
     bytes::copy(&words, bytes);
 }
 
+// Writes the record.
 pub(crate) fn put_process(p: Process, bytes: &mut [u8])
     requires { ⌜ processWidth ≤ length (now bytes) ⌝ }
     ensures { λ _. ⌜ length (processBytes p) ≡ processWidth ⌝ }
