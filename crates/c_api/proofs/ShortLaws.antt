@@ -21,7 +21,7 @@ use Rattle.rules.specs.Tests.{State, lent, requestNumber, reportNumber}
 use Rattle.rules.specs.Step.{Stepped, request, report, step, localOf, grantedNamed, grantedCreate, granted, refused, requested, told, notified, noted}
 use Rattle.rules.proofs.StepLaws.{by-test}
 use Rattle.tasks.proofs.OpLaws.{coded}
-use Rattle.image.specs.Form.{stateOf, stateFormed}
+use Rattle.state_bytes.specs.State.{stateOf, stateFormed}
 use Rattle.gateway.specs.Called.{Called, finished, callOn, startOn}
 use Rattle.c_api.specs.Called.{Short}
 

@@ -14,8 +14,8 @@ use Rattle.rules.specs.Step.{Answer, Stepped, localOf, put}
 use Rattle.rules.proofs.StateLaws.{put-same}
 use Rattle.rules.specs.Isolation.{isGranted}
 use Rattle.service.specs.At.{Left, answer, served}
-use Rattle.image.specs.Form.{stateBytes, stateOf, stateFormed, withProcessBytes}
-use Rattle.image.proofs.InverseLaws.{inverse}
+use Rattle.state_bytes.specs.State.{stateBytes, stateOf, stateFormed, withProcessBytes}
+use Rattle.state_bytes.proofs.StateLaws.{inverse}
 use Rattle.gateway.specs.Called.{called, finished}
 use Rattle.gateway.proofs.AskedLaws.{stepped, unmoved}
 

@@ -14,7 +14,8 @@ use Rattle.state.specs.Gateway.{soundTest}
 use Rattle.rules.specs.Tests.{State, lent, noRoom}
 use Rattle.rules.specs.Step.{Call, request, report, answers, step, requested, noted}
 use Rattle.rules.specs.Isolation.{isGranted}
-use Rattle.image.specs.Form.{stateOf, stateFormed, stateSound}
+use Rattle.state_bytes.specs.Widths.{stateWidth}
+use Rattle.state_bytes.specs.State.{stateOf, stateFormed, stateSound}
 use Rattle.gateway.specs.Stage.{lentNumber}
 use Rattle.gateway.specs.Called.{lentOn, finished, refusedBy, bufferOf, callOn}
 use Rattle.gateway.proofs.StageLaws.{Fit, lent-fit, request-lent}
@@ -52,9 +53,9 @@ module _ (state memory buffer : List ℕ) where
   pub lent-fits : lentOn state memory buffer ≡ 0 → Fit (stateOf state) memory buffer
   lent-fits e = lent-fit (stateOf state) memory buffer (lent-passes e)
 
-  pub lent-long : lentOn state memory buffer ≡ 0 → length state ≡ 680
+  pub lent-long : lentOn state memory buffer ≡ 0 → length state ≡ stateWidth
   unfolding stateFormed
-  lent-long e = eqb-true (length state) 680 (&&-left (eqb (length state) 680) _ (lent-formed e))
+  lent-long e = eqb-true (length state) stateWidth (&&-left (eqb (length state) stateWidth) _ (lent-formed e))
 
   -- a refused step leaves the bytes
   pub finished-refused : (n : ℕ) → finished state (answers (Refused n) buffer s) ≡ refusedBy n state memory buffer

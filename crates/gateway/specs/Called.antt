@@ -11,7 +11,8 @@ use Rattle.state.specs.Gateway.{freshStart}
 use Rattle.rules.specs.Tests.{lent, noRoom}
 use Rattle.rules.specs.Step.{Stepped, Call, request, report, store, step}
 use Rattle.rules.specs.Isolation.{isGranted}
-use Rattle.image.specs.Form.{stateBytes, stateOf, stateFormed, stateSound}
+use Rattle.state_bytes.specs.Widths.{stateWidth}
+use Rattle.state_bytes.specs.State.{stateBytes, stateOf, stateFormed, stateSound}
 
 -- what a call answered, and the bytes that it left in state, memory and output buffer
 pub record Called : Type 0 where
@@ -64,4 +65,4 @@ started o state = record { outcome = o; state = state }
 
 -- a fresh start with these processes, where the state's buffer has its length; else it is refused with 1
 unfoldable pub startOn : List Bool → List ℕ → Started
-startOn there state = cond (eqb (length state) 680) (started (Granted 0) (stateBytes (freshStart there))) (started (Refused 1) state)
+startOn there state = cond (eqb (length state) stateWidth) (started (Granted 0) (stateBytes (freshStart there))) (started (Refused 1) state)

@@ -1,6 +1,6 @@
 // The tests 1 and 2, which every call makes first.
 use format::MESSAGE_BYTES;
-use image::state_sound;
+use state_bytes::state_sound;
 ghost use mathlib.Core.Path.{_≡_};
 ghost use Rattle.gateway.specs.Called.{lentOn};
 

@@ -1,7 +1,7 @@
 // The state at a fresh start.
 use format::Outcome;
-use image::put_state;
-use state::Gateway;
+use state_bytes::STATE_BYTES;
+use state_bytes::put_fresh_start;
 ghost use mathlib.Core.Path.{_≡_};
 ghost use Rattle.gateway.specs.Called.{started, startOn};
 
@@ -9,9 +9,9 @@ ghost use Rattle.gateway.specs.Called.{started, startOn};
 pub fn fresh_start(there: [bool; 8], state: &mut [u8]) -> Outcome
     ensures { λ r. ⌜ started r (now (state .exit)) ≡ startOn there (now (state .entry)) ⌝ }
 {
-    if state.len() != 680 {
+    if state.len() != STATE_BYTES {
         return Outcome::Refused(1);
     }
-    put_state(Gateway::fresh_start(there), state);
+    put_fresh_start(there, state);
     Outcome::Granted(0)
 }

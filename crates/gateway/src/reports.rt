@@ -2,15 +2,15 @@
 use crate::checks::check_buffers_and_state;
 use crate::kept::keep;
 use format::Outcome;
-use image::read_process_at;
 use service::check_report;
 use service::report_for_process;
 use state::start;
+use state_bytes::read_process_at;
 ghost use mathlib.Core.Path.{_≡_};
 ghost use Rattle.rules.specs.Tests.{lent};
 ghost use Rattle.rules.specs.Step.{report, noted};
 ghost use Rattle.service.specs.At.{reportAway};
-ghost use Rattle.image.specs.Form.{stateOf};
+ghost use Rattle.state_bytes.specs.State.{stateOf};
 ghost use Rattle.gateway.specs.Called.{called, lentOn, finished, Did};
 
 // A report about a process with a number under 8.

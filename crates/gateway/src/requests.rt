@@ -4,8 +4,6 @@ use crate::kept::keep;
 use format::Header;
 use format::Outcome;
 use format::string;
-use image::lowest_absent;
-use image::read_process_at;
 use message::Incoming;
 use message::read_request;
 use ops::Form;
@@ -17,6 +15,8 @@ use service::refuse;
 use service::reply_plain;
 use service::target_of;
 use state::start;
+use state_bytes::lowest_absent;
+use state_bytes::read_process_at;
 ghost use mathlib.Core.Path.{_≡_};
 ghost use mathlib.Core.Bool.{true, false};
 ghost use mathlib.Core.List.{List};
@@ -30,7 +30,7 @@ ghost use Rattle.message.specs.declared.request.Incoming.the-variants.{Request}
 ghost use Rattle.rules.specs.Rule.{names, creates};
 ghost use Rattle.rules.specs.Tests.{lent};
 ghost use Rattle.rules.specs.Step.{request};
-ghost use Rattle.image.specs.Form.{stateOf};
+ghost use Rattle.state_bytes.specs.State.{stateOf};
 ghost use Rattle.gateway.specs.Stage.{asked};
 ghost use Rattle.gateway.specs.Called.{called, lentOn, finished, Did};
 

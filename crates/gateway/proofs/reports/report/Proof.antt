@@ -1,7 +1,7 @@
 -- `gateway::reports::report` meets its contract, stage by stage. Assumes nothing.
 use mathlib.Core.Path.{_≡_, sym, _∙_}
 use Rattle.rules.specs.Tests.{lent}
-use Rattle.image.specs.Form.{stateOf}
+use Rattle.state_bytes.specs.State.{stateOf}
 use Rattle.gateway.specs.Called.{Did}
 use Rattle.gateway.proofs.ReportLaws.{report-away}
 use Rattle.gateway.proofs.LentLaws.{lent-passes, finished-refused, report-unfit, report-fit}

@@ -4,7 +4,7 @@ use native.Mathlib.Omega.{arith}
 use Rattle.lists.specs.Buffer.{Bytes}
 use Rattle.format.specs.Layout.{stringOf}
 use Rattle.rules.specs.Tests.{lent}
-use Rattle.image.specs.Form.{stateOf}
+use Rattle.state_bytes.specs.State.{stateOf}
 use Rattle.service.specs.declared.target.Target.the-variants.{Named, OutOfRange, New, Nowhere}
 use Rattle.gateway.proofs.AskedLaws.{request-found, carried-short, target-says, asked-beyond, asked-nowhere}
 use Rattle.gateway.proofs.LentLaws.{lent-formed, lent-fits}

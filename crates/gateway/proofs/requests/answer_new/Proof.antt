@@ -4,7 +4,7 @@ use native.Mathlib.Omega.{arith}
 use Rattle.lists.specs.Buffer.{Bytes}
 use Rattle.state.proofs.SlotLaws.{startOf-is}
 use Rattle.rules.specs.Tests.{lent}
-use Rattle.image.specs.Form.{stateOf}
+use Rattle.state_bytes.specs.State.{stateOf}
 use Rattle.gateway.proofs.PartLaws.{slot-back, tested-part, local-part}
 use Rattle.gateway.proofs.AskedLaws.{asked-new, asked-full}
 use Rattle.gateway.proofs.LentLaws.{lent-formed, lent-fits, lent-long}

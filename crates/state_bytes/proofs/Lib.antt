@@ -1,0 +1,6 @@
+-- Laws that the proofs of this crate cite.
+pub mod ChunkLaws
+pub mod EntryLaws
+pub mod NumberLaws
+pub mod ProcessLaws
+pub mod StateLaws

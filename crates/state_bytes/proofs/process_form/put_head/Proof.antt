@@ -1,0 +1,41 @@
+-- `state_bytes::process_form::put_head` meets its contract: three stores. Assumes nothing.
+use native.Mathlib.Omega.{arith}
+use borrow.Author.Needs.{needs}
+use lib.ListN.{length-set}
+use Rattle.lists.proofs.Buffer.{sets-overlay}
+use Rattle.state_bytes.specs.Process.{headBytes}
+use Rattle.state_bytes.proofs.process_form.put_head.Statement.{statement}
+use Rattle.state_bytes.proofs.process_form.put_head.Tie as tie
+
+flag-requires : tie.Need-flag-requires
+flag-requires c κs = search needs
+
+slice-write-bytes : tie.Need-slice-write-bytes
+slice-write-bytes c = search needs
+
+slice-write-bytes-2 : tie.Need-slice-write-bytes-2
+slice-write-bytes-2 c = simp length-set (omega arith)
+
+number-requires : tie.Need-number-requires
+number-requires c κs = search needs
+
+slice-write-bytes-3 : tie.Need-slice-write-bytes-3
+slice-write-bytes-3 c = simp length-set (omega arith)
+
+same-length : tie.Need-same-length
+same-length c = search needs
+
+returns : tie.Need-returns
+returns c = let s = c .before .before .before in rw (c .before .flag .ensures, c .number .ensures) (sets-overlay (headBytes (s .args .p)) (s .args .bytes .now) (s .pre))
+
+pub put-head-spec : {M : Type 1} → statement M
+put-head-spec =
+    tie.close
+    (tie.spec
+    flag-requires
+    slice-write-bytes
+    slice-write-bytes-2
+    number-requires
+    slice-write-bytes-3
+    same-length
+    returns)

@@ -1,0 +1,66 @@
+-- The widths and places of the byte form, in bytes. Each number stands here once, and the others follow from it.
+use Prim.Native.Nat.{ℕ, _+_, _*_}
+
+-- ---- an entry
+
+-- 'up to 8 breakpoints'
+abbrev pub entryCount : ℕ
+entryCount = 8
+
+-- flags, address, count and saved word
+abbrev pub entryWidth : ℕ
+entryWidth = 8
+
+-- all entries of a process
+abbrev pub entriesWidth : ℕ
+entriesWidth = entryWidth * entryCount
+
+-- ---- the head of a process
+
+-- whether it is there
+abbrev pub thereAt : ℕ
+thereAt = 0
+
+-- the host that debugs it
+abbrev pub hostAt : ℕ
+hostAt = 1
+
+-- the number of its run state
+abbrev pub runAt : ℕ
+runAt = 2
+
+-- these three
+abbrev pub headWidth : ℕ
+headWidth = 3
+
+-- the highest number of a run state
+abbrev pub lastRun : ℕ
+lastRun = 4
+
+-- ---- a process
+
+-- the nine words lie after the head
+abbrev pub vectorAt : ℕ
+vectorAt = headWidth
+
+-- 'nine words R0 to R5, SP, PC, PS, 18 bytes'
+abbrev pub vectorWidth : ℕ
+vectorWidth = 18
+
+-- the entries lie after the words
+abbrev pub entriesAt : ℕ
+entriesAt = vectorAt + vectorWidth
+
+-- head, words and entries
+abbrev pub processWidth : ℕ
+processWidth = entriesAt + entriesWidth
+
+-- ---- a state
+
+-- 'processes 0 to 7'
+abbrev pub processCount : ℕ
+processCount = 8
+
+-- all processes
+abbrev pub stateWidth : ℕ
+stateWidth = processWidth * processCount

@@ -1,0 +1,104 @@
+// The bytes of a process: its head, the nine words, the eight entries.
+use crate::entry::put_entries;
+use crate::entry::read_entries;
+use crate::head::run_of;
+use crate::widths::ENTRIES_AT;
+use crate::widths::HOST_AT;
+use crate::widths::LAST_RUN;
+use crate::widths::RUN_AT;
+use crate::widths::THERE_AT;
+use crate::widths::VECTOR_AT;
+use process::Process;
+use words::flag;
+use words::vector_bytes;
+use words::word_of;
+ghost use mathlib.Core.Path.{_≡_};
+ghost use Prim.Native.Nat.{_≤_};
+ghost use lib.ListN.{length};
+ghost use Rattle.lists.specs.Buffer.{overlay};
+ghost use Rattle.lists.specs.Word.{lowFirst, vectorOf};
+ghost use Rattle.state_bytes.specs.Process.{headBytes, processBytes, processOf, headSound};
+ghost use Rattle.state_bytes.specs.Widths.{headWidth, vectorWidth, processWidth};
+
+// The nine words.
+fn read_vector(bytes: &[u8]) -> [u16; 9]
+    requires { ⌜ vectorWidth ≤ length (now bytes) ⌝ }
+    ensures { λ r. ⌜ r ≡ vectorOf (now (bytes .entry)) ⌝ }
+{
+    [
+        word_of(bytes[1], bytes[0]),
+        word_of(bytes[3], bytes[2]),
+        word_of(bytes[5], bytes[4]),
+        word_of(bytes[7], bytes[6]),
+        word_of(bytes[9], bytes[8]),
+        word_of(bytes[11], bytes[10]),
+        word_of(bytes[13], bytes[12]),
+        word_of(bytes[15], bytes[14]),
+        word_of(bytes[17], bytes[16]),
+    ]
+}
+
+// The record that these bytes are the form of.
+pub(crate) fn read_process(bytes: &[u8]) -> Process
+    requires { ⌜ processWidth ≤ length (now bytes) ⌝ }
+    ensures { λ r. ⌜ r ≡ processOf (now (bytes .entry)) ⌝ }
+{
+    let vector = read_vector(&bytes[VECTOR_AT..ENTRIES_AT]);
+    let breaks = read_entries(&bytes[ENTRIES_AT..]);
+    let run = run_of(bytes[RUN_AT]);
+    Process {
+        there: bytes[THERE_AT] % 2 == 1,
+        host: bytes[HOST_AT],
+        run: run,
+        vector: vector,
+        breaks: breaks,
+    }
+}
+
+// Writes whether it is there, host and run state.
+fn put_head(p: Process, bytes: &mut [u8])
+    requires { ⌜ headWidth ≤ length (now bytes) ⌝ }
+    ensures { λ _. ⌜ now (bytes .exit) ≡ overlay (headBytes p) (now (bytes .entry)) ⌝ }
+{
+    let run = p.run;
+    bytes[THERE_AT] = flag(p.there);
+    bytes[HOST_AT] = p.host;
+    bytes[RUN_AT] = run.number();
+}
+
+// Writes the nine words.
+fn put_vector(vector: [u16; 9], bytes: &mut [u8])
+    requires { ⌜ vectorWidth ≤ length (now bytes) ⌝ }
+    ensures { λ _. ⌜ length (lowFirst vector) ≡ vectorWidth ⌝ }
+    ensures { λ _. ⌜ now (bytes .exit) ≡ overlay (lowFirst vector) (now (bytes .entry)) ⌝ }
+{
+    let words = vector_bytes(vector);
+    bytes::copy(&words, bytes);
+}
+
+// Writes the record.
+pub(crate) fn put_process(p: Process, bytes: &mut [u8])
+    requires { ⌜ processWidth ≤ length (now bytes) ⌝ }
+    ensures { λ _. ⌜ length (processBytes p) ≡ processWidth ⌝ }
+    ensures { λ _. ⌜ now (bytes .exit) ≡ overlay (processBytes p) (now (bytes .entry)) ⌝ }
+{
+    let vector = p.vector;
+    let breaks = p.breaks;
+    put_head(p, bytes);
+    put_vector(vector, &mut bytes[VECTOR_AT..]);
+    put_entries(breaks, &mut bytes[ENTRIES_AT..]);
+}
+
+// The run state is one of the five, and the process is there, or absent with no host.
+pub(crate) fn head_sound(bytes: &[u8]) -> bool
+    requires { ⌜ headWidth ≤ length (now bytes) ⌝ }
+    ensures { λ r. ⌜ r ≡ headSound (now (bytes .entry)) ⌝ }
+{
+    if bytes[RUN_AT] > LAST_RUN {
+        return false;
+    }
+    if bytes[THERE_AT] == 1 {
+        return true;
+    }
+    bytes[THERE_AT] == 0 && bytes[HOST_AT] == 0
+}

@@ -1,0 +1,34 @@
+// The widths and places of the byte form, in bytes. Each number stands here once, and the others follow from it.
+
+// An entry.
+pub(crate) const ENTRY_COUNT: usize = 8;
+
+pub(crate) const ENTRY_BYTES: usize = 8;
+
+pub(crate) const ENTRIES_BYTES: usize = ENTRY_BYTES * ENTRY_COUNT;
+
+// The head of a process.
+pub(crate) const THERE_AT: usize = 0;
+
+pub(crate) const HOST_AT: usize = 1;
+
+pub(crate) const RUN_AT: usize = 2;
+
+pub(crate) const HEAD_BYTES: usize = 3;
+
+// The highest number of a run state.
+pub(crate) const LAST_RUN: u8 = 4;
+
+// A process.
+pub(crate) const VECTOR_AT: usize = HEAD_BYTES;
+
+pub(crate) const VECTOR_BYTES: usize = 18;
+
+pub(crate) const ENTRIES_AT: usize = VECTOR_AT + VECTOR_BYTES;
+
+pub(crate) const PROCESS_BYTES: usize = ENTRIES_AT + ENTRIES_BYTES;
+
+// A state.
+pub(crate) const PROCESS_COUNT: usize = 8;
+
+pub const STATE_BYTES: usize = PROCESS_BYTES * PROCESS_COUNT;
