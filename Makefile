@@ -19,11 +19,10 @@ CALLS = 200000
 SEED = 1
 
 model:
-	@sh checks/embedding $(CALLS) $(SEED)
+	@sh checks/library $(CALLS) $(SEED)
 
 library:
-	@mkdir -p target
-	@rt staticlib embedding >target/embedding.log 2>&1 || { cat target/embedding.log; exit 1; }
+	@sh checks/archive
 
 bench: library
 	@sh perf/run

@@ -8,7 +8,7 @@
 //! of answer that the paper makes possible, or one of the passages that are
 //! counted, was never met; otherwise with 0.
 //!
-//! The library is given to the linker (`-L DIR -l static=embedding`); with the
+//! The library is given to the linker (`-L DIR -l static=palustrode`); with the
 //! feature `standin` the model itself takes its place. If the library was built
 //! by another compiler, or has a panic handler of its own, the linker needs
 //! `-C link-arg=-Wl,--allow-multiple-definition` besides.
