@@ -18,7 +18,7 @@ use Rattle.rules.specs.Rule.{ruleOf, names, creates}
 use Rattle.format.specs.Outcome.{firstFailing}
 use Rattle.rules.specs.Tests.{State, askedTests, reportNumber}
 use Rattle.gateway.specs.Stage.{asked}
-use Rattle.rules.specs.Step.{Stepped, localOf, grantedNamed, grantedCreate, granted, refused, told, notified, noted}
+use Rattle.rules.specs.Step.{Answer, Stepped, localOf, grantedNamed, grantedCreate, granted, refused, told, noticeTo, notified, noted}
 use Rattle.rules.proofs.StepLaws.{by-test}
 use Rattle.embedding.specs.Called.{Short}
 use Rattle.tasks.proofs.OpLaws.{coded}
@@ -53,10 +53,10 @@ asked-short h string buffer s =
     (λ e. tt)
 
 pub noted-short : (p kind reason : ℕ) (words buffer : List ℕ) (s : State) → length words ≡ 9 → Short (noted p kind reason words buffer s .answer .outcome)
-unfolding noted notified
+unfolding noted notified noticeTo
 noted-short p kind reason words buffer s nine =
     by-test ShortStep (eqb (reportNumber s p kind reason buffer) 0)
-    (λ e. by-test ShortStep (told kind words (localOf s p))
+    (λ e. by-test (λ (x : Answer). Short (x .outcome)) (told kind words (localOf s p))
     (λ t. omega (arith, length-lowFirst words, nine))
     (λ t. omega arith))
     (λ e. tt)

@@ -15,17 +15,16 @@ use Rattle.lists.proofs.Bool.{&&-left, &&-right, &&-both}
 use Rattle.lists.proofs.Elements.{take-elements}
 use Rattle.lists.proofs.Short.{take-short}
 use Rattle.lists.proofs.Word.{word-high-low, high-word, low-word, length-lowFirst}
-use Rattle.process.specs.declared.record.Run.{Run}
-use Rattle.process.specs.declared.record.Run.the-variants.{Running, Stepping, Stopped, AtBreak, Ended}
 use Rattle.breakpoints.specs.declared.entry.Breakpoint.{Breakpoint}
 use Rattle.process.specs.declared.record.Process.{Process}
 use Rattle.breakpoints.specs.Entry.{free}
 use Rattle.state.specs.declared.gateway.Gateway.{Gateway}
 use Rattle.state.specs.Gateway.{nobody, withProcess}
 use Rattle.lists.specs.Joined.{joined}
-use Rattle.process.specs.Record.{runNumber}
+use Rattle.run_state.proofs.RunLaws.{run-back, run-formed, run-forth}
+use Rattle.run_state.specs.RunState.{runNumber, runOf}
 use Rattle.image.specs.Chunk.{chunks, everyChunk}
-use Rattle.image.specs.Form.{flagOf, entryBytes, processBytes, stateBytes, withProcessBytes, runOf, entryOf, processOf, stateOf, entryFormed, headFormed, processFormed, stateFormed}
+use Rattle.image.specs.Form.{flagOf, entryBytes, processBytes, stateBytes, withProcessBytes, entryOf, processOf, stateOf, entryFormed, headFormed, processFormed, stateFormed}
 use Rattle.image.specs.Theorems.{Sized, Inverse}
 use Rattle.image.proofs.ChunkLaws.{length-joined}
 use Rattle.image.proofs.FormLaws.{entry-long, process-long}
@@ -105,30 +104,6 @@ flag-forth : (x : ℕ) → leb x 1 ≡ true → cond (flagOf x) 1 0 ≡ x
 flag-forth zero e = refl
 flag-forth (suc zero) e = refl
 flag-forth (suc (suc x)) e = absurd (omega (arith, leb-true (suc (suc x)) 1 e))
-
-run-back : (r : Run) → runOf (runNumber r) ≡ r
-unfolding runOf
-run-back Running = refl
-run-back Stepping = refl
-run-back Stopped = refl
-run-back AtBreak = refl
-run-back Ended = refl
-
-run-formed : (r : Run) → leb (runNumber r) 4 ≡ true
-run-formed Running = refl
-run-formed Stepping = refl
-run-formed Stopped = refl
-run-formed AtBreak = refl
-run-formed Ended = refl
-
-run-forth : (x : ℕ) → leb x 4 ≡ true → runNumber (runOf x) ≡ x
-unfolding runOf
-run-forth zero e = refl
-run-forth (suc zero) e = refl
-run-forth (suc (suc zero)) e = refl
-run-forth (suc (suc (suc zero))) e = refl
-run-forth (suc (suc (suc (suc zero)))) e = refl
-run-forth (suc (suc (suc (suc (suc x))))) e = absurd (omega (arith, leb-true (suc (suc (suc (suc (suc x))))) 4 e))
 
 -- a list of this length, by its elements
 by-elements : (n : ℕ) (m : List ℕ) → length m ≡ n → m ≡ elements (λ (i : ℕ). getD m i 0) n

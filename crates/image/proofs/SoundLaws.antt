@@ -13,7 +13,7 @@ use Rattle.lists.proofs.Every.{every-below}
 use Rattle.process.specs.declared.record.Process.{Process}
 use Rattle.breakpoints.specs.Entry.{free}
 use Rattle.process.specs.Record.{noBreaks}
-use Rattle.process.specs.Sound.{hosted, entrySound}
+use Rattle.process.specs.Sound.{absentHasNoHost, entrySound}
 use Rattle.process.specs.Sound.{soundTest as soundProcess}
 use Rattle.state.specs.Gateway.{nobody, soundTest}
 use Rattle.image.specs.Chunk.{chunks, everyChunk}
@@ -58,7 +58,7 @@ no-breaks-sound p e = rw e
 
 -- its head tells
 bare-sound : (m : List ℕ) → headFormed m ≡ true → everyChunk 8 entryZero 8 (drop 21 m) ≡ true → headHosted m ≡ processSound m
-unfolding processSound processFormed soundProcess hosted headHosted processOf
+unfolding processSound processFormed soundProcess absentHasNoHost headHosted processOf
 bare-sound m h z =
     let formed : everyChunk 8 entryFormed 8 (drop 21 m) ≡ true = every-weaker 8 entryZero entryFormed zero-formed 8 (drop 21 m) z in
     let breaks : chunks 8 entryOf 8 (drop 21 m) ≡ noBreaks = chunks-same 8 entryOf entryZero free zero-free 8 (drop 21 m) z in

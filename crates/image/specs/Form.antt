@@ -9,11 +9,9 @@ use Rattle.lists.specs.First.{first}
 use Rattle.lists.specs.Flag.{flag}
 use Rattle.lists.specs.Joined.{joined}
 use Rattle.lists.specs.Word.{high, low, word, lowFirst, vectorOf}
-use Rattle.process.specs.declared.record.Run.{Run}
-use Rattle.process.specs.declared.record.Run.the-variants.{Running, Stepping, Stopped, AtBreak, Ended}
 use Rattle.breakpoints.specs.declared.entry.Breakpoint.{Breakpoint}
 use Rattle.process.specs.declared.record.Process.{Process}
-use Rattle.process.specs.Record.{runNumber}
+use Rattle.run_state.specs.RunState.{runNumber, isRunNumber, runOf}
 use Rattle.process.specs.Sound.{soundTest as soundProcess}
 use Rattle.state.specs.declared.gateway.Gateway.{Gateway}
 use Rattle.state.specs.Gateway.{soundTest}
@@ -64,10 +62,6 @@ unfoldable pub withProcessBytes : ℕ → Process → List ℕ → List ℕ
 withProcessBytes p q m = take (85 * p) m ++ (processBytes q ++ drop 85 (drop (85 * p) m))
 
 -- ---- reading
-
--- a run state by its number; another number than 0 to 4 is tested for, and read as running
-unfoldable pub runOf : ℕ → Run
-runOf n = cond (eqb n 1) Stepping (cond (eqb n 2) Stopped (cond (eqb n 3) AtBreak (cond (eqb n 4) Ended Running)))
 
 -- a flag is read by its lowest bit; that its byte is 0 or 1 is tested
 abbrev pub flagOf : ℕ → Bool
@@ -125,7 +119,7 @@ entryFormed m = leb (getD m 0 0) 1 && leb (getD m 1 0) 1
 
 -- the flag is 0 or 1, and the run state one of the five
 unfoldable pub headFormed : List ℕ → Bool
-headFormed m = leb (getD m 0 0) 1 && leb (getD m 2 0) 4
+headFormed m = leb (getD m 0 0) 1 && isRunNumber (getD m 2 0)
 
 -- head and entries are
 unfoldable pub processFormed : List ℕ → Bool

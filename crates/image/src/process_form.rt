@@ -1,8 +1,9 @@
 // The 85 bytes of a process.
 use crate::entry::put_entries;
 use crate::entry::read_entries;
-use crate::head::run_of;
 use process::Process;
+use run_state::LAST_RUN_NUMBER;
+use run_state::run_of;
 use words::flag;
 use words::vector_bytes;
 use words::word_of;
@@ -84,5 +85,5 @@ pub(crate) fn head_formed(image: &[u8]) -> bool
     requires { ⌜ 3 ≤ length (now image) ⌝ }
     ensures { λ r. ⌜ r ≡ headFormed (now (image .entry)) ⌝ }
 {
-    image[0] <= 1 && image[2] <= 4
+    image[0] <= 1 && image[2] <= LAST_RUN_NUMBER
 }

@@ -10,7 +10,7 @@ use Rattle.ops.specs.Table.{requestForm}
 use Rattle.format.specs.Layout.{headerOf, fixedRight}
 use Rattle.format.specs.Refusal.{layoutTests}
 use Rattle.process.specs.declared.record.Process.{Process}
-use Rattle.process.specs.Report.{accepts}
+use Rattle.run_state.specs.RunState.{accepts}
 use Rattle.state.specs.declared.gateway.Gateway.{Gateway}
 use Rattle.state.specs.Gateway.{processAt, lowestAbsent, soundTest}
 use Rattle.rules.specs.Rule.{Rule, public, ruleOf, names, creates}

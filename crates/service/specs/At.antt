@@ -13,10 +13,11 @@ use Rattle.format.specs.Answer.{cantOf, createdOf, noticeOf}
 use Rattle.process.specs.declared.record.Process.{Process}
 use Rattle.process.specs.Local.{Local}
 use Rattle.process.specs.Request.{created}
-use Rattle.process.specs.Report.{accepts, recorded, passes, reported}
+use Rattle.run_state.specs.RunState.{accepts}
+use Rattle.process.specs.Report.{reported, recipientOf}
 use Rattle.rules.specs.Rule.{ruleOf, names, creates}
 use Rattle.rules.specs.Tests.{badReport}
-use Rattle.rules.specs.Step.{Answer, replyOf}
+use Rattle.rules.specs.Step.{Answer, replyOf, noticeTo}
 use Rattle.tasks.specs.Task.{processTests}
 
 -- what is answered, and the process with its bytes after it
@@ -65,16 +66,10 @@ requestAt p h string buffer l = cond (creates (h .cmd)) (createdAt p h buffer) (
 unfoldable pub reportAway : ℕ → ℕ → ℕ → ℕ
 reportAway p kind reason = firstFailing (test 14 (badReport kind reason) ∷ test 7 (not (ltb p 8)) ∷ [])
 
--- a notice 'goes to the host debugging it, if any', unless the report is silent
-unfoldable pub noticeOr : ℕ → Bool → ℕ → ℕ → ℕ → List ℕ → List ℕ → Answer
-noticeOr host silent process kind reason words buffer =
-    cond (not (eqb host 0) && not silent) (replyOf (noticeOf host kind process reason) (lowFirst words) buffer)
-    (record { outcome = Granted 0; buffer = buffer })
-
 -- a report about process p, by the number of its tests; 'a refused one writes nothing at all'
 unfoldable pub reportBy : ℕ → ℕ → ℕ → ℕ → List ℕ → List ℕ → Local → Left
 reportBy zero p kind reason words buffer l = record {
-  answer = noticeOr (l .process .host) (passes kind (recorded words l .process)) p kind reason words buffer;
+  answer = noticeTo (recipientOf kind words l) p kind reason words buffer;
   left = reported kind words l;
 }
 reportBy (suc n) p kind reason words buffer l = record { answer = record { outcome = Refused (suc n); buffer = buffer }; left = l }

@@ -32,7 +32,7 @@ pub(crate) fn perform(h: Header, k: usize, p: Process, bytes: &mut [u8], string:
         9 => p.remove_from(k, bytes),
         10 => p.single_step(bytes),
         11 => p.proceed(bytes),
-        13 => Process::cleared(),
+        13 => p.destroy(),
         _ => p,
     }
 }

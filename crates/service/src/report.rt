@@ -8,8 +8,9 @@ ghost use mathlib.Core.Bool.{false};
 ghost use Prim.Native.Nat.{_≤_};
 ghost use lib.ListN.{length};
 ghost use Rattle.process.specs.Local.{local, Tested};
+ghost use Rattle.rules.specs.Step.{noticeTo};
 ghost use Rattle.rules.specs.Tests.{badReport};
-ghost use Rattle.service.specs.At.{reportAway, reportNumberAt, noticeOr, reportAt};
+ghost use Rattle.service.specs.At.{reportAway, reportNumberAt, reportAt};
 
 // 14: the kind is over 3, or there is a reason with a kind that is not TRAP.
 fn bad_report(kind: u8, reason: u16) -> bool
@@ -51,10 +52,9 @@ fn report_number_at(p: Process, kind: u8) -> u8
     0
 }
 
-// The notice to this host, unless it is nobody or the report is silent.
+// Writes the notice to this host, unless it is nobody.
 fn notify(
     host: u8,
-    silent: bool,
     process: u8,
     kind: u8,
     reason: u16,
@@ -63,13 +63,10 @@ fn notify(
 ) -> Outcome
     requires { ⌜ badReport kind reason ≡ false ⌝ }
     requires { ⌜ 266 ≤ length (now notice) ⌝ }
-    ensures { λ r. ⌜ r ≡ noticeOr host silent process kind reason words (now (notice .entry)) .outcome ⌝ }
-    ensures { λ _. ⌜ now (notice .exit) ≡ noticeOr host silent process kind reason words (now (notice .entry)) .buffer ⌝ }
+    ensures { λ r. ⌜ r ≡ noticeTo host process kind reason words (now (notice .entry)) .outcome ⌝ }
+    ensures { λ _. ⌜ now (notice .exit) ≡ noticeTo host process kind reason words (now (notice .entry)) .buffer ⌝ }
 {
     if host == 0 {
-        return Outcome::Granted(0);
-    }
-    if silent {
         return Outcome::Granted(0);
     }
     write_notice(host, kind, process, reason, words, notice)
@@ -102,7 +99,7 @@ pub fn report_at(
     }
     let done = p.report(bytes, kind, words);
     let next = done.process;
-    let outcome = notify(p.host, done.silent, process, kind, reason, words, notice);
+    let outcome = notify(done.told, process, kind, reason, words, notice);
     Served {
         outcome: outcome,
         process: next,

@@ -72,7 +72,13 @@ fn answer_named(h: Header, p: Process, bytes: &mut [u8], string: &[u8], reply: &
 }
 
 // CREATE, of process p.
-fn answer_create(h: Header, p: usize, bytes: &mut [u8], reply: &mut [u8]) -> Served
+fn answer_create(
+    h: Header,
+    p: usize,
+    process: Process,
+    bytes: &mut [u8],
+    reply: &mut [u8],
+) -> Served
     requires { ⌜ creates (h .cmd) ≡ true ⌝ }
     requires { ⌜ p < 8 ⌝ }
     requires { ⌜ length (now bytes) ≡ 4096 ⌝ }
@@ -83,11 +89,11 @@ fn answer_create(h: Header, p: usize, bytes: &mut [u8], reply: &mut [u8]) -> Ser
     ensures { λ _. ⌜ now (bytes .exit) ≡ createdAt p h (now (reply .entry)) .left .bytes ⌝ }
     ensures { λ _. ⌜ now (reply .exit) ≡ createdAt p h (now (reply .entry)) .answer .buffer ⌝ }
 {
-    let process = Process::create(h.host, bytes);
+    let created = process.create(h.host, bytes);
     let outcome = write_created(h, p as u8, reply);
     Served {
         outcome: outcome,
-        process: process,
+        process: created,
     }
 }
 
@@ -113,7 +119,7 @@ pub fn answer_at(
 {
     let cmd = h.cmd;
     if creates(cmd) {
-        return answer_create(h, p, bytes, reply);
+        return answer_create(h, p, process, bytes, reply);
     }
     answer_named(h, process, bytes, string, reply)
 }

@@ -7,19 +7,15 @@ use lib.ListN.{length}
 use Rattle.lists.specs.Word.{lowFirst}
 use Rattle.format.specs.declared.outcome.Outcome.the-variants.{Granted}
 use Rattle.format.specs.Answer.{noticeOf}
-use Rattle.service.specs.At.{noticeOr}
+use Rattle.rules.specs.Step.{noticeTo}
 use Rattle.service.proofs.NoticeLaws.{notice-granted, notice-long}
 use Rattle.service.proofs.ReplyLaws.{writes-buffer}
 use Rattle.service.proofs.report.notify.Statement.{statement}
 use Rattle.service.proofs.report.notify.Tie as tie
 
 returns : tie.Need-returns
-unfolding noticeOr
+unfolding noticeTo
 returns c = rw (eq-eqb _ _ (c .if1 .taken)) (refl, refl)
-
-returns-2 : tie.Need-returns-2
-unfolding noticeOr
-returns-2 c = rw (ne-eqb _ _ (c .before .if1 .left), c .if2 .taken) (refl, refl)
 
 write-notice-requires : tie.Need-write-notice-requires
 write-notice-requires c κs = search needs
@@ -27,20 +23,19 @@ write-notice-requires c κs = search needs
 same-length : tie.Need-same-length
 same-length c = search needs
 
-returns-3 : tie.Need-returns-3
-unfolding noticeOr
-returns-3 c =
+returns-2 : tie.Need-returns-2
+unfolding noticeTo
+returns-2 c =
     let w = c .before .before in
-    let j = w .before .before in
-    let i = j .before in
-    let s = c .before .before .before .before .before .before .before in
+    let i = w .before .before in
+    let s = i .before .before in
     let a = s .args in
-    let nine : length (a .words) ≡ 9 = s .good .1 .1 .1 .1 .1 .0 .1 .0 .1 in
+    let nine : length (a .words) ≡ 9 = s .good .1 .1 .1 .1 .0 .1 .0 .1 in
     let ok = notice-granted (a .host) (a .kind) (a .process) (a .reason) (a .words) (a .notice .now) (i .if1 .left) (s .pre .0) nine (s .pre .1) in
-    rw (ne-eqb _ _ (i .if1 .left), j .if2 .left) (
+    rw (ne-eqb _ _ (i .if1 .left)) (
       w .write-notice .ensures .0 ∙ ok ∙ ap (λ (n : ℕ). Granted (10 + n)) (sym (notice-long (a .words) nine)),
       w .write-notice .ensures .1 ∙ writes-buffer (noticeOf (a .host) (a .kind) (a .process) (a .reason)) (lowFirst (a .words)) (a .notice .now) 28 ok,
     )
 
 pub notify-spec : {M : Type 1} → statement M
-notify-spec = tie.close (tie.spec returns returns-2 write-notice-requires same-length returns-3)
+notify-spec = tie.close (tie.spec returns write-notice-requires same-length returns-2)
