@@ -16,7 +16,7 @@ use Rattle.format.specs.Answer.{cantOf, createdOf, noticeOf}
 use Rattle.format.proofs.LayoutLaws.{length-written}
 use Rattle.rules.specs.Rule.{ruleOf, names, creates}
 use Rattle.state.specs.Gateway.{lowestAbsent}
-use Rattle.rules.specs.Tests.{State, recordOf, requestNumber, reportNumber}
+use Rattle.rules.specs.Tests.{State, requestNumber, reportNumber}
 use Rattle.rules.specs.Step.{localOf, put, replied, replyOf, answers, grantedNamed, grantedCreate, granted, refused, requested, noticeTo, notified, noted}
 use Rattle.rules.specs.Total.{cantOver}
 use Rattle.rules.proofs.TotalLaws.{total}

@@ -5,7 +5,7 @@ use mathlib.Core.List.{List}
 use Prim.Native.Nat.{ℕ, zero, suc, _<_}
 use native.Mathlib.Omega.{arith}
 use borrow.Author.Tests.{ne-eqb, ltb-true, not-false}
-use lib.Dec.{eqb, ltb}
+use lib.Dec.{ltb}
 use Rattle.format.specs.declared.outcome.Outcome.the-variants.{Refused}
 use Rattle.format.specs.Outcome.{firstFailing}
 use Rattle.format.proofs.OutcomeLaws.{first-passes, rest-passes}

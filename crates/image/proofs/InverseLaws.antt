@@ -22,7 +22,6 @@ use Rattle.state.specs.declared.gateway.Gateway.{Gateway}
 use Rattle.state.specs.Gateway.{nobody, withProcess}
 use Rattle.lists.specs.Joined.{joined}
 use Rattle.run_state.proofs.RunLaws.{run-back, run-formed, run-forth}
-use Rattle.run_state.specs.RunState.{runNumber, runOf}
 use Rattle.image.specs.Chunk.{chunks, everyChunk}
 use Rattle.image.specs.Form.{flagOf, entryBytes, processBytes, stateBytes, withProcessBytes, entryOf, processOf, stateOf, entryFormed, headFormed, processFormed, stateFormed}
 use Rattle.image.specs.Theorems.{Sized, Inverse}

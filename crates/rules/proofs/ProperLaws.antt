@@ -14,7 +14,7 @@ use Rattle.breakpoints.specs.Entry.{breakpointAt, withCount}
 use Rattle.process.specs.Record.{fresh, entry, withRun, withHost, withVector, withEntry}
 use Rattle.process.specs.Find.{find}
 use Rattle.process.specs.Sound.{Sound}
-use Rattle.run_state.specs.RunState.{moving, stoppedOrAtBreak, atBreak, accepts, runAfter}
+use Rattle.run_state.specs.RunState.{moving, stoppedOrAtBreak, atBreak, accepts}
 use Rattle.breakpoints.specs.Seen.{seen, savedFrom}
 use Rattle.process.specs.Request.{sheltered}
 use Rattle.process.specs.Local.{Local, local, Proper}
@@ -25,7 +25,7 @@ use Rattle.process.proofs.ReportLaws.{length-reported, eight-reported}
 use Rattle.process.proofs.SoundTestLaws.{sound-passes}
 use Rattle.breakpoints.proofs.SeenLaws.{length-seen}
 use Rattle.process.proofs.TestedLaws.{tested-sound}
-use Rattle.process.proofs.PlantingLaws.{length-plantedIn, length-liftedIn, length-removedFrom, length-replanted, length-liftedAt, length-entry, eight-replanted}
+use Rattle.process.proofs.PlantingLaws.{length-plantedIn, length-removedFrom, length-replanted, length-liftedAt, length-entry, eight-replanted}
 use Rattle.process.proofs.TheoremLaws.{sound-stays}
 
 pub sound-of : (l : Local) → Proper l → Sound (l .process)

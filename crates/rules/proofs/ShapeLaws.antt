@@ -3,16 +3,13 @@
 use mathlib.Core.Path.{_≡_, refl, _∙_}
 use mathlib.Core.Bool.{Bool, true, false, not, cond}
 use mathlib.Core.List.{List, [], _∷_}
-use Prim.Native.Nat.{ℕ, _+_, _<_}
+use Prim.Native.Nat.{ℕ, _<_}
 use borrow.Author.Tests.{eqb-true, lt-ltb}
 use lib.ListN.{length, set}
 use lib.Dec.{eqb, ltb}
-use Rattle.lists.specs.Buffer.{overlay}
-use Rattle.lists.specs.Word.{lowFirst}
-use Rattle.format.specs.declared.outcome.Outcome.the-variants.{Granted, Refused}
+use Rattle.format.specs.declared.outcome.Outcome.the-variants.{Refused}
 use Rattle.format.specs.Outcome.{test, firstFailing}
-use Rattle.format.specs.Layout.{written, headerOf}
-use Rattle.format.specs.Answer.{noticeOf}
+use Rattle.format.specs.Layout.{headerOf}
 use Rattle.process.specs.declared.record.Process.{Process}
 use Rattle.process.specs.Local.{Local, local}
 use Rattle.run_state.specs.RunState.{accepts}
@@ -20,12 +17,12 @@ use Rattle.process.specs.Report.{reported, recipientOf}
 use Rattle.rules.specs.Rule.{names, creates}
 use Rattle.state.specs.Gateway.{lowestAbsent}
 use Rattle.rules.specs.Tests.{State, recordOf, askedTests, requestNumber, badReport, reportNumber}
-use Rattle.rules.specs.Step.{Answer, Stepped, answers, localOf, replied, grantedCreate, granted, refused, requested, noticeTo, notified, noted, stored}
+use Rattle.rules.specs.Step.{Answer, answers, localOf, replied, grantedCreate, granted, refused, requested, noticeTo, notified, noted, stored}
 use Rattle.rules.specs.Ready.{Ready}
 use Rattle.rules.proofs.ProperLaws.{report-proper, store-proper}
 use Rattle.rules.proofs.StateLaws.{local-proper, Changed, unchanged, put-changed}
 use Rattle.rules.proofs.NumberLaws.{envelope, number-staged, report-staged}
-use Rattle.rules.proofs.StepLaws.{by-test, report-zero}
+use Rattle.rules.proofs.StepLaws.{report-zero}
 
 -- ---- requests
 

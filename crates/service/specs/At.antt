@@ -1,15 +1,14 @@
 -- A call at the one process that it goes to: what is answered, and the process with its bytes after it.
-use mathlib.Core.Bool.{Bool, not, cond, _&&_}
+use mathlib.Core.Bool.{not, cond, _&&_}
 use mathlib.Core.List.{List, [], _∷_}
 use Prim.Native.Nat.{ℕ, zero, suc}
-use lib.Dec.{eqb, ltb}
+use lib.Dec.{ltb}
 use Rattle.lists.specs.Buffer.{overlay}
-use Rattle.lists.specs.Word.{lowFirst}
 use Rattle.format.specs.declared.header.Header.{Header}
-use Rattle.format.specs.declared.outcome.Outcome.the-variants.{Granted, Refused}
+use Rattle.format.specs.declared.outcome.Outcome.the-variants.{Refused}
 use Rattle.format.specs.Outcome.{test, firstFailing}
 use Rattle.format.specs.Layout.{written}
-use Rattle.format.specs.Answer.{cantOf, createdOf, noticeOf}
+use Rattle.format.specs.Answer.{cantOf, createdOf}
 use Rattle.process.specs.declared.record.Process.{Process}
 use Rattle.process.specs.Local.{Local}
 use Rattle.process.specs.Request.{created}

@@ -3,6 +3,8 @@ use crate::passed::Served;
 use format::Outcome;
 use message::write_notice;
 use process::Process;
+use run_state::TRAP;
+use run_state::TTRAP;
 ghost use mathlib.Core.Path.{_≡_};
 ghost use mathlib.Core.Bool.{false};
 ghost use Prim.Native.Nat.{_≤_};
@@ -12,17 +14,17 @@ ghost use Rattle.rules.specs.Step.{noticeTo};
 ghost use Rattle.rules.specs.Tests.{badReport};
 ghost use Rattle.service.specs.At.{reportAway, reportNumberAt, reportAt};
 
-// 14: the kind is over 3, or there is a reason with a kind that is not TRAP.
+// 14: there is no such kind, or there is a reason with a kind that is not TRAP.
 fn bad_report(kind: u8, reason: u16) -> bool
     ensures { λ r. ⌜ r ≡ badReport kind reason ⌝ }
 {
-    if 3 < kind {
+    if TTRAP < kind {
         return true;
     }
     if reason == 0 {
         return false;
     }
-    kind != 0
+    kind != TRAP
 }
 
 // 14, or 7 where there is no process of this number, or 0.

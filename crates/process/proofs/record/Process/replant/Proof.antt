@@ -1,6 +1,5 @@
 -- `process::record::Process::replant` meets its contract, by whether there is a lifted breakpoint; its word is within the bytes, since it is in use. Assumes nothing.
-use mathlib.Core.Path.{_≡_, refl, sym, _∙_}
-use Prim.Native.Nat.{_<_}
+use mathlib.Core.Path.{refl, sym, _∙_}
 use native.Mathlib.Omega.{arith}
 use borrow.Author.Tests.{lt-ltb, le-ltb}
 use lib.ListN.{length-map}
