@@ -11,8 +11,8 @@ use lib.Dec.{leb}
 use lib.Seq.{drop-cons, take-suc, set-comm, set-set, set-getD, getD-set-same, getD-set-other}
 use Rattle.lists.proofs.Bool.{&&-left}
 use Rattle.breakpoints.specs.declared.entry.Breakpoint.{Breakpoint}
-use Rattle.breakpoints.specs.Entry.{free, planted}
-use Rattle.breakpoints.specs.Seen.{putWord, isPlanted, restored, seen, laidByte, laidWord, laidWords}
+use Rattle.breakpoints.specs.Entry.{free}
+use Rattle.breakpoints.specs.Seen.{putWord, isPlanted, restored, seen, planted, bptStored, overlaySavedByte, overlaySavedWord, overlaySavedWords}
 
 -- a planted breakpoint is in use
 pub planted-used : (b : Breakpoint) → isPlanted b ≡ true → b .used ≡ true
@@ -33,28 +33,28 @@ unfolding seen
 length-seen [] m = refl
 length-seen (b ∷ bs) m = length-seen bs (restored b m) ∙ length-restored b m
 
-pub length-laidByte : (at i v : ℕ) (out : List ℕ) → length (laidByte at i v out) ≡ length out
-unfolding laidByte
-length-laidByte at i v out = go (leb at i)
+pub length-overlaySavedByte : (at i v : ℕ) (out : List ℕ) → length (overlaySavedByte at i v out) ≡ length out
+unfolding overlaySavedByte
+length-overlaySavedByte at i v out = go (leb at i)
   where
     go : (t : Bool) → length (cond t (set out (i - at) v) out) ≡ length out
     go true = length-set out (i - at) v
     go false = refl
 
-pub length-laidWord : (at : ℕ) (b : Breakpoint) (out : List ℕ) → length (laidWord at b out) ≡ length out
-unfolding laidWord
-length-laidWord at b out = go (isPlanted b)
+pub length-overlaySavedWord : (at : ℕ) (b : Breakpoint) (out : List ℕ) → length (overlaySavedWord at b out) ≡ length out
+unfolding overlaySavedWord
+length-overlaySavedWord at b out = go (isPlanted b)
   where
-    go : (t : Bool) → length (cond t (laidByte at (b .address + 1) (b .high) (laidByte at (b .address) (b .low) out)) out) ≡ length out
-    go true = simp length-laidByte
+    go : (t : Bool) → length (cond t (overlaySavedByte at (b .address + 1) (b .high) (overlaySavedByte at (b .address) (b .low) out)) out) ≡ length out
+    go true = simp length-overlaySavedByte
     go false = refl
 
 -- ---- a turn of the loop over the entries
 
-pub laidWords-step : (at : ℕ) (bs : List Breakpoint) (out : List ℕ) (k : ℕ) → k < length bs
-    → laidWords at (drop k bs) out ≡ laidWords at (drop (k + 1) bs) (laidWord at (getD bs k free) out)
-unfolding laidWords
-laidWords-step at bs out k h = rw (drop-cons bs k free h, add-one k)
+pub overlaySavedWords-step : (at : ℕ) (bs : List Breakpoint) (out : List ℕ) (k : ℕ) → k < length bs
+    → overlaySavedWords at (drop k bs) out ≡ overlaySavedWords at (drop (k + 1) bs) (overlaySavedWord at (getD bs k free) out)
+unfolding overlaySavedWords
+overlaySavedWords-step at bs out k h = rw (drop-cons bs k free h, add-one k)
 
 -- ---- words
 
@@ -141,18 +141,18 @@ seen-unplanted (c ∷ bs) (suc k) b m h n d =
 
 -- ---- a breakpoint that is planted where none was: it saved the word, so nothing that is seen has changed
 
-pub seen-planted : (bs : List Breakpoint) (k a n x y : ℕ) (m : List ℕ) → k < length bs → isPlanted (getD bs k free) ≡ false
-    → ((j : ℕ) → j < k → Spaced (getD bs j free) (planted a n (getD m a 0) (getD m (a + 1) 0)))
-    → seen (set bs k (planted a n (getD m a 0) (getD m (a + 1) 0))) (putWord a x y m) ≡ seen bs m
-seen-planted bs k a n x y m h none d =
-    let b = planted a n (getD m a 0) (getD m (a + 1) 0) in
-    let bs′ = set bs k b in
-    let here : getD bs′ k free ≡ b = getD-set-same bs k b free h in
-    let back : restored b (putWord a x y m) ≡ m = restored-planted b (putWord a x y m) refl ∙ putWord-again a (getD m a 0) (getD m (a + 1) 0) x y m ∙ putWord-same a m in
-    let old : set bs′ k (getD bs k free) ≡ bs = set-set bs k b (getD bs k free) ∙ set-getD bs k free in
+pub seen-planted : (bs : List Breakpoint) (k : ℕ) (b : Breakpoint) (m : List ℕ) → k < length bs → isPlanted (getD bs k free) ≡ false → b .used ≡ true
+    → ((j : ℕ) → j < k → Spaced (getD bs j free) (planted m b)) → seen (set bs k (planted m b)) (bptStored b m) ≡ seen bs m
+seen-planted bs k b m h none u d =
+    let c = planted m b in
+    let bs′ = set bs k c in
+    let here : getD bs′ k free ≡ c = getD-set-same bs k c free h in
+    let in-use : isPlanted c ≡ true = rw u in
+    let back : restored c (bptStored b m) ≡ m = restored-planted c (bptStored b m) in-use ∙ putWord-again (b .address) _ _ 3 0 m ∙ putWord-same (b .address) m in
+    let old : set bs′ k (getD bs k free) ≡ bs = set-set bs k c (getD bs k free) ∙ set-getD bs k free in
     let spaced : (j : ℕ) → j < k → Spaced (getD bs′ j free) (getD bs′ k free) =
-    λ j l. rw (here, getD-set-other bs k j b free (λ e. absurd (omega arith))) (d j l) in
-    let e = seen-unplanted bs′ k (getD bs k free) (putWord a x y m) (rw (length-set bs k b) h) none spaced in
+    λ j l. rw (here, getD-set-other bs k j c free (λ e. absurd (omega arith))) (d j l) in
+    let e = seen-unplanted bs′ k (getD bs k free) (bptStored b m) (rw (length-set bs k c) h) none spaced in
     sym (rw (old, here, back) at e)
 
 -- ---- an entry that differs in its count alone

@@ -8,9 +8,9 @@ use Rattle.breakpoints.specs.declared.entry.Breakpoint.{Breakpoint}
 abbrev pub free : Breakpoint
 free = record { used = false; lifted = false; address = 0; count = 0; low = 0; high = 0 }
 
--- a planted breakpoint, with the two bytes of its saved word
-abbrev pub planted : ℕ → ℕ → ℕ → ℕ → Breakpoint
-planted a n l h = record { used = true; lifted = false; address = a; count = n; low = l; high = h }
+-- a new breakpoint at this address, with this count; lifted until it is planted
+abbrev pub breakpointAt : ℕ → ℕ → Breakpoint
+breakpointAt a n = record { used = true; lifted = true; address = a; count = n; low = 0; high = 0 }
 
 -- with another count
 abbrev pub withCount : ℕ → Breakpoint → Breakpoint
@@ -24,6 +24,14 @@ withSaved l h b = record { used = b .used; lifted = b .lifted; address = b .addr
 abbrev pub withLifted : Breakpoint → Breakpoint
 withLifted b = record { used = b .used; lifted = true; address = b .address; count = b .count; low = b .low; high = b .high }
 
--- an even address, at most 4,094
-unfoldable pub placed : ℕ → Bool
-placed a = eqb (a % 2) 0 && leb a 4094
+-- not lifted
+abbrev pub withPlanted : Breakpoint → Breakpoint
+withPlanted b = record { used = b .used; lifted = false; address = b .address; count = b .count; low = b .low; high = b .high }
+
+-- the address of the last word of a process
+abbrev pub lastBreakAddress : ℕ
+lastBreakAddress = 4094
+
+-- 'even and at most 4,094'
+unfoldable pub validBreakAddress : ℕ → Bool
+validBreakAddress a = eqb (a % 2) 0 && leb a lastBreakAddress

@@ -1,4 +1,4 @@
 -- The definitions that the contracts of this crate, and of those above it, cite. Words in quotation marks are document 01's.
 pub mod Entry
-pub mod Want
+pub mod EntryQuery
 pub mod Seen

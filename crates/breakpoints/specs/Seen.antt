@@ -5,7 +5,7 @@ use Prim.Native.Nat.{ℕ, _+_, _-_}
 use lib.ListN.{getD, set}
 use lib.Dec.{leb}
 use Rattle.breakpoints.specs.declared.entry.Breakpoint.{Breakpoint}
-use Rattle.breakpoints.specs.Entry.{withSaved}
+use Rattle.breakpoints.specs.Entry.{withSaved, withPlanted}
 
 -- the two bytes of a word, low first, at an address
 abbrev pub putWord : ℕ → ℕ → ℕ → List ℕ → List ℕ
@@ -28,16 +28,24 @@ seen (b ∷ bs) m = seen bs (restored b m)
 unfoldable pub savedFrom : List ℕ → Breakpoint → Breakpoint
 savedFrom s b = cond (isPlanted b) (withSaved (getD s (b .address) 0) (getD s (b .address + 1) 0) b) b
 
+-- a breakpoint as it is planted in the memory m: 'Planting saves the word'
+abbrev pub planted : List ℕ → Breakpoint → Breakpoint
+planted m b = withPlanted (withSaved (getD m (b .address) 0) (getD m (b .address + 1) 0) b)
+
+-- the memory after that: 'and stores 3, 0 (PDP-11 BPT)'
+abbrev pub bptStored : Breakpoint → List ℕ → List ℕ
+bptStored b m = putWord (b .address) 3 0 m
+
 -- a byte at address i, laid over the part of memory that starts at an address, if it is in there
-unfoldable pub laidByte : ℕ → ℕ → ℕ → List ℕ → List ℕ
-laidByte at i v out = cond (leb at i) (set out (i - at) v) out
+unfoldable pub overlaySavedByte : ℕ → ℕ → ℕ → List ℕ → List ℕ
+overlaySavedByte at i v out = cond (leb at i) (set out (i - at) v) out
 
 -- a planted breakpoint's saved word, laid over that part
-unfoldable pub laidWord : ℕ → Breakpoint → List ℕ → List ℕ
-laidWord at b out =
-    cond (isPlanted b) (laidByte at (b .address + 1) (b .high) (laidByte at (b .address) (b .low) out)) out
+unfoldable pub overlaySavedWord : ℕ → Breakpoint → List ℕ → List ℕ
+overlaySavedWord at b out =
+    cond (isPlanted b) (overlaySavedByte at (b .address + 1) (b .high) (overlaySavedByte at (b .address) (b .low) out)) out
 
 -- and all of them
-unfoldable pub laidWords : ℕ → List Breakpoint → List ℕ → List ℕ
-laidWords at [] out = out
-laidWords at (b ∷ bs) out = laidWords at bs (laidWord at b out)
+unfoldable pub overlaySavedWords : ℕ → List Breakpoint → List ℕ → List ℕ
+overlaySavedWords at [] out = out
+overlaySavedWords at (b ∷ bs) out = overlaySavedWords at bs (overlaySavedWord at b out)

@@ -1,6 +1,9 @@
 // An entry of a process. Whatever makes one or writes one anew stands in this file, so that a new field changes it alone.
 ghost use mathlib.Core.Path.{_≡_};
-ghost use Rattle.breakpoints.specs.Entry.{free, planted, withCount, withSaved, withLifted, placed};
+ghost use Rattle.breakpoints.specs.Entry.{free, breakpointAt, withCount, withSaved, withLifted, withPlanted, validBreakAddress};
+
+// The address of the last word of a process.
+const LAST_BREAK_ADDRESS: u16 = 4094;
 
 // One of the eight entries of a process. A planted breakpoint, that is one in use and not lifted, has 3, 0 stored at its
 // address and the word that was there saved; a lifted one has its word back in memory until the process next stops.
@@ -28,17 +31,17 @@ impl Breakpoint {
         }
     }
 
-    // A planted breakpoint with this saved word.
-    pub fn planted(address: u16, count: u16, low: u8, high: u8) -> Self
-        ensures { λ r. ⌜ r ≡ planted address count low high ⌝ }
+    // A new breakpoint, lifted until it is planted.
+    pub fn at(address: u16, count: u16) -> Self
+        ensures { λ r. ⌜ r ≡ breakpointAt address count ⌝ }
     {
         Breakpoint {
             used: true,
-            lifted: false,
+            lifted: true,
             address: address,
             count: count,
-            low: low,
-            high: high,
+            low: 0,
+            high: 0,
         }
     }
 
@@ -63,11 +66,22 @@ impl Breakpoint {
         self.lifted = true;
         self
     }
+
+    pub(crate) fn with_planted(mut self) -> Self
+        ensures { λ r. ⌜ r ≡ withPlanted self ⌝ }
+    {
+        self.lifted = false;
+        self
+    }
 }
 
-// Whether a breakpoint may stand at this address: it is even, and at most 4,094.
-pub fn placed(a: u16) -> bool
-    ensures { λ r. ⌜ r ≡ placed a ⌝ }
+// Whether a breakpoint may stand at this address: it is even, and the word there is inside memory.
+pub fn valid_break_address(a: u16) -> bool
+    ensures { λ r. ⌜ r ≡ validBreakAddress a ⌝ }
 {
-    if a % 2 == 0 { a <= 4094 } else { false }
+    if a % 2 == 0 {
+        a <= LAST_BREAK_ADDRESS
+    } else {
+        false
+    }
 }

@@ -1,9 +1,8 @@
 // A breakpoint: its entry, what it may be looked for as, and its word in memory.
 mod entry;
+mod entry_query;
 mod memory;
-mod want;
 
 pub use entry::Breakpoint;
-pub use entry::placed;
-pub use memory::put_word;
-pub use want::Want;
+pub use entry::valid_break_address;
+pub use entry_query::EntryQuery;

@@ -18,7 +18,7 @@ use Rattle.state.specs.Slot.{startOf, slot}
 use Rattle.rules.specs.Rule.{ruleOf, names, creates}
 use Rattle.format.specs.Layout.{headerOf}
 use Rattle.rules.specs.Tests.{State, lent, requestNumber, reportNumber}
-use Rattle.rules.specs.Step.{Stepped, request, report, step, localOf, grantedNamed, grantedCreate, granted, refused, requested, told, notified, noted}
+use Rattle.rules.specs.Step.{Answer, Stepped, request, report, step, localOf, grantedNamed, grantedCreate, granted, refused, requested, told, noticeTo, notified, noted}
 use Rattle.rules.proofs.StepLaws.{by-test}
 use Rattle.tasks.proofs.OpLaws.{coded}
 use Rattle.state_bytes.specs.State.{stateOf, stateFormed}
@@ -55,10 +55,10 @@ requested-short m buffer s =
     (λ e. tt)
 
 noted-short : (p kind reason : ℕ) (words buffer : List ℕ) (s : State) → length words ≡ 9 → Short (noted p kind reason words buffer s .answer .outcome)
-unfolding noted notified
+unfolding noted notified noticeTo
 noted-short p kind reason words buffer s nine =
     by-test ShortStep (eqb (reportNumber s p kind reason buffer) 0)
-    (λ e. by-test ShortStep (told kind words (localOf s p))
+    (λ e. by-test (λ (x : Answer). Short (x .outcome)) (told kind words (localOf s p))
     (λ t. omega (arith, length-lowFirst words, nine))
     (λ t. omega arith))
     (λ e. tt)

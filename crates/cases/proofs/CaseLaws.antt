@@ -7,27 +7,28 @@ use Rattle.format.specs.Layout.{written, headerOf, stringOf, fixedRight}
 use Rattle.format.specs.Outcome.{numberOf, firstFailing}
 use Rattle.format.specs.Refusal.{unusedZero, carriedLength, wrongLength, wrongHeader, misfits}
 use Rattle.ops.specs.Table.{rowOf, requestForm}
-use Rattle.breakpoints.specs.Want.{matches}
+use Rattle.breakpoints.specs.EntryQuery.{matches}
 use Rattle.process.specs.Find.{find}
 use Rattle.process.specs.Planting.{plantedIn, liftedIn, removedFrom, replanted, liftedAt}
 use Rattle.process.specs.Record.{fresh}
-use Rattle.process.specs.Report.{accepts, recorded, passes, passed, runAfter, reported}
+use Rattle.run_state.specs.RunState.{accepts, runAfter}
+use Rattle.process.specs.Report.{storeVectorAndReplant, passes, verdictOf, passed, reported, recipientOf}
 use Rattle.process.specs.Request.{hasBreak, hasRoom, examined, deposited, vectorAfter, breakSet, breakRemoved, created, cleared}
-use Rattle.breakpoints.specs.Seen.{restored, seen, savedFrom, laidByte, laidWord}
+use Rattle.breakpoints.specs.Seen.{restored, seen, savedFrom, overlaySavedByte, overlaySavedWord}
 use Rattle.process.specs.Request.{sheltered}
-use Rattle.breakpoints.specs.Entry.{placed}
-use Rattle.process.specs.Sound.{hosted, liftSound, usedSound, entrySound, soundTest}
+use Rattle.breakpoints.specs.Entry.{validBreakAddress}
+use Rattle.process.specs.Sound.{absentHasNoHost, liftSound, usedSound, entrySound, soundTest}
 use Rattle.state.specs.Gateway.{freshStart}
 use Rattle.state.specs.Gateway.{soundTest as soundState}
 use Rattle.state.specs.Slot.{startOf, slot, withSlot}
 use Rattle.rules.specs.Rule.{public, ruleOf, names}
 use Rattle.rules.specs.Run.{run}
-use Rattle.rules.specs.Step.{put, grantedNamed, grantedCreate, granted, refused, requested, told, notified, noted, step}
+use Rattle.rules.specs.Step.{put, grantedNamed, grantedCreate, granted, refused, requested, noticeTo, notified, noted, step}
 use Rattle.state.specs.Gateway.{lowestAbsent}
 use Rattle.rules.specs.Tests.{askedTests, requestNumber, reportNumber}
 use Rattle.cases.specs.Case.{lengthWritten}
 use Rattle.cases.specs.Cases.{CasesHold}
 
 pub cases-hold : CasesHold
-unfolding CasesHold lengthWritten overlay lowFirst cantOf createdOf noticeOf written headerOf stringOf fixedRight numberOf firstFailing unusedZero carriedLength wrongLength wrongHeader misfits rowOf requestForm matches find plantedIn liftedIn removedFrom replanted liftedAt fresh accepts recorded passes passed runAfter reported hasBreak hasRoom examined deposited vectorAfter breakSet breakRemoved created cleared restored seen savedFrom sheltered laidByte laidWord placed hosted liftSound usedSound entrySound soundTest freshStart soundState startOf slot withSlot public ruleOf names run put grantedNamed grantedCreate granted refused requested told notified noted step lowestAbsent askedTests requestNumber reportNumber
+unfolding CasesHold lengthWritten overlay lowFirst cantOf createdOf noticeOf written headerOf stringOf fixedRight numberOf firstFailing unusedZero carriedLength wrongLength wrongHeader misfits rowOf requestForm matches find plantedIn liftedIn removedFrom replanted liftedAt fresh accepts storeVectorAndReplant passes verdictOf recipientOf passed runAfter reported hasBreak hasRoom examined deposited vectorAfter breakSet breakRemoved created cleared restored seen savedFrom sheltered overlaySavedByte overlaySavedWord validBreakAddress absentHasNoHost liftSound usedSound entrySound soundTest freshStart soundState startOf slot withSlot public ruleOf names run put grantedNamed grantedCreate granted refused requested noticeTo notified noted step lowestAbsent askedTests requestNumber reportNumber
 cases-hold = refl

@@ -5,7 +5,7 @@ use mathlib.Core.Bool.{Bool, true, false}
 use mathlib.Core.List.{List, [], _∷_}
 use Prim.Native.Nat.{ℕ}
 use lib.ListN.{set}
-use Rattle.process.specs.declared.record.Run.the-variants.{Running, Stopped}
+use Rattle.run_state.specs.declared.Run.the-variants.{Running, Stopped}
 use Rattle.process.specs.Record.{fresh}
 use Rattle.state.specs.Gateway.{freshStart, withProcess}
 use Rattle.rules.specs.Tests.{State}

@@ -5,10 +5,10 @@ use Prim.Native.Nat.{ℕ}
 use Rattle.lists.specs.Flag.{flag}
 use Rattle.lists.specs.Word.{word}
 use Rattle.lists.specs.Joined.{joined}
-use Rattle.process.specs.declared.record.Run.{Run}
+use Rattle.run_state.specs.declared.Run.{Run}
 use Rattle.breakpoints.specs.declared.entry.Breakpoint.{Breakpoint}
 use Rattle.process.specs.declared.record.Process.{Process}
-use Rattle.process.specs.Record.{runNumber}
+use Rattle.run_state.specs.RunState.{runNumber}
 use Rattle.decimal.specs.Numeral.{numeral, field}
 
 -- a word behind a blank

@@ -4,7 +4,7 @@ use decimal::put_field;
 use decimal::put_number;
 use lines::put_mark;
 use process::Process;
-use process::Run;
+use run_state::Run;
 use words::flag;
 ghost use mathlib.Core.Path.{_≡_};
 ghost use Prim.Native.Nat.{_+_, _≤_};

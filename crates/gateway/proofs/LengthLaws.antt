@@ -1,6 +1,6 @@
 -- The lengths of an outcome count what a call wrote. Assumes nothing.
 use mathlib.Core.Path.{_≡_, refl, sym, _∙_}
-use mathlib.Core.Bool.{Bool, true, false, cond}
+use mathlib.Core.Bool.{Bool, true, false, not, cond}
 use mathlib.Core.List.{List, []}
 use Prim.Native.Nat.{ℕ}
 use lib.ListN.{length, take, drop}
@@ -16,11 +16,11 @@ use Rattle.format.specs.Answer.{cantOf, createdOf, noticeOf}
 use Rattle.format.proofs.LayoutLaws.{length-written}
 use Rattle.rules.specs.Rule.{ruleOf, names, creates}
 use Rattle.state.specs.Gateway.{lowestAbsent}
-use Rattle.rules.specs.Tests.{State, recordOf, requestNumber, reportNumber}
-use Rattle.rules.specs.Step.{localOf, put, replied, replyOf, answers, grantedNamed, grantedCreate, granted, refused, requested, told, notified, noted}
+use Rattle.rules.specs.Tests.{State, requestNumber, reportNumber}
+use Rattle.rules.specs.Step.{localOf, put, replied, replyOf, answers, grantedNamed, grantedCreate, granted, refused, requested, noticeTo, notified, noted}
 use Rattle.rules.specs.Total.{cantOver}
 use Rattle.rules.proofs.TotalLaws.{total}
-use Rattle.process.specs.Report.{reported}
+use Rattle.process.specs.Report.{reported, recipientOf}
 use Rattle.gateway.specs.Lengths.{replyLength, noticeLength, front, Lengths}
 
 -- ---- behind what was written
@@ -96,11 +96,15 @@ request-front s m b c e = rw (same-request s m b c e) (go (eqb (requestNumber s 
     go true = granted-front _ _ b s ∙ sym (granted-front _ _ c s)
     go false = refused-front _ _ b s ∙ sym (refused-front _ _ c s)
 
-notified-front : (h : Header) (t : Bool) (string b c : List ℕ) (s : State)
-    → front noticeLength (cond t (replied h string b s) (answers (Granted 0) b s) .answer) ≡ front noticeLength (cond t (replied h string c s) (answers (Granted 0) c s) .answer)
-unfolding noticeLength
-notified-front h true string b c s = notice-front h string b ∙ sym (notice-front h string c)
-notified-front h false string b c s = refl
+noticed-front : (host p kind reason : ℕ) (words b c : List ℕ)
+    → front noticeLength (noticeTo host p kind reason words b) ≡ front noticeLength (noticeTo host p kind reason words c)
+unfolding noticeTo noticeLength
+noticed-front host p kind reason words b c = go (not (eqb host 0))
+  where
+    go : (t : Bool) → front noticeLength (cond t (replyOf (noticeOf host kind p reason) (lowFirst words) b) (record { outcome = Granted 0; buffer = b }))
+        ≡ front noticeLength (cond t (replyOf (noticeOf host kind p reason) (lowFirst words) c) (record { outcome = Granted 0; buffer = c }))
+    go true = notice-front (noticeOf host kind p reason) (lowFirst words) b ∙ sym (notice-front (noticeOf host kind p reason) (lowFirst words) c)
+    go false = refl
 
 same-report : (s : State) (p kind reason : ℕ) (b c : List ℕ) → length b ≡ length c → reportNumber s p kind reason b ≡ reportNumber s p kind reason c
 unfolding reportNumber
@@ -113,7 +117,7 @@ report-front s p kind reason words b c e = rw (same-report s p kind reason b c e
   where
     go : (t : Bool) → front noticeLength (cond t (notified p kind reason words b (localOf s p) (put p (reported kind words (localOf s p)) s)) (answers (Refused (reportNumber s p kind reason c)) b s) .answer)
         ≡ front noticeLength (cond t (notified p kind reason words c (localOf s p) (put p (reported kind words (localOf s p)) s)) (answers (Refused (reportNumber s p kind reason c)) c s) .answer)
-    go true = notified-front (noticeOf (recordOf s p .host) kind p reason) (told kind words (localOf s p)) (lowFirst words) b c _
+    go true = noticed-front (recipientOf kind words (localOf s p)) p kind reason words b c
     go false = refl
 
 pub lengths : Lengths

@@ -5,16 +5,16 @@ use mathlib.Core.List.{List}
 use Prim.Native.Nat.{ℕ, zero, suc, _<_}
 use native.Mathlib.Omega.{arith}
 use borrow.Author.Tests.{ne-eqb, ltb-true, not-false}
-use lib.Dec.{eqb, ltb}
+use lib.Dec.{ltb}
 use Rattle.format.specs.declared.outcome.Outcome.the-variants.{Refused}
 use Rattle.format.specs.Outcome.{firstFailing}
 use Rattle.format.proofs.OutcomeLaws.{first-passes, rest-passes}
-use Rattle.process.specs.Report.{accepts, recorded, passes}
+use Rattle.run_state.specs.RunState.{accepts}
 use Rattle.rules.specs.Tests.{State, recordOf, noRoom, unsound, badReport, reportNumber}
-use Rattle.rules.specs.Step.{Answer, Stepped, answers, localOf, put, told, notified, noted}
+use Rattle.rules.specs.Step.{answers, localOf, put, notified, noted}
 use Rattle.rules.proofs.NumberLaws.{orElse}
 use Rattle.rules.proofs.StateLaws.{put-same}
-use Rattle.service.specs.At.{reportAway, reportNumberAt, noticeOr, reportBy, reportAt}
+use Rattle.service.specs.At.{reportAway, reportNumberAt, reportBy, reportAt}
 use Rattle.gateway.specs.Stage.{lentNumber}
 
 staged : (a b c d e f : Bool)
@@ -26,12 +26,6 @@ staged false false true d e f = refl
 staged false false false false e f = refl
 staged false false false true false f = refl
 staged false false false true true f = refl
-
--- the same state after either answer
-either : (t : Bool) (x y : Answer) (s : State)
-    → cond {A = Stepped} t (record { answer = x; after = s }) (record { answer = y; after = s }) ≡ record { answer = cond t x y; after = s }
-either true x y s = refl
-either false x y s = refl
 
 module _ (s : State) (p kind reason : ℕ) (words buffer : List ℕ) where
   stages : reportNumber s p kind reason buffer ≡ orElse (lentNumber s buffer) (orElse (reportAway p kind reason) (reportNumberAt kind (recordOf s p)))
@@ -60,8 +54,8 @@ module _ (s : State) (p kind reason : ℕ) (words buffer : List ℕ) where
 
       by-number : (k : ℕ) → reportNumberAt kind (recordOf s p) ≡ k
           → noted p kind reason words buffer s ≡ record { answer = reportBy k p kind reason words buffer (localOf s p) .answer; after = put p (reportBy k p kind reason words buffer (localOf s p) .left) s }
-      unfolding noted notified noticeOr reportBy told
-      by-number zero e = rw (stages, fit, near, e) (either (not (eqb (recordOf s p .host) 0) && not (passes kind (recorded words (localOf s p) .process))) _ _ _)
+      unfolding noted notified reportBy
+      by-number zero e = rw (stages, fit, near, e)
       by-number (suc k) e = rw (stages, fit, near, e, ne-eqb (suc k) 0 (λ z. omega (arith, z)), put-same p s)
 
       pub report-heard : noted p kind reason words buffer s ≡ record { answer = reportAt p kind reason words buffer (localOf s p) .answer; after = put p (reportAt p kind reason words buffer (localOf s p) .left) s }

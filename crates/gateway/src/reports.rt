@@ -2,6 +2,7 @@
 use crate::checks::check_buffers_and_state;
 use crate::kept::keep;
 use format::Outcome;
+use process::MEMORY_BYTES;
 use service::check_report;
 use service::report_for_process;
 use state::start;
@@ -30,7 +31,7 @@ fn report_known(
     let index = pid as usize;
     let process = read_process_at(state, index);
     let start = start(index);
-    let end = start + 4096;
+    let end = start + MEMORY_BYTES;
     let served = report_for_process(
         pid,
         kind,

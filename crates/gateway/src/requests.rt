@@ -7,6 +7,7 @@ use format::string;
 use message::Incoming;
 use message::read_request;
 use ops::Form;
+use process::MEMORY_BYTES;
 use service::Target;
 use service::answer_create;
 use service::answer_for_process;
@@ -50,7 +51,7 @@ fn answer_named(
 {
     let process = read_process_at(state, pid);
     let start = start(pid);
-    let end = start + 4096;
+    let end = start + MEMORY_BYTES;
     let served = answer_for_process(h, process, &mut memory[start..end], string, reply);
     let outcome = served.outcome;
     let next = served.process;
@@ -70,9 +71,10 @@ fn answer_new(h: Header, state: &mut [u8], memory: &mut [u8], reply: &mut [u8]) 
     if 8 <= pid {
         return refuse(h, 13, reply);
     }
+    let process = read_process_at(state, pid);
     let start = start(pid);
-    let end = start + 4096;
-    let served = answer_create(h, pid, &mut memory[start..end], reply);
+    let end = start + MEMORY_BYTES;
+    let served = answer_create(h, pid, process, &mut memory[start..end], reply);
     let outcome = served.outcome;
     let next = served.process;
     keep(outcome, next, pid, state);

@@ -1,23 +1,24 @@
 -- Laws of the search among the entries of a process. Assumes nothing.
-use mathlib.Core.Path.{_≡_, sym, _∙_}
-use mathlib.Core.Bool.{true, false, _&&_, true≢false}
+use mathlib.Core.Path.{_≡_, refl, sym, _∙_}
+use mathlib.Core.Bool.{Bool, true, false, cond, _&&_, true≢false}
 use mathlib.Core.Logic.{⊎-elim}
 use Prim.Native.Nat.{ℕ, _≤_, _<_}
 use native.Mathlib.Nat.{eq-or-lt-of-le}
 use native.Mathlib.Omega.{arith}
-use borrow.Author.Tests.{eqb-true, eq-eqb, not-true}
+use borrow.Author.Tests.{eqb-true, eq-eqb, not-true, ltb-true, ltb-false}
 use lib.ListN.{length}
-use lib.Dec.{eqb}
+use lib.Dec.{eqb, ltb}
 use Rattle.lists.proofs.Bool.{&&-left, &&-right, &&-both}
 use Rattle.lists.proofs.First.{first-≤, first-before, first-passes, first-is}
 use Rattle.breakpoints.specs.declared.entry.Breakpoint.{Breakpoint}
 use Rattle.process.specs.declared.record.Process.{Process}
-use Rattle.breakpoints.specs.declared.want.Want.{Want}
-use Rattle.breakpoints.specs.declared.want.Want.the-variants.{Free, Lifted, At}
+use Rattle.process.specs.declared.find.FoundEntry.the-variants.{Index, Nowhere}
+use Rattle.breakpoints.specs.declared.entry_query.EntryQuery.{EntryQuery}
+use Rattle.breakpoints.specs.declared.entry_query.EntryQuery.the-variants.{Free, Lifted, At}
 use Rattle.breakpoints.specs.Entry.{free}
 use Rattle.process.specs.Record.{entry}
-use Rattle.breakpoints.specs.Want.{matches}
-use Rattle.process.specs.Find.{find}
+use Rattle.breakpoints.specs.EntryQuery.{matches}
+use Rattle.process.specs.Find.{find, foundEntry}
 
 -- ---- what an entry that matches is
 
@@ -46,7 +47,7 @@ at-matches a b u e = &&-both (b .used) (eqb (b .address) a) u (eq-eqb (b .addres
 
 -- ---- the search
 
-module _ (want : Want) (p : Process) where
+module _ (want : EntryQuery) (p : Process) where
   -- no entry before the one found matches
   pub find-before : (j : ℕ) → j < find want p → matches want (entry p j) ≡ true → ⊥
   unfolding find
@@ -77,3 +78,26 @@ module _ (want : Want) (p : Process) where
       where
         here : j ≡ find want p → ⊥
         here q = let m : matches want (entry p j) ≡ true = rw q (find-matches (omega (arith, q, h))) in true≢false (sym m ∙ e)
+
+-- ---- what a search answers
+
+-- an entry that is found: its index, which is under 8
+pub record FoundAt (n k : ℕ) : Type 0 where
+  pub same : n ≡ k
+  pub low : n < 8
+
+pub found-index : (n k : ℕ) → foundEntry n ≡ Index k → FoundAt n k
+unfolding foundEntry
+found-index n k e = go (ltb n 8) refl e
+  where
+    go : (t : Bool) → ltb n 8 ≡ t → cond t (Index n) Nowhere ≡ Index k → FoundAt n k
+    go true q e = record { same = cc; low = ltb-true n 8 q }
+    go false q e = let z : _≡_ {A = ℕ} 0 1 = cc in absurd (omega arith)
+
+pub found-nowhere : (n : ℕ) → foundEntry n ≡ Nowhere → 8 ≤ n
+unfolding foundEntry
+found-nowhere n e = go (ltb n 8) refl e
+  where
+    go : (t : Bool) → ltb n 8 ≡ t → cond t (Index n) Nowhere ≡ Nowhere → 8 ≤ n
+    go true q e = let z : _≡_ {A = ℕ} 0 1 = cc in absurd (omega arith)
+    go false q e = ltb-false n 8 q

@@ -10,11 +10,11 @@ use lib.Seq.{getD-set-same, getD-set-other}
 use lib.Dec.{eqb, ltb}
 use Rattle.breakpoints.specs.declared.entry.Breakpoint.{Breakpoint}
 use Rattle.process.specs.declared.record.Process.{Process}
-use Rattle.breakpoints.specs.declared.want.Want.the-variants.{Lifted, At}
+use Rattle.breakpoints.specs.declared.entry_query.EntryQuery.the-variants.{Lifted, At}
 use Rattle.breakpoints.specs.Entry.{free}
 use Rattle.process.specs.Record.{entry, withEntry}
 use Rattle.process.specs.Find.{find}
-use Rattle.breakpoints.specs.Seen.{putWord}
+use Rattle.breakpoints.specs.Seen.{bptStored}
 use Rattle.process.specs.Local.{Local, local, Inside}
 use Rattle.process.specs.Planting.{plantedIn, liftedIn, removedFrom, replanted, liftedAt}
 use Rattle.process.proofs.FindLaws.{find-matches, matches-lifted}
@@ -22,9 +22,9 @@ use Rattle.breakpoints.proofs.SeenLaws.{length-restored}
 
 -- ---- the number of bytes
 
-pub length-plantedIn : (k a n : ℕ) (l : Local) → length (plantedIn k a n l .bytes) ≡ length (l .bytes)
+pub length-plantedIn : (k : ℕ) (b : Breakpoint) (l : Local) → length (plantedIn k b l .bytes) ≡ length (l .bytes)
 unfolding plantedIn
-length-plantedIn k a n l = simp length-set
+length-plantedIn k b l = simp length-set
 
 pub length-liftedIn : (k : ℕ) (l : Local) → length (liftedIn k l .bytes) ≡ length (l .bytes)
 unfolding liftedIn
@@ -38,8 +38,8 @@ pub length-replanted : (l : Local) → length (replanted l .bytes) ≡ length (l
 unfolding replanted
 length-replanted l = go (ltb (find Lifted (l .process)) 8)
   where
-    go : (t : Bool) → length (cond t (plantedIn (find Lifted (l .process)) (entry (l .process) (find Lifted (l .process)) .address) (entry (l .process) (find Lifted (l .process)) .count) l) l .bytes) ≡ length (l .bytes)
-    go true = length-plantedIn _ _ _ l
+    go : (t : Bool) → length (cond t (plantedIn (find Lifted (l .process)) (entry (l .process) (find Lifted (l .process))) l) l .bytes) ≡ length (l .bytes)
+    go true = length-plantedIn _ _ l
     go false = refl
 
 pub length-liftedAt : (pc : ℕ) (l : Local) → length (liftedAt pc l .bytes) ≡ length (l .bytes)
@@ -59,7 +59,7 @@ pub eight-replanted : (l : Local) → length (replanted l .process .breaks) ≡ 
 unfolding replanted plantedIn
 eight-replanted l = go (ltb (find Lifted (l .process)) 8)
   where
-    go : (t : Bool) → length (cond t (plantedIn (find Lifted (l .process)) (entry (l .process) (find Lifted (l .process)) .address) (entry (l .process) (find Lifted (l .process)) .count) l) l .process .breaks) ≡ length (l .process .breaks)
+    go : (t : Bool) → length (cond t (plantedIn (find Lifted (l .process)) (entry (l .process) (find Lifted (l .process))) l) l .process .breaks) ≡ length (l .process .breaks)
     go true = simp length-set
     go false = refl
 
@@ -80,12 +80,12 @@ unfolding replanted plantedIn
 inside-replanted p m eight i = go (ltb (find Lifted p) 8) refl
   where
     go : (t : Bool) → ltb (find Lifted p) 8 ≡ t
-        → Inside (cond t (plantedIn (find Lifted p) (entry p (find Lifted p) .address) (entry p (find Lifted p) .count) (local p m)) (local p m) .process)
-        (cond t (plantedIn (find Lifted p) (entry p (find Lifted p) .address) (entry p (find Lifted p) .count) (local p m)) (local p m) .bytes)
+        → Inside (cond t (plantedIn (find Lifted p) (entry p (find Lifted p)) (local p m)) (local p m) .process)
+        (cond t (plantedIn (find Lifted p) (entry p (find Lifted p)) (local p m)) (local p m) .bytes)
     go true q =
         let low = ltb-true (find Lifted p) 8 q in
         let u = matches-lifted (entry p (find Lifted p)) (find-matches Lifted p eight low) .0 in
         let w = i (find Lifted p) low u in
-        let same : length (putWord (entry p (find Lifted p) .address) 3 0 m) ≡ length m = simp length-set in
+        let same : length (bptStored (entry p (find Lifted p)) m) ≡ length m = simp length-set in
         rw same (inside-entry p m (find Lifted p) _ eight low i (λ x. w))
     go false q = i

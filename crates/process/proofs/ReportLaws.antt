@@ -1,22 +1,32 @@
--- Laws of a report. Assumes nothing.
-use mathlib.Core.Path.{_≡_, refl}
-use mathlib.Core.Bool.{Bool, true, false, cond, _&&_}
+-- Laws of a report: what a verdict that counts down says, whom a report tells, and what it leaves. Assumes nothing.
+use mathlib.Core.Path.{_≡_, refl, sym, _∙_}
+use mathlib.Core.Bool.{Bool, true, false, not, cond, _&&_, true≢false}
+use mathlib.Core.List.{List}
 use Prim.Native.Nat.{ℕ, _<_}
-use borrow.Author.Tests.{ltb-true, lt-ltb}
-use lib.Dec.{ltb}
+use native.Mathlib.Omega.{arith}
+use borrow.Author.Tests.{ltb-true}
+use lib.ListN.{length, length-set}
+use lib.Dec.{eqb, ltb}
 use Rattle.lists.proofs.Bool.{&&-left, &&-right}
+use Rattle.run_state.specs.ReportKind.{BPT}
 use Rattle.process.specs.declared.record.Process.{Process}
-use Rattle.breakpoints.specs.declared.want.Want.the-variants.{At}
-use Rattle.process.specs.Record.{entry}
+use Rattle.process.specs.declared.report.Verdict.{Verdict}
+use Rattle.process.specs.declared.report.Verdict.the-variants.{Stops, CountsDown}
+use Rattle.breakpoints.specs.declared.entry_query.EntryQuery.the-variants.{At}
+use Rattle.process.specs.Record.{entry, withVector}
 use Rattle.process.specs.Find.{find}
-use Rattle.process.specs.Request.{pc, hasBreak}
-use Rattle.process.specs.Report.{isBpt, passes, passedEntry}
+use Rattle.process.specs.Local.{Local}
+use Rattle.process.specs.Planting.{liftedIn}
+use Rattle.process.specs.Request.{pc, onRecord, hasBreak}
+use Rattle.process.specs.Report.{storeVectorAndReplant, passes, verdictOf, passed, carriedOut, reported, toldBy, recipientOf}
+use Rattle.process.proofs.FindLaws.{matches-at, find-matches}
+use Rattle.process.proofs.PlantingLaws.{length-liftedIn, length-replanted, eight-replanted}
 
--- a report that is passed silently is at a breakpoint whose count is above 0
+-- a report that passes a breakpoint is at one whose count is above 0
 module _ (kind : ℕ) (p : Process) (e : passes kind p ≡ true) where
   at-break : hasBreak (pc p) p && ltb 0 (entry p (find (At (pc p)) p) .count) ≡ true
   unfolding passes
-  at-break = &&-right (isBpt kind) (hasBreak (pc p) p && ltb 0 (entry p (find (At (pc p)) p) .count)) e
+  at-break = &&-right (eqb kind BPT) (hasBreak (pc p) p && ltb 0 (entry p (find (At (pc p)) p) .count)) e
 
   pub passes-found : find (At (pc p)) p < 8
   unfolding hasBreak
@@ -25,15 +35,53 @@ module _ (kind : ℕ) (p : Process) (e : passes kind p ≡ true) where
   pub passes-count : 0 < entry p (find (At (pc p)) p) .count
   passes-count = ltb-true 0 _ (&&-right (hasBreak (pc p) p) (ltb 0 (entry p (find (At (pc p)) p) .count)) at-break)
 
--- the entry that a report passes is under 8 where it passes one
-pub passed-low : (kind : ℕ) (p : Process) → ltb (passedEntry kind p) 8 ≡ passes kind p
-unfolding passedEntry
-passed-low kind p = go (passes kind p) refl
-  where
-    go : (t : Bool) → passes kind p ≡ t → ltb (cond (passes kind p) (find (At (pc p)) p) 8) 8 ≡ passes kind p
-    go true e = rw (e, lt-ltb (find (At (pc p)) p) 8 (passes-found kind p e))
-    go false e = rw e
+-- what a verdict that counts down says of its entry
+pub record Counts (kind : ℕ) (p : Process) (k : ℕ) : Type 0 where
+  pub passing : passes kind p ≡ true
+  pub entry-is : find (At (pc p)) p ≡ k
 
-pub passed-is : (kind : ℕ) (p : Process) → passes kind p ≡ true → passedEntry kind p ≡ find (At (pc p)) p
-unfolding passedEntry
-passed-is kind p e = rw e
+module _ (kind : ℕ) (p : Process) where
+  pub counts : (k : ℕ) → verdictOf kind p ≡ CountsDown k → Counts kind p k
+  unfolding verdictOf
+  counts k e = go (passes kind p) refl e
+    where
+      go : (t : Bool) → passes kind p ≡ t → cond t (CountsDown (find (At (pc p)) p)) Stops ≡ CountsDown k → Counts kind p k
+      go true q e = record { passing = q; entry-is = cc }
+      go false q e = let z : _≡_ {A = ℕ} 0 1 = cc in absurd (omega arith)
+
+  pub counts-low : (k : ℕ) → verdictOf kind p ≡ CountsDown k → k < 8
+  counts-low k e = let c = counts k e in rw (c .entry-is) at (passes-found kind p (c .passing))
+
+  pub counts-count : (k : ℕ) → verdictOf kind p ≡ CountsDown k → 0 < entry p k .count
+  counts-count k e = let c = counts k e in rw (c .entry-is) at (passes-count kind p (c .passing))
+
+  pub counts-used : length (p .breaks) ≡ 8 → (k : ℕ) → verdictOf kind p ≡ CountsDown k → entry p k .used ≡ true
+  counts-used eight k e =
+      let c = counts k e in
+      rw (c .entry-is) at (matches-at (pc p) (entry p (find (At (pc p)) p)) (find-matches (At (pc p)) p eight (passes-found kind p (c .passing))) .0)
+
+-- whoever is told of a report is the host that debugs the process
+pub recipient-host : (kind : ℕ) (words : List ℕ) (l : Local) → not (eqb (recipientOf kind words l) 0) ≡ true → recipientOf kind words l ≡ l .process .host
+unfolding recipientOf
+recipient-host kind words l = go (verdictOf kind (storeVectorAndReplant words l .process))
+  where
+    go : (v : Verdict) → not (eqb (toldBy v (l .process .host)) 0) ≡ true → toldBy v (l .process .host) ≡ l .process .host
+    go Stops e = refl
+    go (CountsDown k) e = absurd (true≢false (sym e))
+
+-- a report leaves as many bytes and entries as there were
+pub length-reported : (kind : ℕ) (words : List ℕ) (l : Local) → length (reported kind words l .bytes) ≡ length (l .bytes)
+unfolding reported storeVectorAndReplant passed
+length-reported kind words l = go (verdictOf kind (storeVectorAndReplant words l .process))
+  where
+    go : (v : Verdict) → length (carriedOut v kind (storeVectorAndReplant words l) .bytes) ≡ length (l .bytes)
+    go Stops = length-replanted (onRecord (withVector words) l)
+    go (CountsDown k) = length-liftedIn k _ ∙ length-replanted (onRecord (withVector words) l)
+
+pub eight-reported : (kind : ℕ) (words : List ℕ) (l : Local) → length (reported kind words l .process .breaks) ≡ length (l .process .breaks)
+unfolding reported storeVectorAndReplant passed liftedIn
+eight-reported kind words l = go (verdictOf kind (storeVectorAndReplant words l .process))
+  where
+    go : (v : Verdict) → length (carriedOut v kind (storeVectorAndReplant words l) .process .breaks) ≡ length (l .process .breaks)
+    go Stops = eight-replanted (onRecord (withVector words) l)
+    go (CountsDown k) = simp length-set (eight-replanted (onRecord (withVector words) l))

@@ -5,15 +5,15 @@ use mathlib.Core.Bool.{Bool, true, false, not, cond, _&&_, true≢false}
 use Prim.Native.Nat.{ℕ, _-_, _<_, _%_}
 use native.Mathlib.Omega.{arith}
 use borrow.Author.Tests.{ltb-true, ltb-false}
-use lib.ListN.{set}
 use lib.Dec.{ltb}
+use Rattle.breakpoints.specs.declared.entry.Breakpoint.{Breakpoint}
 use Rattle.process.specs.declared.record.Process.{Process}
-use Rattle.breakpoints.specs.declared.want.Want.the-variants.{Free, Lifted, At}
-use Rattle.breakpoints.specs.Entry.{free, planted, withLifted, withCount}
+use Rattle.breakpoints.specs.declared.entry_query.EntryQuery.the-variants.{Free, Lifted, At}
+use Rattle.breakpoints.specs.Entry.{free, breakpointAt, withLifted, withCount}
 use Rattle.process.specs.Record.{entry, withEntry}
 use Rattle.process.specs.Find.{find}
 use Rattle.process.specs.Sound.{Sound}
-use Rattle.breakpoints.specs.Seen.{isPlanted, restored, seen}
+use Rattle.breakpoints.specs.Seen.{isPlanted, restored}
 use Rattle.process.specs.Local.{Local, local, Proper}
 use Rattle.process.specs.Planting.{plantedIn, liftedIn, removedFrom, replanted, liftedAt}
 use Rattle.process.specs.Request.{hasBreak, hasRoom}
@@ -52,12 +52,12 @@ module _ (l : Local) (g : Proper l) where
   seen-removedFrom k h = let e = g .eight in seen-unplanted (p .breaks) k free (l .bytes) (omega arith) refl (spaced k h)
 
   -- a breakpoint planted where no other is
-  pub seen-plantedIn : (k a n : ℕ) → k < 8 → isPlanted (entry p k) ≡ false → a % 2 ≡ 0
-      → ((j : ℕ) → j < 8 → isPlanted (entry p j) ≡ true → entry p j .address ≡ a → ⊥) → seenOf (plantedIn k a n l) ≡ seenOf l
+  pub seen-plantedIn : (k : ℕ) (b : Breakpoint) → k < 8 → isPlanted (entry p k) ≡ false → b .used ≡ true → b .address % 2 ≡ 0
+      → ((j : ℕ) → j < 8 → isPlanted (entry p j) ≡ true → entry p j .address ≡ b .address → ⊥) → seenOf (plantedIn k b l) ≡ seenOf l
   unfolding plantedIn
-  seen-plantedIn k a n h none even apart =
+  seen-plantedIn k b h none used even apart =
       let e = g .eight in
-      seen-planted (p .breaks) k a n 3 0 (l .bytes) (omega arith) none
+      seen-planted (p .breaks) k b (l .bytes) (omega arith) none used
       (λ j i x y. record {
         different = apart j (omega arith) x;
         even = sound .even j (omega arith) (planted-used (entry p j) x);
@@ -79,13 +79,13 @@ module _ (l : Local) (g : Proper l) where
   seen-replanted = go (ltb (find Lifted p) 8) refl
     where
       go : (t : Bool) → ltb (find Lifted p) 8 ≡ t
-          → seenOf (cond t (plantedIn (find Lifted p) (entry p (find Lifted p) .address) (entry p (find Lifted p) .count) l) l) ≡ seenOf l
+          → seenOf (cond t (plantedIn (find Lifted p) (entry p (find Lifted p)) l) l) ≡ seenOf l
       go true e =
           let k = find Lifted p in
           let h : find Lifted p < 8 = ltb-true _ _ e in
           let m = matches-lifted (entry p k) (find-matches Lifted p (g .eight) h) in
           let none : isPlanted (entry p k) ≡ false = lifted-not (entry p k .used) (entry p k .lifted) (m .1) in
-          seen-plantedIn k (entry p k .address) (entry p k .count) h none (sound .even k h (m .0))
+          seen-plantedIn k (entry p k) h none (m .0) (sound .even k h (m .0))
           (λ j i x q. let n : j ≡ k → ⊥ = λ z. true≢false (sym x ∙ ap (λ (y : ℕ). isPlanted (entry p y)) z ∙ none) in
           sound-apart p sound j k i h n (planted-used (entry p j) x) (m .0) .different q)
       go false e = refl
@@ -95,14 +95,14 @@ module _ (l : Local) (g : Proper l) where
   seen-removed a e = seen-removedFrom (find (At a) p) (ltb-true _ _ e)
 
   -- a new breakpoint, in a free entry
-  pub seen-new : (a n : ℕ) → a % 2 ≡ 0 → hasBreak a p ≡ false → hasRoom p ≡ true → seenOf (plantedIn (find Free p) a n l) ≡ seenOf l
+  pub seen-new : (a n : ℕ) → a % 2 ≡ 0 → hasBreak a p ≡ false → hasRoom p ≡ true → seenOf (plantedIn (find Free p) (breakpointAt a n) l) ≡ seenOf l
   unfolding hasBreak hasRoom
   seen-new a n even none room =
       let k = find Free p in
       let h : find Free p < 8 = ltb-true _ _ room in
       let u = matches-free (entry p k) (find-matches Free p (g .eight) h) in
       let past = ltb-false (find (At a) p) 8 none in
-      seen-plantedIn k a n h (rw u) even
+      seen-plantedIn k (breakpointAt a n) h (rw u) refl even
       (λ j i x q. find-before (At a) p j (omega (arith, past)) (at-matches a (entry p j) (planted-used (entry p j) x) q))
 
   -- a count

@@ -2,7 +2,7 @@
 use mathlib.Core.Path.{_≡_, refl, sym, ap, _∙_}
 use mathlib.Core.Bool.{Bool, true, false, not, cond, true≢false}
 use mathlib.Core.List.{List}
-use Prim.Native.Nat.{ℕ, _+_, _≤_, _<_, _%_}
+use Prim.Native.Nat.{ℕ, _≤_, _<_, _%_}
 use native.Mathlib.Omega.{arith}
 use borrow.Author.Tests.{ltb-true, ltb-false, eqb-true, eqb-false}
 use lib.ListN.{length, getD, set}
@@ -10,11 +10,13 @@ use lib.Seq.{getD-set-same, getD-set-other}
 use lib.Dec.{ltb, eqb}
 use Rattle.breakpoints.specs.declared.entry.Breakpoint.{Breakpoint}
 use Rattle.process.specs.declared.record.Process.{Process}
-use Rattle.breakpoints.specs.declared.want.Want.the-variants.{Lifted, At}
-use Rattle.breakpoints.specs.Entry.{free, planted, withLifted, withCount}
+use Rattle.breakpoints.specs.declared.entry_query.EntryQuery.the-variants.{Lifted, At}
+use Rattle.breakpoints.specs.Entry.{free, lastBreakAddress, withLifted, withCount}
+use Rattle.breakpoints.specs.Seen.{planted}
 use Rattle.process.specs.Record.{entry, withEntry}
 use Rattle.process.specs.Find.{find}
-use Rattle.process.specs.Sound.{Sound, moving}
+use Rattle.process.specs.Sound.{Sound}
+use Rattle.run_state.specs.RunState.{moving}
 use Rattle.process.specs.Local.{Local, local, Proper}
 use Rattle.process.specs.Planting.{plantedIn, liftedIn, replanted, liftedAt}
 use Rattle.process.proofs.FindLaws.{matches-lifted, matches-at, find-matches, find-before, lifted-matches}
@@ -37,12 +39,12 @@ module _ (p : Process) (s : Sound p) (eight : length (p .breaks) ≡ 8) where
   sound-removed k h = sound-entry p s eight k h free (λ u. absurd (true≢false (sym u))) (λ j i n v u. absurd (true≢false (sym u)))
 
   -- planted at an address that no other entry has
-  pub sound-planted : (k a n x y : ℕ) → k < 8 → (p .host ≡ 0 → ⊥) → a % 2 ≡ 0 → a ≤ 4094
-      → ((j : ℕ) → j < 8 → (j ≡ k → ⊥) → entry p j .used ≡ true → entry p j .address ≡ a → ⊥) → Sound (withEntry k (planted a n x y) p)
-  sound-planted k a n x y h host even within apart =
-      sound-entry p s eight k h (planted a n x y)
+  pub sound-planted : (k : ℕ) (b : Breakpoint) (m : List ℕ) → k < 8 → (p .host ≡ 0 → ⊥) → b .address % 2 ≡ 0 → b .address ≤ lastBreakAddress
+      → ((j : ℕ) → j < 8 → (j ≡ k → ⊥) → entry p j .used ≡ true → entry p j .address ≡ b .address → ⊥) → Sound (withEntry k (planted m b) p)
+  sound-planted k b m h host even within apart =
+      sound-entry p s eight k h (planted m b)
       (λ u. record { hosted = host; even = even; within = within; moves = λ z. absurd (true≢false (sym z)) })
-      (λ j i m v u. record { different = apart j i m v; one-lifted = λ c d. true≢false (sym d) })
+      (λ j i n v u. record { different = apart j i n v; one-lifted = λ c d. true≢false (sym d) })
 
   -- lifted while the process moves and no other is
   pub sound-lifted : (k : ℕ) → k < 8 → entry p k .used ≡ true → moving (p .run) ≡ true → NoneLifted p → Sound (withEntry k (withLifted (entry p k)) p)
@@ -76,13 +78,13 @@ module _ (p : Process) (s : Sound p) (eight : length (p .breaks) ≡ 8) where
   sound-replanted m = go (ltb (find Lifted p) 8) refl
     where
       go : (t : Bool) → ltb (find Lifted p) 8 ≡ t
-          → Sound (cond t (plantedIn (find Lifted p) (entry p (find Lifted p) .address) (entry p (find Lifted p) .count) (local p m)) (local p m) .process)
+          → Sound (cond t (plantedIn (find Lifted p) (entry p (find Lifted p)) (local p m)) (local p m) .process)
       go true e =
           let k = find Lifted p in
           let h : find Lifted p < 8 = ltb-true _ _ e in
           let u = matches-lifted (entry p k) (find-matches Lifted p eight h) .0 in
           let c = sound-kept p s k h u in
-          sound-planted k (entry p k .address) (entry p k .count) _ _ h (c .hosted) (c .even) (c .within)
+          sound-planted k (entry p k) m h (c .hosted) (c .even) (c .within)
           (λ j i n v. sound-apart p s j k i h n v u .different)
       go false e = s
 
@@ -92,14 +94,14 @@ module _ (p : Process) (s : Sound p) (eight : length (p .breaks) ≡ 8) where
   none-replanted m = go (ltb (find Lifted p) 8) refl
     where
       go : (t : Bool) → ltb (find Lifted p) 8 ≡ t
-          → NoneLifted (cond t (plantedIn (find Lifted p) (entry p (find Lifted p) .address) (entry p (find Lifted p) .count) (local p m)) (local p m) .process)
+          → NoneLifted (cond t (plantedIn (find Lifted p) (entry p (find Lifted p)) (local p m)) (local p m) .process)
       go true e j i u x = at (eqb j (find Lifted p)) refl u x
         where
           k : ℕ
           k = find Lifted p
 
           b : Breakpoint
-          b = planted (entry p (find Lifted p) .address) (entry p (find Lifted p) .count) (getD m (entry p (find Lifted p) .address) 0) (getD m (entry p (find Lifted p) .address + 1) 0)
+          b = planted m (entry p (find Lifted p))
 
           at : (t : Bool) → eqb j (find Lifted p) ≡ t → getD (set (p .breaks) (find Lifted p) b) j free .used ≡ true
               → getD (set (p .breaks) (find Lifted p) b) j free .lifted ≡ true → ⊥

@@ -9,12 +9,13 @@ use borrow.Author.Tests.{eqb-true, eqb-false, ltb-true, ltb-false}
 use lib.ListN.{length, getD, getD-replicate}
 use lib.Seq.{getD-set-same, getD-set-other}
 use lib.Dec.{eqb, ltb}
-use Rattle.process.specs.declared.record.Run.{Run}
+use Rattle.run_state.specs.declared.Run.{Run}
 use Rattle.breakpoints.specs.declared.entry.Breakpoint.{Breakpoint}
 use Rattle.process.specs.declared.record.Process.{Process}
 use Rattle.breakpoints.specs.Entry.{free}
 use Rattle.process.specs.Record.{noBreaks, entry, withHost, withRun, withVector, withBreaks, withEntry}
-use Rattle.process.specs.Sound.{Sound, NoBreakpoints, moving}
+use Rattle.process.specs.Sound.{Sound, NoBreakpoints}
+use Rattle.run_state.specs.RunState.{moving}
 
 -- ---- fields other than the entries
 

@@ -10,12 +10,13 @@ use Rattle.lists.specs.Every.{below}
 use Rattle.lists.proofs.Bool.{&&-left, &&-right, &&-both}
 use Rattle.lists.proofs.Every.{below-at, below-all}
 use Rattle.process.specs.declared.record.Process.{Process}
-use Rattle.breakpoints.specs.declared.want.Want.the-variants.{Lifted, At}
+use Rattle.breakpoints.specs.declared.entry_query.EntryQuery.the-variants.{Lifted, At}
 use Rattle.process.specs.Record.{entry}
-use Rattle.breakpoints.specs.Want.{matches}
+use Rattle.breakpoints.specs.EntryQuery.{matches}
 use Rattle.process.specs.Find.{find}
-use Rattle.breakpoints.specs.Entry.{placed}
-use Rattle.process.specs.Sound.{Sound, NoBreakpoints, moving, hosted, liftSound, usedSound, entrySound, soundTest}
+use Rattle.breakpoints.specs.Entry.{validBreakAddress}
+use Rattle.process.specs.Sound.{Sound, NoBreakpoints, absentHasNoHost, liftSound, usedSound, entrySound, soundTest}
+use Rattle.run_state.specs.RunState.{moving}
 use Rattle.process.specs.Theorems.{TestIsSound}
 use Rattle.process.proofs.FindLaws.{lifted-matches, at-matches, find-before, find-is}
 
@@ -25,26 +26,26 @@ module _ (p : Process) (s : soundTest p ≡ true) where
   module _ (k : ℕ) (h : k < 8) (u : entry p k .used ≡ true) where
     kept : usedSound p k ≡ true
     unfolding soundTest entrySound
-    kept = rw u at (below-at (entrySound p) 8 k h (&&-right (hosted p) (below (entrySound p) 8) s))
+    kept = rw u at (below-at (entrySound p) 8 k h (&&-right (absentHasNoHost p) (below (entrySound p) 8) s))
 
     there-is-host : p .host ≡ 0 → ⊥
     unfolding usedSound
     there-is-host = eqb-false (p .host) 0 (not-true (eqb (p .host) 0) (&&-left (not (eqb (p .host) 0)) _ kept))
 
-    rest : placed (entry p k .address) && (eqb (find (At (entry p k .address)) p) k && liftSound p k) ≡ true
+    rest : validBreakAddress (entry p k .address) && (eqb (find (At (entry p k .address)) p) k && liftSound p k) ≡ true
     unfolding usedSound
     rest = &&-right (not (eqb (p .host) 0)) _ kept
 
     even : entry p k .address % 2 ≡ 0
-    unfolding placed
-    even = eqb-true _ _ (&&-left (eqb (entry p k .address % 2) 0) _ (&&-left (placed (entry p k .address)) _ rest))
+    unfolding validBreakAddress
+    even = eqb-true _ _ (&&-left (eqb (entry p k .address % 2) 0) _ (&&-left (validBreakAddress (entry p k .address)) _ rest))
 
     within : entry p k .address ≤ 4094
-    unfolding placed
-    within = leb-true _ _ (&&-right (eqb (entry p k .address % 2) 0) _ (&&-left (placed (entry p k .address)) _ rest))
+    unfolding validBreakAddress
+    within = leb-true _ _ (&&-right (eqb (entry p k .address % 2) 0) _ (&&-left (validBreakAddress (entry p k .address)) _ rest))
 
     firsts : eqb (find (At (entry p k .address)) p) k && liftSound p k ≡ true
-    firsts = &&-right (placed (entry p k .address)) _ rest
+    firsts = &&-right (validBreakAddress (entry p k .address)) _ rest
 
     first-there : find (At (entry p k .address)) p ≡ k
     first-there = eqb-true _ _ (&&-left (eqb (find (At (entry p k .address)) p) k) _ firsts)
@@ -68,8 +69,8 @@ module _ (p : Process) (s : soundTest p ≡ true) where
       go false u = refl
 
   absent : p .there ≡ false → p .host ≡ 0
-  unfolding soundTest hosted
-  absent e = eqb-true _ _ (rw e at (&&-left (hosted p) _ s))
+  unfolding soundTest absentHasNoHost
+  absent e = eqb-true _ _ (rw e at (&&-left (absentHasNoHost p) _ s))
 
   pub passes-sound : Sound p
   passes-sound = record {
@@ -119,7 +120,7 @@ module _ (p : Process) (eight : length (p .breaks) ≡ 8) (s : Sound p) where
     host-there e = true≢false (sym u ∙ s .unhosted e k h)
 
     used-sound : usedSound p k ≡ true
-    unfolding usedSound placed
+    unfolding usedSound validBreakAddress
     used-sound =
         rw (
           ne-eqb _ _ host-there,
@@ -138,7 +139,7 @@ module _ (p : Process) (eight : length (p .breaks) ≡ 8) (s : Sound p) where
       go false u = refl
 
   pub sound-passes : soundTest p ≡ true
-  unfolding soundTest hosted
+  unfolding soundTest absentHasNoHost
   sound-passes = rw (below-all (entrySound p) 8 entry-sound) (go (p .there) refl)
     where
       go : (t : Bool) → p .there ≡ t → (t || eqb (p .host) 0) && true ≡ true

@@ -13,19 +13,23 @@ use lib.Dec.{ltb, eqb}
 use Rattle.lists.proofs.Buffer.{part-paste, getD-paste-before, getD-paste-behind}
 use Rattle.breakpoints.specs.declared.entry.Breakpoint.{Breakpoint}
 use Rattle.process.specs.declared.record.Process.{Process}
-use Rattle.process.specs.declared.record.Run.{Run}
-use Rattle.process.specs.declared.record.Run.the-variants.{Running, Stepping, Stopped, AtBreak, Ended}
-use Rattle.breakpoints.specs.declared.want.Want.the-variants.{Free, Lifted, At}
-use Rattle.breakpoints.specs.Entry.{free, withCount}
+use Rattle.run_state.specs.declared.Run.{Run}
+use Rattle.run_state.specs.declared.Run.the-variants.{Running, Stepping, Stopped}
+use Rattle.process.specs.declared.report.Verdict.{Verdict}
+use Rattle.process.specs.declared.report.Verdict.the-variants.{Stops, CountsDown}
+use Rattle.breakpoints.specs.declared.entry_query.EntryQuery.the-variants.{Free, Lifted, At}
+use Rattle.breakpoints.specs.Entry.{free, breakpointAt, withCount}
 use Rattle.process.specs.Record.{noBreaks, entry, fresh, withHost, withRun, withVector, withBreaks, withEntry}
 use Rattle.process.specs.Find.{find}
-use Rattle.process.specs.Sound.{Sound, moving}
+use Rattle.process.specs.Sound.{Sound}
+use Rattle.run_state.specs.RunState.{moving, stoppedOrAtBreak, atBreak, released, accepts, runAfter}
 use Rattle.breakpoints.specs.Seen.{putWord, isPlanted, restored, seen, savedFrom}
 use Rattle.process.specs.Local.{Local, local, Proper}
 use Rattle.process.specs.Planting.{plantedIn, liftedIn, removedFrom, replanted, liftedAt}
-use Rattle.process.specs.Request.{pc, onRecord, halted, atBreak, hasBreak, hasRoom, released, endDebugged, halt, stepped, proceeded, examined, toBeSeen, deposited, breakSet, breakRemoved, created, cleared}
-use Rattle.process.specs.Report.{accepts, stepping, isTtrap, recorded, passes, passed, runAfter, reported}
+use Rattle.process.specs.Request.{pc, onRecord, hasBreak, hasRoom, endDebugged, stopped, stepped, proceeded, examined, toBeSeen, deposited, breakSet, breakRemoved, created, cleared}
+use Rattle.process.specs.Report.{storeVectorAndReplant, verdictOf, passed, carriedOut, reported}
 use Rattle.process.specs.Theorems.{seenOf, DepositIsSeen, SeenStays, EndDebugRestores, StoreIsUnseen, SoundStays}
+use Rattle.run_state.proofs.RunLaws.{stoppedOrAtBreak-still, atBreak-stopped, accepts-moves}
 use Rattle.process.proofs.FindLaws.{matches-at, find-matches, find-before, at-matches}
 use Rattle.breakpoints.proofs.SeenLaws.{length-seen, restored-planted}
 use Rattle.process.proofs.DepositLaws.{sheltered-seen, map-alike}
@@ -33,7 +37,7 @@ use Rattle.process.proofs.SoundLaws.{sound-vector, sound-run, sound-hos
 use Rattle.process.proofs.PlantingLaws.{length-entry}
 use Rattle.process.proofs.SoundTestLaws.{sound-passes}
 use Rattle.process.proofs.TestedLaws.{tested-sound, tested-spaced}
-use Rattle.process.proofs.ReportLaws.{passes-found}
+use Rattle.process.proofs.ReportLaws.{counts-low, counts-used}
 use Rattle.process.proofs.SeenKept.{seen-liftedIn, seen-liftedAt, seen-replanted, seen-removed, seen-new, seen-count}
 use Rattle.process.proofs.SoundKept.{NoneLifted, still-none, sound-removed, sound-planted, sound-lifted, sound-count, sound-replanted, none-replanted, proper-replanted}
 
@@ -71,7 +75,7 @@ unfolding breakSet
 break-seen a n l g even room = go (hasBreak a (l .process)) refl
   where
     go : (t : Bool) → hasBreak a (l .process) ≡ t
-        → seenOf (cond t (onRecord (withEntry (find (At a) (l .process)) (withCount n (entry (l .process) (find (At a) (l .process))))) l) (plantedIn (find Free (l .process)) a n l)) ≡ seenOf l
+        → seenOf (cond t (onRecord (withEntry (find (At a) (l .process)) (withCount n (entry (l .process) (find (At a) (l .process))))) l) (plantedIn (find Free (l .process)) (breakpointAt a n) l)) ≡ seenOf l
     go true e = seen-count l g (find (At a) (l .process)) n
     go false e = seen-new l g a n even e (room e)
 
@@ -79,8 +83,8 @@ unbreak-seen : (a : ℕ) (l : Local) → Proper l → hasBreak a (l .process) �
 unfolding breakRemoved
 unbreak-seen a l g e = seen-removed l g a e
 
-stop-seen : (l : Local) → Proper l → seenOf (halt l) ≡ seenOf l
-unfolding halt
+stop-seen : (l : Local) → Proper l → seenOf (stopped l) ≡ seenOf l
+unfolding stopped
 stop-seen l g = go (moving (l .process .run))
   where
     go : (t : Bool) → seenOf (cond t (onRecord (withRun Stopped) (replanted l)) l) ≡ seenOf l
@@ -100,8 +104,8 @@ unfolding proceeded
 proceed-seen l g = seen-liftedAt l g (pc (l .process))
 
 -- a process after its vector is stored and a lifted breakpoint planted again
-vector-proper : (words : List ℕ) (l : Local) → Proper l → Proper (recorded words l)
-unfolding recorded
+vector-proper : (words : List ℕ) (l : Local) → Proper l → Proper (storeVectorAndReplant words l)
+unfolding storeVectorAndReplant
 vector-proper words l g =
     proper-replanted (onRecord (withVector words) l) (sound-vector words (l .process) (sound-of l g)) (g .eight) (g .tested .size)
 
@@ -109,9 +113,9 @@ vector-proper words l g =
 proper : (p : Process) (m : List ℕ) → Sound p → length (p .breaks) ≡ 8 → length m ≡ 4096 → Proper (local p m)
 proper p m s eight size = record { tested = record { sound = sound-passes p eight s; size = size }; eight = eight }
 
-recorded-seen : (words : List ℕ) (l : Local) → Proper l → seenOf (recorded words l) ≡ seenOf l
-unfolding recorded
-recorded-seen words l g =
+stored-seen : (words : List ℕ) (l : Local) → Proper l → seenOf (storeVectorAndReplant words l) ≡ seenOf l
+unfolding storeVectorAndReplant
+stored-seen words l g =
     seen-replanted (onRecord (withVector words) l)
     (proper (withVector words (l .process)) (l .bytes) (sound-vector words (l .process) (sound-of l g)) (g .eight) (g .tested .size))
 
@@ -131,15 +135,11 @@ passed-seen k l h g =
 
 report-seen : (kind : ℕ) (words : List ℕ) (l : Local) → Proper l → seenOf (reported kind words l) ≡ seenOf l
 unfolding reported
-report-seen kind words l g = go (passes kind (recorded words l .process)) refl ∙ recorded-seen words l g
+report-seen kind words l g = go (verdictOf kind (storeVectorAndReplant words l .process)) refl ∙ stored-seen words l g
   where
-    go : (t : Bool) → passes kind (recorded words l .process) ≡ t
-        → seenOf (cond t (passed (find (At (pc (recorded words l .process))) (recorded words l .process)) (recorded words l)) (onRecord (withRun (runAfter kind)) (recorded words l)))
-        ≡ seenOf (recorded words l)
-    go true e =
-        passed-seen (find (At (pc (recorded words l .process))) (recorded words l .process)) (recorded words l)
-        (passes-found kind (recorded words l .process) e) (vector-proper words l g)
-    go false e = refl
+    go : (v : Verdict) → verdictOf kind (storeVectorAndReplant words l .process) ≡ v → seenOf (carriedOut v kind (storeVectorAndReplant words l)) ≡ seenOf (storeVectorAndReplant words l)
+    go Stops e = refl
+    go (CountsDown k) e = passed-seen k (storeVectorAndReplant words l) (counts-low kind (storeVectorAndReplant words l .process) k e) (vector-proper words l g)
 
 pub seen-stays : SeenStays
 seen-stays = record { break = break-seen; unbreak = unbreak-seen; stop = stop-seen; step = step-seen; proceed = proceed-seen; report = report-seen }
@@ -204,42 +204,13 @@ store-is-unseen l k i v h p c = under (l .process .breaks) (l .bytes) k i v h p 
 
 -- ---- a sound record stays sound
 
-halted-still : (r : Run) → halted r ≡ true → moving r ≡ false
-halted-still Running e = sym e
-halted-still Stepping e = sym e
-halted-still Stopped e = refl
-halted-still AtBreak e = refl
-halted-still Ended e = refl
-
-atBreak-halted : (r : Run) → atBreak r ≡ true → halted r ≡ true
-atBreak-halted Running e = e
-atBreak-halted Stepping e = e
-atBreak-halted Stopped e = refl
-atBreak-halted AtBreak e = refl
-atBreak-halted Ended e = e
-
-stepping-moves : (r : Run) → stepping r ≡ true → moving r ≡ true
-stepping-moves Running e = refl
-stepping-moves Stepping e = refl
-stepping-moves Stopped e = e
-stepping-moves AtBreak e = e
-stepping-moves Ended e = e
-
-accepts-moves : (kind : ℕ) (r : Run) → accepts kind r ≡ true → moving r ≡ true
-unfolding accepts
-accepts-moves kind r e = go (isTtrap kind) e
-  where
-    go : (t : Bool) → cond t (stepping r) (moving r) ≡ true → moving r ≡ true
-    go true e = stepping-moves r e
-    go false e = e
-
 end-debug-sound : (l : Local) → Proper l → Sound (endDebugged l .process)
 unfolding endDebugged
 end-debug-sound l g =
     sound-free (withRun (released (l .process .run)) (withHost 0 (withBreaks noBreaks (l .process)))) refl (λ t. refl)
 
-stop-sound : (l : Local) → Proper l → Sound (halt l .process)
-unfolding halt
+stop-sound : (l : Local) → Proper l → Sound (stopped l .process)
+unfolding stopped
 stop-sound l g = go (moving (l .process .run))
   where
     go : (t : Bool) → Sound (cond t (onRecord (withRun Stopped) (replanted l)) l .process)
@@ -264,12 +235,12 @@ lifted-moves r pc l g m none = go (ltb (find (At pc) (l .process)) 8) refl
         sound-lifted (withRun r (l .process)) moved (g .eight) (find (At pc) (l .process)) h u m none
     go false e = moved
 
-step-sound : (l : Local) → Proper l → halted (l .process .run) ≡ true → Sound (stepped l .process)
+step-sound : (l : Local) → Proper l → stoppedOrAtBreak (l .process .run) ≡ true → Sound (stepped l .process)
 unfolding stepped
 step-sound l g e = go (atBreak (l .process .run))
   where
     none : NoneLifted (l .process)
-    none = still-none (l .process) (sound-of l g) (g .eight) (halted-still (l .process .run) e)
+    none = still-none (l .process) (sound-of l g) (g .eight) (stoppedOrAtBreak-still (l .process .run) e)
 
     go : (t : Bool) → Sound (onRecord (withRun Stepping) (cond t (liftedAt (pc (l .process)) l) l) .process)
     go true = lifted-moves Stepping (pc (l .process)) l g refl none
@@ -279,7 +250,7 @@ proceed-sound : (l : Local) → Proper l → atBreak (l .process .run) ≡ true 
 unfolding proceeded
 proceed-sound l g e =
     lifted-moves Running (pc (l .process)) l g refl
-    (still-none (l .process) (sound-of l g) (g .eight) (halted-still (l .process .run) (atBreak-halted (l .process .run) e)))
+    (still-none (l .process) (sound-of l g) (g .eight) (stoppedOrAtBreak-still (l .process .run) (atBreak-stopped (l .process .run) e)))
 
 deposit-sound : (at : ℕ) (string : List ℕ) (l : Local) → Proper l → Sound (deposited at string l .process)
 unfolding deposited
@@ -297,11 +268,11 @@ break-sound a n l g host even within room = go (ltb (find (At a) (l .process)) 8
     p = l .process
 
     go : (t : Bool) → ltb (find (At a) (l .process)) 8 ≡ t
-        → Sound (cond t (onRecord (withEntry (find (At a) (l .process)) (withCount n (entry (l .process) (find (At a) (l .process))))) l) (plantedIn (find Free (l .process)) a n l) .process)
+        → Sound (cond t (onRecord (withEntry (find (At a) (l .process)) (withCount n (entry (l .process) (find (At a) (l .process))))) l) (plantedIn (find Free (l .process)) (breakpointAt a n) l) .process)
     go true e = sound-count (l .process) (sound-of l g) (g .eight) (find (At a) (l .process)) n (ltb-true _ _ e)
     go false e =
         let past = ltb-false (find (At a) (l .process)) 8 e in
-        sound-planted (l .process) (sound-of l g) (g .eight) (find Free (l .process)) a n _ _ (ltb-true _ _ (room e)) host even within
+        sound-planted (l .process) (sound-of l g) (g .eight) (find Free (l .process)) (breakpointAt a n) (l .bytes) (ltb-true _ _ (room e)) host even within
         (λ j h m u q. find-before (At a) (l .process) j (omega (arith, past)) (at-matches a (entry (l .process) j) u q))
 
 unbreak-sound : (a : ℕ) (l : Local) → Proper l → hasBreak a (l .process) ≡ true → Sound (breakRemoved a l .process)
@@ -322,17 +293,17 @@ run-replanted : (l : Local) → replanted l .process .run ≡ l .process .run
 unfolding replanted plantedIn
 run-replanted l = go (ltb (find Lifted (l .process)) 8)
   where
-    go : (t : Bool) → cond t (plantedIn (find Lifted (l .process)) (entry (l .process) (find Lifted (l .process)) .address) (entry (l .process) (find Lifted (l .process)) .count) l) l .process .run ≡ l .process .run
+    go : (t : Bool) → cond t (plantedIn (find Lifted (l .process)) (entry (l .process) (find Lifted (l .process))) l) l .process .run ≡ l .process .run
     go true = refl
     go false = refl
 
-none-recorded : (words : List ℕ) (l : Local) → Proper l → NoneLifted (recorded words l .process)
-unfolding recorded
-none-recorded words l g = none-replanted (withVector words (l .process)) (sound-vector words (l .process) (sound-of l g)) (g .eight) (l .bytes)
+none-stored : (words : List ℕ) (l : Local) → Proper l → NoneLifted (storeVectorAndReplant words l .process)
+unfolding storeVectorAndReplant
+none-stored words l g = none-replanted (withVector words (l .process)) (sound-vector words (l .process) (sound-of l g)) (g .eight) (l .bytes)
 
-moves-recorded : (words : List ℕ) (l : Local) → moving (l .process .run) ≡ true → moving (recorded words l .process .run) ≡ true
-unfolding recorded
-moves-recorded words l m = rw (run-replanted (onRecord (withVector words) l)) m
+moves-stored : (words : List ℕ) (l : Local) → moving (l .process .run) ≡ true → moving (storeVectorAndReplant words l .process .run) ≡ true
+unfolding storeVectorAndReplant
+moves-stored words l m = rw (run-replanted (onRecord (withVector words) l)) m
 
 -- an entry keeps its mark when its count changes
 entry-counted : (k n : ℕ) (p : Process) → k < length (p .breaks) → entry (withEntry k (withCount n (entry p k)) p) k ≡ withCount n (entry p k)
@@ -363,23 +334,15 @@ passed-sound k l h g u m none =
 
 report-sound : (kind : ℕ) (words : List ℕ) (l : Local) → Proper l → accepts kind (l .process .run) ≡ true → Sound (reported kind words l .process)
 unfolding reported
-report-sound kind words l g a = go (passes kind (recorded words l .process)) refl
+report-sound kind words l g a = go (verdictOf kind (storeVectorAndReplant words l .process)) refl
   where
-    r : Local
-    r = recorded words l
-
-    go : (t : Bool) → passes kind (recorded words l .process) ≡ t
-        → Sound (cond t (passed (find (At (pc (recorded words l .process))) (recorded words l .process)) (recorded words l)) (onRecord (withRun (runAfter kind)) (recorded words l)) .process)
-    go true e =
-        let q = recorded words l .process in
-        let h = passes-found kind (recorded words l .process) e in
-        let g′ = vector-proper words l g in
-        let u = matches-at (pc q) (entry q (find (At (pc q)) q)) (find-matches (At (pc q)) q (g′ .eight) h) .0 in
-        passed-sound (find (At (pc q)) q) (recorded words l) h g′ u
-        (moves-recorded words l (accepts-moves kind (l .process .run) a)) (none-recorded words l g)
-    go false e =
-        sound-run (runAfter kind) (recorded words l .process)
-        (λ k h u x. absurd (none-recorded words l g k h u x)) (sound-of (recorded words l) (vector-proper words l g))
+    go : (v : Verdict) → verdictOf kind (storeVectorAndReplant words l .process) ≡ v → Sound (carriedOut v kind (storeVectorAndReplant words l) .process)
+    go Stops e =
+        sound-run (runAfter kind) (storeVectorAndReplant words l .process) (λ k h u x. absurd (none-stored words l g k h u x)) (sound-of (storeVectorAndReplant words l) (vector-proper words l g))
+    go (CountsDown k) e =
+        let proper′ = vector-proper words l g in
+        passed-sound k (storeVectorAndReplant words l) (counts-low kind (storeVectorAndReplant words l .process) k e) proper′ (counts-used kind (storeVectorAndReplant words l .process) (proper′ .eight) k e)
+        (moves-stored words l (accepts-moves kind (l .process .run) a)) (none-stored words l g)
 
 pub sound-stays : SoundStays
 sound-stays = record {

@@ -1,4 +1,5 @@
 -- The definitions that the contracts of this crate, and of those above it, cite. Words in quotation marks are document 01's.
+pub mod Sizes
 pub mod Record
 pub mod Find
 pub mod Sound

@@ -5,6 +5,7 @@ use mathlib.Core.List.{List}
 use Prim.Native.Nat.{ℕ, _+_, _<_}
 use lib.ListN.{length}
 use Rattle.process.specs.declared.record.Process.{Process}
+use Rattle.process.specs.Sizes.{entryCount, memoryBytes}
 use Rattle.process.specs.Record.{entry}
 use Rattle.process.specs.Sound.{soundTest}
 
@@ -20,13 +21,13 @@ local p m = record { process = p; bytes = m }
 -- what the gateway has tested of a process before it does anything to it: the tests 1 and 2
 pub record Tested (p : Process) (bytes : List ℕ) : Type 0 where
   pub sound : soundTest p ≡ true
-  pub size : length bytes ≡ 4096
+  pub size : length bytes ≡ memoryBytes
 
 -- the word of every breakpoint is within the process's bytes
 abbrev pub Inside : Process → List ℕ → Type 0
-Inside p bytes = (k : ℕ) → k < 8 → entry p k .used ≡ true → entry p k .address + 1 < length bytes
+Inside p bytes = (k : ℕ) → k < entryCount → entry p k .used ≡ true → entry p k .address + 1 < length bytes
 
 -- a sound process record with its eight entries and its 4,096 bytes
 pub record Proper (l : Local) : Type 0 where
   pub tested : Tested (l .process) (l .bytes)
-  pub eight : length (l .process .breaks) ≡ 8
+  pub eight : length (l .process .breaks) ≡ entryCount

@@ -3,27 +3,19 @@ use mathlib.Core.Bool.{Bool}
 use mathlib.Core.List.{List}
 use Prim.Native.Nat.{ℕ}
 use lib.ListN.{getD, set, replicate}
-use Rattle.process.specs.declared.record.Run.{Run}
-use Rattle.process.specs.declared.record.Run.the-variants.{Running, Stepping, Stopped, AtBreak, Ended}
+use Rattle.run_state.specs.declared.Run.{Run}
 use Rattle.breakpoints.specs.declared.entry.Breakpoint.{Breakpoint}
 use Rattle.breakpoints.specs.Entry.{free}
 use Rattle.process.specs.declared.record.Process.{Process}
-
--- the number of a run state, in the order of 'running, stepping, stopped, at a breakpoint, ended'
-abbrev pub runNumber : Run → ℕ
-runNumber Running = 0
-runNumber Stepping = 1
-runNumber Stopped = 2
-runNumber AtBreak = 3
-runNumber Ended = 4
+use Rattle.process.specs.Sizes.{entryCount, vectorWords}
 
 -- eight free entries
 abbrev pub noBreaks : List Breakpoint
-noBreaks = replicate 8 free
+noBreaks = replicate entryCount free
 
 -- a record with a zero vector and no breakpoints
 unfoldable pub fresh : Bool → ℕ → Run → Process
-fresh t h r = record { there = t; host = h; run = r; vector = replicate 9 0; breaks = noBreaks }
+fresh t h r = record { there = t; host = h; run = r; vector = replicate vectorWords 0; breaks = noBreaks }
 
 -- debugged by another host
 abbrev pub withHost : ℕ → Process → Process

@@ -1,67 +1,52 @@
--- 'Machine report': what a report does to the process that it is about.
-use mathlib.Core.Bool.{Bool, true, false, cond, _&&_}
+-- 'Machine report': what a report does to the process that it is about, and whom it tells.
+use mathlib.Core.Bool.{Bool, cond, _&&_}
 use mathlib.Core.List.{List}
 use Prim.Native.Nat.{ℕ, _-_}
 use lib.Dec.{ltb, eqb}
-use Rattle.process.specs.declared.record.Run.{Run}
-use Rattle.process.specs.declared.record.Run.the-variants.{Running, Stepping, Stopped, AtBreak, Ended}
+use Rattle.run_state.specs.ReportKind.{BPT}
+use Rattle.run_state.specs.RunState.{runAfter}
 use Rattle.process.specs.declared.record.Process.{Process}
-use Rattle.breakpoints.specs.declared.want.Want.the-variants.{At}
+use Rattle.process.specs.declared.report.Verdict.{Verdict}
+use Rattle.process.specs.declared.report.Verdict.the-variants.{Stops, CountsDown}
+use Rattle.breakpoints.specs.declared.entry_query.EntryQuery.the-variants.{At}
 use Rattle.breakpoints.specs.Entry.{withCount}
 use Rattle.process.specs.Record.{entry, withRun, withVector, withEntry}
 use Rattle.process.specs.Find.{find}
-use Rattle.process.specs.Sound.{moving}
 use Rattle.process.specs.Local.{Local}
 use Rattle.process.specs.Planting.{liftedIn, replanted}
 use Rattle.process.specs.Request.{pc, onRecord, hasBreak}
 
--- 'while stepping'
-abbrev pub stepping : Run → Bool
-stepping Running = false
-stepping Stepping = true
-stepping Stopped = false
-stepping AtBreak = false
-stepping Ended = false
-
--- 'kind 0 to 3 (TRAP, HALT, BPT, TTRAP)'
-abbrev pub isHalt : ℕ → Bool
-isHalt kind = eqb kind 1
-
--- kind 2 is BPT
-abbrev pub isBpt : ℕ → Bool
-isBpt kind = eqb kind 2
-
--- kind 3 is TTRAP
-abbrev pub isTtrap : ℕ → Bool
-isTtrap kind = eqb kind 3
-
--- 'Accepted while running or stepping; TTRAP only while stepping.'
-unfoldable pub accepts : ℕ → Run → Bool
-accepts kind run = cond (isTtrap kind) (stepping run) (moving run)
-
 -- 'The vector is stored and a lifted breakpoint planted again.'
-unfoldable pub recorded : List ℕ → Local → Local
-recorded words l = replanted (onRecord (withVector words) l)
+unfoldable pub storeVectorAndReplant : List ℕ → Local → Local
+storeVectorAndReplant words l = replanted (onRecord (withVector words) l)
 
 -- 'BPT with a breakpoint at PC and remaining count above 0'
 unfoldable pub passes : ℕ → Process → Bool
-passes kind p = isBpt kind && (hasBreak (pc p) p && ltb 0 (entry p (find (At (pc p)) p) .count))
+passes kind p = eqb kind BPT && (hasBreak (pc p) p && ltb 0 (entry p (find (At (pc p)) p) .count))
 
--- the entry of the breakpoint that is passed so, or 8
-unfoldable pub passedEntry : ℕ → Process → ℕ
-passedEntry kind p = cond (passes kind p) (find (At (pc p)) p) 8
+-- what a report comes to, at a process whose vector is stored: the breakpoint at PC counts down, or the process stops
+unfoldable pub verdictOf : ℕ → Process → Verdict
+verdictOf kind p = cond (passes kind p) (CountsDown (find (At (pc p)) p)) Stops
 
--- 'the count falls by one, that breakpoint is lifted, the run state stays and no notice goes out'
+-- 'the count falls by one, that breakpoint is lifted, the run state stays'
 unfoldable pub passed : ℕ → Local → Local
 passed k l = liftedIn k (onRecord (withEntry k (withCount (entry (l .process) k .count - 1) (entry (l .process) k))) l)
 
--- 'TRAP and TTRAP give stopped, HALT ended, BPT at a breakpoint'
-unfoldable pub runAfter : ℕ → Run
-runAfter kind = cond (isHalt kind) Ended (cond (isBpt kind) AtBreak Stopped)
+-- what each verdict does
+abbrev pub carriedOut : Verdict → ℕ → Local → Local
+carriedOut Stops kind l = onRecord (withRun (runAfter kind)) l
+carriedOut (CountsDown k) kind l = passed k l
 
 -- a report about a process that accepts it
 unfoldable pub reported : ℕ → List ℕ → Local → Local
 reported kind words l =
-    cond (passes kind (recorded words l .process))
-    (passed (find (At (pc (recorded words l .process))) (recorded words l .process)) (recorded words l))
-    (onRecord (withRun (runAfter kind)) (recorded words l))
+    carriedOut (verdictOf kind (storeVectorAndReplant words l .process)) kind (storeVectorAndReplant words l)
+
+-- 'no notice goes out', or it 'goes to the host debugging it, if any'; 0 is nobody
+abbrev pub toldBy : Verdict → ℕ → ℕ
+toldBy Stops host = host
+toldBy (CountsDown k) host = 0
+
+-- the host that a report about a process tells; 0 is nobody
+unfoldable pub recipientOf : ℕ → List ℕ → Local → ℕ
+recipientOf kind words l = toldBy (verdictOf kind (storeVectorAndReplant words l .process)) (l .process .host)

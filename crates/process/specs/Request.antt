@@ -6,15 +6,15 @@ use lib.ListN.{length, take, drop, getD, replicate}
 use lib.Seq.{paste}
 use lib.Dec.{ltb}
 use Rattle.lists.specs.Word.{lowFirst, vectorOf}
-use Rattle.process.specs.declared.record.Run.{Run}
-use Rattle.process.specs.declared.record.Run.the-variants.{Running, Stepping, Stopped, AtBreak, Ended}
+use Rattle.run_state.specs.declared.Run.the-variants.{Running, Stepping, Stopped}
 use Rattle.process.specs.declared.record.Process.{Process}
 use Rattle.breakpoints.specs.declared.entry.Breakpoint.{Breakpoint}
-use Rattle.breakpoints.specs.declared.want.Want.the-variants.{Free, At}
-use Rattle.breakpoints.specs.Entry.{withCount}
+use Rattle.breakpoints.specs.declared.entry_query.EntryQuery.the-variants.{Free, At}
+use Rattle.breakpoints.specs.Entry.{breakpointAt, withCount}
+use Rattle.process.specs.Sizes.{entryCount, memoryBytes}
 use Rattle.process.specs.Record.{noBreaks, fresh, entry, withHost, withRun, withVector, withBreaks, withEntry}
 use Rattle.process.specs.Find.{find}
-use Rattle.process.specs.Sound.{moving}
+use Rattle.run_state.specs.RunState.{moving, atBreak, released}
 use Rattle.breakpoints.specs.Seen.{seen, savedFrom}
 use Rattle.process.specs.Local.{Local, local}
 use Rattle.process.specs.Planting.{plantedIn, removedFrom, replanted, liftedAt}
@@ -29,29 +29,13 @@ onRecord f l = local (f (l .process)) (l .bytes)
 
 -- ---- tests that rest on the process
 
--- 'from stopped or at a breakpoint'
-abbrev pub halted : Run → Bool
-halted Running = false
-halted Stepping = false
-halted Stopped = true
-halted AtBreak = true
-halted Ended = false
-
--- 'only at a breakpoint'
-abbrev pub atBreak : Run → Bool
-atBreak Running = false
-atBreak Stepping = false
-atBreak Stopped = false
-atBreak AtBreak = true
-atBreak Ended = false
-
 -- there is a breakpoint at that address
 unfoldable pub hasBreak : ℕ → Process → Bool
-hasBreak a p = ltb (find (At a) p) 8
+hasBreak a p = ltb (find (At a) p) entryCount
 
 -- there is a free entry
 unfoldable pub hasRoom : Process → Bool
-hasRoom p = ltb (find Free p) 8
+hasRoom p = ltb (find Free p) entryCount
 
 -- the entry that BREAK goes to: that of the breakpoint at the address, else the lowest free one, or 8
 unfoldable pub entryFor : ℕ → Process → ℕ
@@ -63,14 +47,6 @@ entryFor a p = cond (hasBreak a p) (find (At a) p) (find Free p)
 abbrev pub debugged : ℕ → Local → Local
 debugged host = onRecord (withHost host)
 
--- 'Stopped, at a breakpoint or stepping becomes running; ended stays.'
-abbrev pub released : Run → Run
-released Running = Running
-released Stepping = Running
-released Stopped = Running
-released AtBreak = Running
-released Ended = Ended
-
 -- 'all breakpoints go, planted words put back; nobody debugs it'
 unfoldable pub endDebugged : Local → Local
 endDebugged l =
@@ -81,8 +57,8 @@ endDebugged l =
 -- ---- STOP, RESUME, SINGLE STEP, PROCEED BPT
 
 -- 'running or stepping becomes stopped, and a lifted breakpoint is planted again. Other states stay.'
-unfoldable pub halt : Local → Local
-halt l = cond (moving (l .process .run)) (onRecord (withRun Stopped) (replanted l)) l
+unfoldable pub stopped : Local → Local
+stopped l = cond (moving (l .process .run)) (onRecord (withRun Stopped) (replanted l)) l
 
 -- 'to running'
 abbrev pub resumed : Local → Local
@@ -133,7 +109,7 @@ unfoldable pub breakSet : ℕ → ℕ → Local → Local
 breakSet a n l =
     cond (hasBreak a (l .process))
     (onRecord (withEntry (find (At a) (l .process)) (withCount n (entry (l .process) (find (At a) (l .process))))) l)
-    (plantedIn (find Free (l .process)) a n l)
+    (plantedIn (find Free (l .process)) (breakpointAt a n) l)
 
 -- 'UNBREAK puts the word back if it is planted.'
 unfoldable pub breakRemoved : ℕ → Local → Local
@@ -143,7 +119,7 @@ breakRemoved a l = removedFrom (find (At a) (l .process)) l
 
 -- 'all 4,096 bytes of its memory are zero, vector zero, stopped, debugged by the asker'
 unfoldable pub created : ℕ → Local
-created host = local (fresh true host Stopped) (replicate 4096 0)
+created host = local (fresh true host Stopped) (replicate memoryBytes 0)
 
 -- a cleared record: 'absent, running, all else zero'
 unfoldable pub cleared : Process

@@ -7,18 +7,21 @@ use Prim.Native.Nat.{ℕ, _+_, _≤_, _<_, _%_}
 use lib.ListN.{length, getD, set}
 use lib.Seq.{paste}
 use Rattle.process.specs.declared.record.Process.{Process}
-use Rattle.process.specs.declared.record.Run.the-variants.{Running}
+use Rattle.run_state.specs.declared.Run.the-variants.{Running}
+use Rattle.breakpoints.specs.Entry.{lastBreakAddress}
+use Rattle.process.specs.Sizes.{entryCount, memoryBytes}
 use Rattle.process.specs.Record.{entry, withHost, withRun, withVector}
 use Rattle.process.specs.Sound.{Sound, NoBreakpoints, soundTest}
 use Rattle.breakpoints.specs.Seen.{isPlanted, seen}
 use Rattle.process.specs.Local.{Local, Proper}
-use Rattle.process.specs.Request.{halted, atBreak, hasBreak, hasRoom, endDebugged, halt, stepped, proceeded, examined, deposited, breakSet, breakRemoved, created, cleared}
-use Rattle.process.specs.Report.{accepts, reported}
+use Rattle.run_state.specs.RunState.{stoppedOrAtBreak, atBreak, accepts}
+use Rattle.process.specs.Request.{hasBreak, hasRoom, endDebugged, stopped, stepped, proceeded, examined, deposited, breakSet, breakRemoved, created, cleared}
+use Rattle.process.specs.Report.{reported}
 
 -- the test passes exactly the sound records
 pub record TestIsSound : Type 0 where
   pub passes-sound : (p : Process) → soundTest p ≡ true → Sound p
-  pub sound-passes : (p : Process) → length (p .breaks) ≡ 8 → Sound p → soundTest p ≡ true
+  pub sound-passes : (p : Process) → length (p .breaks) ≡ entryCount → Sound p → soundTest p ≡ true
 
 -- what is seen of a process
 abbrev pub seenOf : Local → List ℕ
@@ -27,16 +30,16 @@ seenOf l = seen (l .process .breaks) (l .bytes)
 -- what is deposited is examined, and nothing else that is seen changes
 pub record DepositIsSeen : Type 0 where
   pub whole : (at : ℕ) (string : List ℕ) (l : Local) → Proper l → seenOf (deposited at string l) ≡ paste (seenOf l) at string (length string)
-  pub read-back : (at : ℕ) (string : List ℕ) (l : Local) → Proper l → at + length string ≤ 4096
+  pub read-back : (at : ℕ) (string : List ℕ) (l : Local) → Proper l → at + length string ≤ memoryBytes
       → examined at (length string) (deposited at string l) ≡ string
-  pub elsewhere : (at : ℕ) (string : List ℕ) (l : Local) (i : ℕ) → Proper l → at + length string ≤ 4096 → (i < at) ⊎ (at + length string ≤ i)
+  pub elsewhere : (at : ℕ) (string : List ℕ) (l : Local) (i : ℕ) → Proper l → at + length string ≤ memoryBytes → (i < at) ⊎ (at + length string ≤ i)
       → getD (seenOf (deposited at string l)) i 0 ≡ getD (seenOf l) i 0
 
 -- no breakpoint that is set, removed, lifted, passed or planted again changes what is seen
 pub record SeenStays : Type 0 where
   pub break : (a n : ℕ) (l : Local) → Proper l → a % 2 ≡ 0 → (hasBreak a (l .process) ≡ false → hasRoom (l .process) ≡ true) → seenOf (breakSet a n l) ≡ seenOf l
   pub unbreak : (a : ℕ) (l : Local) → Proper l → hasBreak a (l .process) ≡ true → seenOf (breakRemoved a l) ≡ seenOf l
-  pub stop : (l : Local) → Proper l → seenOf (halt l) ≡ seenOf l
+  pub stop : (l : Local) → Proper l → seenOf (stopped l) ≡ seenOf l
   pub step : (l : Local) → Proper l → seenOf (stepped l) ≡ seenOf l
   pub proceed : (l : Local) → Proper l → seenOf (proceeded l) ≡ seenOf l
   pub report : (kind : ℕ) (words : List ℕ) (l : Local) → Proper l → seenOf (reported kind words l) ≡ seenOf l
@@ -56,13 +59,13 @@ StoreIsUnseen =
 pub record SoundStays : Type 0 where
   pub debug : (host : ℕ) (p : Process) → Sound p → p .there ≡ true → (host ≡ 0 → ⊥) → Sound (withHost host p)
   pub end-debug : (l : Local) → Proper l → Sound (endDebugged l .process)
-  pub stop : (l : Local) → Proper l → Sound (halt l .process)
+  pub stop : (l : Local) → Proper l → Sound (stopped l .process)
   pub resume : (p : Process) → Sound p → Sound (withRun Running p)
-  pub step : (l : Local) → Proper l → halted (l .process .run) ≡ true → Sound (stepped l .process)
+  pub step : (l : Local) → Proper l → stoppedOrAtBreak (l .process .run) ≡ true → Sound (stepped l .process)
   pub proceed : (l : Local) → Proper l → atBreak (l .process .run) ≡ true → Sound (proceeded l .process)
   pub deposit : (at : ℕ) (string : List ℕ) (l : Local) → Proper l → Sound (deposited at string l .process)
   pub deposit-vector : (v : List ℕ) (p : Process) → Sound p → Sound (withVector v p)
-  pub break : (a n : ℕ) (l : Local) → Proper l → (l .process .host ≡ 0 → ⊥) → a % 2 ≡ 0 → a ≤ 4094
+  pub break : (a n : ℕ) (l : Local) → Proper l → (l .process .host ≡ 0 → ⊥) → a % 2 ≡ 0 → a ≤ lastBreakAddress
       → (hasBreak a (l .process) ≡ false → hasRoom (l .process) ≡ true) → Sound (breakSet a n l .process)
   pub unbreak : (a : ℕ) (l : Local) → Proper l → hasBreak a (l .process) ≡ true → Sound (breakRemoved a l .process)
   pub create : (host : ℕ) → Sound (created host .process)

@@ -1,23 +1,30 @@
-// One search over the entries of a process, for whatever is wanted.
+// One search over the entries of a process, for whatever is asked.
+use crate::record::ENTRIES;
 use crate::record::Process;
-use breakpoints::Want;
+use breakpoints::EntryQuery;
 ghost use mathlib.Core.Path.{_≡_};
-ghost use Rattle.process.specs.Find.{find};
+ghost use Rattle.process.specs.Find.{find, foundEntry};
+
+// What a search among the entries finds.
+pub enum FoundEntry {
+    Index(usize),
+    Nowhere,
+}
 
 impl Process {
-    // The first entry that is wanted, or 8.
-    pub fn find(self, want: Want) -> usize
-        ensures { λ r. ⌜ r ≡ find want self ⌝ }
+    // Finds the first entry that matches.
+    pub fn find(self, query: EntryQuery) -> FoundEntry
+        ensures { λ r. ⌜ r ≡ foundEntry (find query self) ⌝ }
     {
         let breaks = self.breaks;
         let mut k = 0;
-        while k < 8 {
+        while k < ENTRIES {
             let b = breaks[k];
-            if b.is(want) {
-                return k;
+            if b.matches(query) {
+                return FoundEntry::Index(k);
             }
             k += 1;
         }
-        k
+        FoundEntry::Nowhere
     }
 }

@@ -1,14 +1,20 @@
 // The record of one process: what is known of it, its breakpoints, and whether it is sound.
-mod deposit;
+mod break_requests;
+mod debug_requests;
+mod existence;
 mod find;
-mod memory;
+mod memory_requests;
 mod planting;
 mod record;
 mod report;
-mod request;
+mod run_requests;
+mod saved_words;
 mod sound;
 pub mod theorems;
 
+pub use find::FoundEntry;
+pub use record::ENTRIES;
+pub use record::MEMORY_BYTES;
 pub use record::Process;
-pub use record::Run;
+pub use record::VECTOR_BYTES;
 pub use report::Reported;

@@ -1,17 +1,18 @@
 // The process record. Whatever makes a record or writes one anew stands in this file, so that a new field changes it alone.
 use breakpoints::Breakpoint;
+use run_state::Run;
 ghost use mathlib.Core.Path.{_≡_};
 ghost use Prim.Native.Nat.{_<_};
-ghost use Rattle.process.specs.Record.{runNumber, fresh, withRun, withHost, withVector, withEntry, withBreaks, noBreaks};
+ghost use Rattle.process.specs.Sizes.{entryCount};
+ghost use Rattle.process.specs.Record.{fresh, withRun, withHost, withVector, withEntry, withBreaks, noBreaks};
+ghost use Rattle.process.specs.Request.{pc};
 
-// What a process is doing.
-pub enum Run {
-    Running,
-    Stepping,
-    Stopped,
-    AtBreak,
-    Ended,
-}
+// The number of entries of a process, of its bytes, and of its vector's bytes.
+pub const ENTRIES: usize = 8;
+
+pub const MEMORY_BYTES: usize = 4096;
+
+pub const VECTOR_BYTES: usize = 18;
 
 // What is known of a process. Host 0 means nobody; the vector is R0 to R5, SP, PC, PS.
 pub struct Process {
@@ -19,22 +20,7 @@ pub struct Process {
     pub host: u8,
     pub run: Run,
     pub vector: [u16; 9],
-    pub breaks: [Breakpoint; 8],
-}
-
-impl Run {
-    // Its number, in the order of document 01.
-    pub fn number(self) -> u8
-        ensures { λ r. ⌜ r ≡ runNumber self ⌝ }
-    {
-        match self {
-            Run::Running => 0,
-            Run::Stepping => 1,
-            Run::Stopped => 2,
-            Run::AtBreak => 3,
-            Run::Ended => 4,
-        }
-    }
+    pub breaks: [Breakpoint; ENTRIES],
 }
 
 impl Process {
@@ -44,7 +30,7 @@ impl Process {
     {
         let none = Breakpoint::free();
         let vector = [0u16; 9];
-        let breaks = [none; 8];
+        let breaks = [none; ENTRIES];
         Process {
             there: there,
             host: host,
@@ -52,6 +38,12 @@ impl Process {
             vector: vector,
             breaks: breaks,
         }
+    }
+
+    pub(crate) fn pc(self) -> u16
+        ensures { λ r. ⌜ r ≡ pc self ⌝ }
+    {
+        self.vector[7]
     }
 
     pub(crate) fn with_host(mut self, host: u8) -> Self
@@ -84,7 +76,7 @@ impl Process {
 
     // With another breakpoint in entry k.
     pub(crate) fn with_entry(mut self, k: usize, b: Breakpoint) -> Self
-        requires { ⌜ k < 8 ⌝ }
+        requires { ⌜ k < entryCount ⌝ }
         ensures { λ r. ⌜ r ≡ withEntry k b self ⌝ }
     {
         self.breaks[k] = b;
@@ -95,7 +87,7 @@ impl Process {
         ensures { λ r. ⌜ r ≡ withBreaks noBreaks self ⌝ }
     {
         let none = Breakpoint::free();
-        let breaks = [none; 8];
+        let breaks = [none; ENTRIES];
         self.breaks = breaks;
         self
     }

@@ -1,80 +1,62 @@
-// What a machine report does to the process that it is about.
+// What a machine report does to the process that it is about, and whom it tells.
+use crate::find::FoundEntry;
 use crate::record::Process;
-use crate::record::Run;
-use breakpoints::Want;
+use breakpoints::EntryQuery;
+use run_state::BPT;
+use run_state::Run;
 ghost use mathlib.Core.Path.{_≡_};
-ghost use mathlib.Core.Bool.{not};
 ghost use Prim.Native.Nat.{_<_};
+ghost use Rattle.process.specs.Sizes.{entryCount};
 ghost use Rattle.process.specs.Record.{entry};
 ghost use Rattle.process.specs.Local.{local, Inside, Tested};
-ghost use Rattle.process.specs.Report.{stepping, accepts, recorded, passes, passedEntry, passed, runAfter, reported};
+ghost use Rattle.process.specs.Report.{storeVectorAndReplant, verdictOf, recipientOf, passed, reported};
 
-// A process after a report, and whether its host is to be told. A breakpoint that is passed silently tells nobody.
-pub struct Reported {
-    pub process: Process,
-    pub silent: bool,
+// What a report comes to.
+pub enum Verdict {
+    // The process stops, and its host is told.
+    Stops,
+    // The process passes the breakpoint in this entry silently.
+    CountsDown(usize),
 }
 
-impl Run {
-    fn stepping(self) -> bool
-        ensures { λ r. ⌜ r ≡ stepping self ⌝ }
-    {
-        match self {
-            Run::Running => false,
-            Run::Stepping => true,
-            Run::Stopped => false,
-            Run::AtBreak => false,
-            Run::Ended => false,
-        }
-    }
-
-    // Whether a process in this run state may send a report of this kind.
-    pub fn accepts(self, kind: u8) -> bool
-        ensures { λ r. ⌜ r ≡ accepts kind self ⌝ }
-    {
-        if kind == 3 {
-            self.stepping()
-        } else {
-            self.moving()
-        }
-    }
-
-    // The run state after a report of this kind that is not passed silently.
-    fn after(kind: u8) -> Run
-        ensures { λ r. ⌜ r ≡ runAfter kind ⌝ }
-    {
-        if kind == 1 {
-            return Run::Ended;
-        }
-        if kind == 2 {
-            return Run::AtBreak;
-        }
-        Run::Stopped
-    }
+// A process after a report, and the host that is told of it; 0 is nobody.
+pub struct Reported {
+    pub process: Process,
+    pub told: u8,
 }
 
 impl Process {
-    // The entry of the breakpoint that a report of this kind passes silently, or 8: a BPT at a breakpoint whose count is above 0.
-    fn passed_entry(self, kind: u8) -> usize
-        ensures { λ r. ⌜ r ≡ passedEntry kind self ⌝ }
+    // Stores the vector, and plants a lifted breakpoint again.
+    fn store_vector_and_replant(self, vector: [u16; 9], bytes: &mut [u8]) -> Self
+        requires { ⌜ Inside self (now bytes) ⌝ }
+        ensures { λ r. ⌜ r ≡ storeVectorAndReplant vector (local self (now (bytes .entry))) .process ⌝ }
+        ensures { λ _. ⌜ now (bytes .exit) ≡ storeVectorAndReplant vector (local self (now (bytes .entry))) .bytes ⌝ }
     {
-        if kind != 2 {
-            return 8;
-        }
-        let k = self.find(Want::At(self.pc()));
-        if 8 <= k {
-            return 8;
-        }
-        let b = self.breaks[k];
-        if 0 < b.count {
-            return k;
-        }
-        8
+        let p = self.with_vector(vector);
+        p.replant(bytes)
     }
 
-    // The breakpoint in entry k is passed: its count falls by one, and it is lifted.
+    // A BPT at a breakpoint whose count is above 0 counts down; any other report stops the process.
+    fn verdict(self, kind: u8) -> Verdict
+        ensures { λ r. ⌜ r ≡ verdictOf kind self ⌝ }
+    {
+        if kind != BPT {
+            return Verdict::Stops;
+        }
+        let found = self.find(EntryQuery::At(self.pc()));
+        let FoundEntry::Index(k) = found else {
+            return Verdict::Stops;
+        };
+        let b = self.breaks[k];
+        if 0 < b.count {
+            return Verdict::CountsDown(k);
+        }
+        Verdict::Stops
+    }
+
+    // Passes the breakpoint in entry k: its count falls by one, and it is lifted.
     fn pass(self, k: usize, bytes: &mut [u8]) -> Self
-        requires { ⌜ (k < 8) × Inside self (now bytes) × (0 < entry self k .count) ⌝ }
+        requires { ⌜ (k < entryCount) × Inside self (now bytes) × (0 < entry self k .count) ⌝ }
         ensures { λ r. ⌜ r ≡ passed k (local self (now (bytes .entry))) .process ⌝ }
         ensures { λ _. ⌜ now (bytes .exit) ≡ passed k (local self (now (bytes .entry))) .bytes ⌝ }
     {
@@ -83,36 +65,24 @@ impl Process {
         p.lift_in(k, bytes)
     }
 
-    // The vector is stored, and a lifted breakpoint planted again.
-    fn settle(self, vector: [u16; 9], bytes: &mut [u8]) -> Self
-        requires { ⌜ Inside self (now bytes) ⌝ }
-        ensures { λ r. ⌜ r ≡ recorded vector (local self (now (bytes .entry))) .process ⌝ }
-        ensures { λ _. ⌜ now (bytes .exit) ≡ recorded vector (local self (now (bytes .entry))) .bytes ⌝ }
-    {
-        let p = self.with_vector(vector);
-        p.replant(bytes)
-    }
-
     // A report of this kind about a process that accepts it.
     pub fn report(self, bytes: &mut [u8], kind: u8, vector: [u16; 9]) -> Reported
         requires { ⌜ Tested self (now bytes) ⌝ }
         ensures { λ r. ⌜ r .process ≡ reported kind vector (local self (now (bytes .entry))) .process ⌝ }
-        ensures { λ r. ⌜ r .silent ≡ passes kind (recorded vector (local self (now (bytes .entry))) .process) ⌝ }
+        ensures { λ r. ⌜ r .told ≡ recipientOf kind vector (local self (now (bytes .entry))) ⌝ }
         ensures { λ _. ⌜ now (bytes .exit) ≡ reported kind vector (local self (now (bytes .entry))) .bytes ⌝ }
     {
-        let p = self.settle(vector, bytes);
-        let k = p.passed_entry(kind);
-        if k < 8 {
-            let q = p.pass(k, bytes);
-            return Reported {
-                process: q,
-                silent: true,
-            };
-        }
-        let q = p.with_run(Run::after(kind));
-        Reported {
-            process: q,
-            silent: false,
+        let p = self.store_vector_and_replant(vector, bytes);
+        let verdict = p.verdict(kind);
+        match verdict {
+            Verdict::Stops => Reported {
+                process: p.with_run(Run::after(kind)),
+                told: self.host,
+            },
+            Verdict::CountsDown(k) => Reported {
+                process: p.pass(k, bytes),
+                told: 0,
+            },
         }
     }
 }

@@ -1,40 +1,27 @@
 // Whether a process record is sound.
+use crate::find::FoundEntry;
+use crate::record::ENTRIES;
 use crate::record::Process;
-use crate::record::Run;
 use breakpoints::Breakpoint;
-use breakpoints::Want;
-use breakpoints::placed;
+use breakpoints::EntryQuery;
+use breakpoints::valid_break_address;
 ghost use mathlib.Core.Path.{_≡_};
 ghost use mathlib.Core.Bool.{true};
 ghost use Prim.Native.Nat.{_<_};
+ghost use Rattle.process.specs.Sizes.{entryCount};
 ghost use Rattle.process.specs.Record.{entry};
-ghost use Rattle.process.specs.Sound.{moving, hosted, firstThere, liftSound, entrySound, soundTest};
-
-impl Run {
-    // Running or stepping.
-    pub fn moving(self) -> bool
-        ensures { λ r. ⌜ r ≡ moving self ⌝ }
-    {
-        match self {
-            Run::Running => true,
-            Run::Stepping => true,
-            Run::Stopped => false,
-            Run::AtBreak => false,
-            Run::Ended => false,
-        }
-    }
-}
+ghost use Rattle.process.specs.Sound.{absentHasNoHost, addressIsUnique, liftSound, entrySound, soundTest};
 
 impl Process {
-    // An absent process has no host.
-    fn hosted(self) -> bool
-        ensures { λ r. ⌜ r ≡ hosted self ⌝ }
+    fn absent_has_no_host(self) -> bool
+        ensures { λ r. ⌜ r ≡ absentHasNoHost self ⌝ }
     {
         if self.there { true } else { self.host == 0 }
     }
 
     // Entry k is not lifted, or the process moves and no earlier entry is lifted.
     fn lift_sound(self, k: usize, lifted: bool) -> bool
+        requires { ⌜ k < entryCount ⌝ }
         requires { ⌜ lifted ≡ entry self k .lifted ⌝ }
         ensures { λ r. ⌜ r ≡ liftSound self k ⌝ }
     {
@@ -42,24 +29,28 @@ impl Process {
             return true;
         }
         let run = self.run;
-        if run.moving() {
-            return self.find(Want::Lifted) == k;
+        if !run.moving() {
+            return false;
         }
-        false
+        let first = self.find(EntryQuery::Lifted);
+        match first {
+            FoundEntry::Index(j) => j == k,
+            FoundEntry::Nowhere => false,
+        }
     }
 
     // No entry before k, which is in use, has its address.
-    fn first_there(self, k: usize, address: u16) -> bool
-        requires { ⌜ k < 8 ⌝ }
+    fn address_is_unique(self, k: usize, address: u16) -> bool
+        requires { ⌜ k < entryCount ⌝ }
         requires { ⌜ entry self k .used ≡ true ⌝ }
         requires { ⌜ address ≡ entry self k .address ⌝ }
-        ensures { λ r. ⌜ r ≡ firstThere self k ⌝ }
+        ensures { λ r. ⌜ r ≡ addressIsUnique self k ⌝ }
     {
-        let want = Want::At(address);
+        let query = EntryQuery::At(address);
         let mut j = 0;
         while j < k {
             let e = self.breaks[j];
-            if e.is(want) {
+            if e.matches(query) {
                 return false;
             }
             j += 1;
@@ -69,7 +60,7 @@ impl Process {
 
     // Entry k, which is b, is free, or keeps the rules.
     fn entry_sound(self, k: usize, b: Breakpoint) -> bool
-        requires { ⌜ k < 8 ⌝ }
+        requires { ⌜ k < entryCount ⌝ }
         requires { ⌜ b ≡ entry self k ⌝ }
         ensures { λ r. ⌜ r ≡ entrySound self k ⌝ }
     {
@@ -79,10 +70,10 @@ impl Process {
         if self.host == 0 {
             return false;
         }
-        if !placed(b.address) {
+        if !valid_break_address(b.address) {
             return false;
         }
-        if !self.first_there(k, b.address) {
+        if !self.address_is_unique(k, b.address) {
             return false;
         }
         self.lift_sound(k, b.lifted)
@@ -92,12 +83,12 @@ impl Process {
     pub fn sound(self) -> bool
         ensures { λ r. ⌜ r ≡ soundTest self ⌝ }
     {
-        if !self.hosted() {
+        if !self.absent_has_no_host() {
             return false;
         }
         let breaks = self.breaks;
         let mut k = 0;
-        while k < 8 {
+        while k < ENTRIES {
             let b = breaks[k];
             if !self.entry_sound(k, b) {
                 return false;

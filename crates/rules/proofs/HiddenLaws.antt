@@ -16,9 +16,10 @@ use Rattle.process.specs.Local.{Local, local}
 use Rattle.process.specs.Report.{reported}
 use Rattle.rules.specs.Rule.{public, ruleOf, names}
 use Rattle.rules.specs.Tests.{State, recordOf}
-use Rattle.rules.specs.Step.{localOf, refused, requested, told, noted, stored}
+use Rattle.rules.specs.Step.{localOf, refused, requested, told, noticeTo, noted, stored}
 use Rattle.rules.specs.Ready.{Ready}
 use Rattle.rules.specs.Isolation.{Hosts, Processes, deposits, publicThen, publicOf, noticed, Apart, Free}
+use Rattle.process.proofs.ReportLaws.{recipient-host}
 use Rattle.rules.proofs.RuleLaws.{Kept, rule-row, public-reported}
 use Rattle.rules.proofs.StateLaws.{Changed, unchanged}
 use Rattle.rules.proofs.NumberLaws.{envelope, envelope-sent}
@@ -71,12 +72,12 @@ hidden-store s r p a v = go (ltb p 8) refl
 -- a report is no answer to hosts that do not debug its process
 notice-quiet : (H : Hosts) (p kind reason : ℕ) (words buffer : List ℕ) (l : Local) → H (public (l .process) .host) ≡ false
     → noticed H (reportSaid p kind reason words buffer l .outcome) (reportSaid p kind reason words buffer l .buffer) ≡ false
-unfolding reportSaid noticed overlay written noticeOf public
+unfolding reportSaid noticeTo noticed overlay written noticeOf public
 notice-quiet H p kind reason words buffer l e = go (eqb (reportTested kind reason buffer (l .process)) 0) refl (told kind words l) refl
   where
     go : (t : Bool) → eqb (reportTested kind reason buffer (l .process)) 0 ≡ t → (u : Bool) → told kind words l ≡ u
         → noticed H (reportSaid p kind reason words buffer l .outcome) (reportSaid p kind reason words buffer l .buffer) ≡ false
-    go true i true j = rw (i, j, e) (and-false (ltb 0 (10 + length (lowFirst words))))
+    go true i true j = rw (i, j, recipient-host kind words l j, e) (and-false (ltb 0 (10 + length (lowFirst words))))
     go true i false j = rw (i, j)
     go false i u j = rw i
 

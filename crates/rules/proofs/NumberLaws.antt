@@ -21,7 +21,7 @@ use Rattle.format.proofs.OutcomeLaws.{rest-passes}
 use Rattle.format.proofs.TestLaws.{zero-passed, sized-between}
 use Rattle.format.proofs.LayoutLaws.{length-stringOf}
 use Rattle.message.proofs.AnswerLaws.{Asked, asked-passed, requestForm-known}
-use Rattle.process.specs.Report.{accepts}
+use Rattle.run_state.specs.RunState.{accepts}
 use Rattle.rules.specs.Tests.{State, noRoom, unsound, recordOf, absent, askedTests, requestNumber, badReport, reportNumber}
 use Rattle.rules.specs.Ready.{Ready}
 

@@ -7,22 +7,25 @@ use native.Mathlib.Omega.{arith}
 use lib.ListN.{length, set, length-set, length-map, length-replicate}
 use lib.Seq.{length-paste}
 use lib.Dec.{ltb}
-use Rattle.process.specs.declared.record.Run.the-variants.{Running, Stopped}
-use Rattle.breakpoints.specs.declared.want.Want.the-variants.{Free, At}
-use Rattle.breakpoints.specs.Entry.{withCount}
+use Rattle.run_state.specs.declared.Run.the-variants.{Running, Stopped}
+use Rattle.breakpoints.specs.declared.entry_query.EntryQuery.the-variants.{Free, At}
+use Rattle.breakpoints.specs.declared.entry.Breakpoint.{Breakpoint}
+use Rattle.breakpoints.specs.Entry.{breakpointAt, withCount}
 use Rattle.process.specs.Record.{fresh, entry, withRun, withHost, withVector, withEntry}
 use Rattle.process.specs.Find.{find}
-use Rattle.process.specs.Sound.{Sound, moving}
+use Rattle.process.specs.Sound.{Sound}
+use Rattle.run_state.specs.RunState.{moving, stoppedOrAtBreak, atBreak, accepts}
 use Rattle.breakpoints.specs.Seen.{seen, savedFrom}
 use Rattle.process.specs.Request.{sheltered}
 use Rattle.process.specs.Local.{Local, local, Proper}
 use Rattle.process.specs.Planting.{plantedIn, liftedIn, removedFrom, replanted, liftedAt}
-use Rattle.process.specs.Request.{pc, onRecord, halted, atBreak, hasBreak, hasRoom, endDebugged, halt, stepped, proceeded, toBeSeen, deposited, breakSet, breakRemoved, created, cleared}
-use Rattle.process.specs.Report.{accepts, recorded, passes, passed, runAfter, reported}
+use Rattle.process.specs.Request.{pc, onRecord, hasBreak, hasRoom, endDebugged, stopped, stepped, proceeded, toBeSeen, deposited, breakSet, breakRemoved, created, cleared}
+use Rattle.process.specs.Report.{reported}
+use Rattle.process.proofs.ReportLaws.{length-reported, eight-reported}
 use Rattle.process.proofs.SoundTestLaws.{sound-passes}
 use Rattle.breakpoints.proofs.SeenLaws.{length-seen}
 use Rattle.process.proofs.TestedLaws.{tested-sound}
-use Rattle.process.proofs.PlantingLaws.{length-plantedIn, length-liftedIn, length-removedFrom, length-replanted, length-liftedAt, length-entry, eight-replanted}
+use Rattle.process.proofs.PlantingLaws.{length-plantedIn, length-removedFrom, length-replanted, length-liftedAt, length-entry, eight-replanted}
 use Rattle.process.proofs.TheoremLaws.{sound-stays}
 
 pub sound-of : (l : Local) → Proper l → Sound (l .process)
@@ -52,9 +55,9 @@ entries-liftedAt : (pc : ℕ) (l : Local) → entries (liftedAt pc l) ≡ entrie
 unfolding liftedAt
 entries-liftedAt pc l = by-cond entries (ltb (find (At pc) (l .process)) 8) _ _ (entries l) (entries-liftedIn (find (At pc) (l .process)) l) refl
 
-entries-plantedIn : (k a n : ℕ) (l : Local) → entries (plantedIn k a n l) ≡ entries l
+entries-plantedIn : (k : ℕ) (b : Breakpoint) (l : Local) → entries (plantedIn k b l) ≡ entries l
 unfolding plantedIn
-entries-plantedIn k a n l = simp length-set
+entries-plantedIn k b l = simp length-set
 
 entries-removedFrom : (k : ℕ) (l : Local) → entries (removedFrom k l) ≡ entries l
 unfolding removedFrom
@@ -70,14 +73,14 @@ module _ (l : Local) (g : Proper l) where
   unfolding endDebugged
   end-debug-proper = proper-of (endDebugged l) (sound-stays .end-debug l g) refl (length-seen (l .process .breaks) (l .bytes) ∙ four)
 
-  pub stop-proper : Proper (halt l)
-  unfolding halt
+  pub stop-proper : Proper (stopped l)
+  unfolding stopped
   stop-proper =
-      proper-of (halt l) (sound-stays .stop l g)
+      proper-of (stopped l) (sound-stays .stop l g)
       (by-cond entries (moving (l .process .run)) (onRecord (withRun Stopped) (replanted l)) l 8 (eight-replanted l ∙ g .eight) (g .eight))
       (by-cond size (moving (l .process .run)) (onRecord (withRun Stopped) (replanted l)) l 4096 (length-replanted l ∙ four) four)
 
-  pub step-proper : halted (l .process .run) ≡ true → Proper (stepped l)
+  pub step-proper : stoppedOrAtBreak (l .process .run) ≡ true → Proper (stepped l)
   unfolding stepped
   step-proper e =
       let at = pc (l .process) in
@@ -106,10 +109,10 @@ module _ (l : Local) (g : Proper l) where
   break-proper a n host even within room =
       let k = find (At a) (l .process) in
       let counted = onRecord (withEntry k (withCount n (entry (l .process) k))) l in
-      let new = plantedIn (find Free (l .process)) a n l in
+      let new = plantedIn (find Free (l .process)) (breakpointAt a n) l in
       proper-of (breakSet a n l) (sound-stays .break a n l g host even within room)
-      (by-cond entries (hasBreak a (l .process)) counted new 8 (length-entry k _ (l .process) ∙ g .eight) (entries-plantedIn _ a n l ∙ g .eight))
-      (by-cond size (hasBreak a (l .process)) counted new 4096 four (length-plantedIn _ a n l ∙ four))
+      (by-cond entries (hasBreak a (l .process)) counted new 8 (length-entry k _ (l .process) ∙ g .eight) (entries-plantedIn _ (breakpointAt a n) l ∙ g .eight))
+      (by-cond size (hasBreak a (l .process)) counted new 4096 four (length-plantedIn _ (breakpointAt a n) l ∙ four))
 
   pub unbreak-proper : (a : ℕ) → hasBreak a (l .process) ≡ true → Proper (breakRemoved a l)
   unfolding breakRemoved
@@ -118,17 +121,8 @@ module _ (l : Local) (g : Proper l) where
 
   -- a report
   pub report-proper : (kind : ℕ) (words : List ℕ) → accepts kind (l .process .run) ≡ true → Proper (reported kind words l)
-  unfolding reported recorded passed
   report-proper kind words e =
-      let r = recorded words l in
-      let k = find (At (pc (r .process))) (r .process) in
-      let eight = eight-replanted (onRecord (withVector words) l) ∙ g .eight in
-      let long = length-replanted (onRecord (withVector words) l) ∙ four in
-      proper-of (reported kind words l) (sound-stays .report kind words l g e)
-      (by-cond entries (passes kind (r .process)) (passed k r) (onRecord (withRun (runAfter kind)) r) 8
-      (entries-liftedIn k _ ∙ length-entry k _ (r .process) ∙ eight) eight)
-      (by-cond size (passes kind (r .process)) (passed k r) (onRecord (withRun (runAfter kind)) r) 4096
-      (length-liftedIn k _ ∙ long) long)
+      proper-of (reported kind words l) (sound-stays .report kind words l g e) (eight-reported kind words l ∙ g .eight) (length-reported kind words l ∙ four)
 
 -- ---- a new process, and one that is gone
 

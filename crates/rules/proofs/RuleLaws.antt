@@ -10,17 +10,19 @@ use lib.ListN.{length, getD}
 use lib.Dec.{eqb, leb, ltb}
 use Rattle.lists.proofs.Bool.{&&-left, &&-right}
 use Rattle.format.specs.declared.header.Header.{Header}
-use Rattle.process.specs.declared.record.Run.{Run}
+use Rattle.run_state.specs.declared.Run.{Run}
 use Rattle.process.specs.declared.record.Process.{Process}
-use Rattle.breakpoints.specs.declared.want.Want.the-variants.{Lifted, At}
+use Rattle.breakpoints.specs.declared.entry_query.EntryQuery.the-variants.{Lifted, At}
 use Rattle.process.specs.Record.{fresh, withVector}
 use Rattle.process.specs.Find.{find}
-use Rattle.breakpoints.specs.Entry.{placed}
-use Rattle.process.specs.Sound.{moving}
+use Rattle.breakpoints.specs.Entry.{validBreakAddress}
+use Rattle.run_state.specs.RunState.{moving, stoppedOrAtBreak, atBreak}
 use Rattle.process.specs.Local.{Local, Proper}
 use Rattle.process.specs.Planting.{plantedIn, liftedIn, removedFrom, replanted, liftedAt}
-use Rattle.process.specs.Request.{pc, onRecord, halted, atBreak, hasBreak, hasRoom, endDebugged, halt, resumed, stepped, proceeded, deposited, vectorDeposited, breakSet, breakRemoved, cleared, destroyed}
-use Rattle.process.specs.Report.{recorded, passes, passed, reported}
+use Rattle.process.specs.Request.{pc, onRecord, hasBreak, hasRoom, endDebugged, stopped, resumed, stepped, proceeded, deposited, vectorDeposited, breakSet, breakRemoved, cleared, destroyed}
+use Rattle.process.specs.declared.report.Verdict.{Verdict}
+use Rattle.process.specs.declared.report.Verdict.the-variants.{Stops, CountsDown}
+use Rattle.process.specs.Report.{storeVectorAndReplant, verdictOf, passed, carriedOut, reported}
 use Rattle.rules.specs.Rule.{Public, public, Rule, rules, noRule, debugRule, endDebugRule, examineRule, breakRule, unbreakRule, plain, whileRun, within, upTo, ruleOf}
 use Rattle.rules.specs.Isolation.{publicThen}
 use Rattle.rules.proofs.ProperLaws.{end-debug-proper, stop-proper, step-proper, proceed-proper, deposit-proper, break-proper, unbreak-proper, destroy-proper, host-proper, resume-proper, vector-proper}
@@ -85,10 +87,12 @@ unfolding liftedAt liftedIn public
 public-liftedAt at l = by-public (ltb (find (At at) (l .process)) 8) _ l _ refl refl
 
 pub public-reported : (kind : ℕ) (words : List ℕ) (l : Local) → public (reported kind words l .process) ≡ public (l .process)
-unfolding reported passed liftedIn recorded public
-public-reported kind words l =
-    by-public (passes kind (recorded words l .process)) _ _ _
-    (public-replanted (onRecord (withVector words) l)) (public-replanted (onRecord (withVector words) l))
+unfolding reported passed liftedIn storeVectorAndReplant public
+public-reported kind words l = go (verdictOf kind (storeVectorAndReplant words l .process))
+  where
+    go : (v : Verdict) → public (carriedOut v kind (storeVectorAndReplant words l) .process) ≡ public (l .process)
+    go Stops = public-replanted (onRecord (withVector words) l)
+    go (CountsDown k) = public-replanted (onRecord (withVector words) l)
 
 -- ---- rows that ask the right, and leave the public part
 
@@ -146,10 +150,10 @@ end-debug-row = record {
   publicly = λ h s l. refl;
 }
 
-stop-row : Row 3 (plain (λ h s. halt))
-unfolding halt public
+stop-row : Row 3 (plain (λ h s. stopped))
+unfolding stopped public
 stop-row =
-    quiet-row 3 (plain (λ h s. halt)) (by-others 3 refl refl refl) held
+    quiet-row 3 (plain (λ h s. stopped)) (by-others 3 refl refl refl) held
     (λ h s l. by-public (moving (l .process .run)) _ l _ (public-replanted l) refl)
     (λ h s l g p. stop-proper l g)
 
@@ -159,9 +163,9 @@ deposit-row =
     quiet-row 4 (within (upTo 4096) (λ h s. deposited (h .arg1) s)) (by-others 4 refl refl refl) held (λ h s l. refl)
     (λ h s l g p. deposit-proper l g (h .arg1) s (omega (arith, leb-true (h .arg1 + h .arg2) 4096 (p .range), p .carried)))
 
-resume-row : Row 5 (whileRun halted (λ h s. resumed))
+resume-row : Row 5 (whileRun stoppedOrAtBreak (λ h s. resumed))
 unfolding public
-resume-row = quiet-row 5 (whileRun halted (λ h s. resumed)) (by-others 5 refl refl refl) held (λ h s l. refl) (λ h s l g p. resume-proper l g)
+resume-row = quiet-row 5 (whileRun stoppedOrAtBreak (λ h s. resumed)) (by-others 5 refl refl refl) held (λ h s l. refl) (λ h s l g p. resume-proper l g)
 
 examine-row : Row 6 examineRule
 examine-row = quiet-row 6 examineRule (by-others 6 refl refl refl) held (λ h s l. refl) (λ h s l g p. g)
@@ -177,7 +181,7 @@ room-or true u e q = absurd (true≢false q)
 room-or false u e q = e
 
 break-row : Row 8 breakRule
-unfolding breakSet plantedIn public placed
+unfolding breakSet plantedIn public validBreakAddress
 break-row =
     quiet-row 8 breakRule (by-others 8 refl refl refl) held
     (λ h s l. by-public (hasBreak (h .arg1) (l .process)) _ _ _ refl refl)
@@ -192,10 +196,10 @@ unbreak-row : Row 9 unbreakRule
 unfolding breakRemoved removedFrom public
 unbreak-row = quiet-row 9 unbreakRule (by-others 9 refl refl refl) held (λ h s l. refl) (λ h s l g p. unbreak-proper l g (h .arg1) (p .found))
 
-step-row : Row 10 (whileRun halted (λ h s. stepped))
+step-row : Row 10 (whileRun stoppedOrAtBreak (λ h s. stepped))
 unfolding stepped public
 step-row =
-    quiet-row 10 (whileRun halted (λ h s. stepped)) (by-others 10 refl refl refl) held
+    quiet-row 10 (whileRun stoppedOrAtBreak (λ h s. stepped)) (by-others 10 refl refl refl) held
     (λ h s l. by-public (atBreak (l .process .run)) _ l _ (public-liftedAt (pc (l .process)) l) refl)
     (λ h s l g p. step-proper l g (p .runs))
 

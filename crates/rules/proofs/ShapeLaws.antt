@@ -3,28 +3,26 @@
 use mathlib.Core.Path.{_≡_, refl, _∙_}
 use mathlib.Core.Bool.{Bool, true, false, not, cond}
 use mathlib.Core.List.{List, [], _∷_}
-use Prim.Native.Nat.{ℕ, _+_, _<_}
+use Prim.Native.Nat.{ℕ, _<_}
 use borrow.Author.Tests.{eqb-true, lt-ltb}
 use lib.ListN.{length, set}
 use lib.Dec.{eqb, ltb}
-use Rattle.lists.specs.Buffer.{overlay}
-use Rattle.lists.specs.Word.{lowFirst}
-use Rattle.format.specs.declared.outcome.Outcome.the-variants.{Granted, Refused}
+use Rattle.format.specs.declared.outcome.Outcome.the-variants.{Refused}
 use Rattle.format.specs.Outcome.{test, firstFailing}
-use Rattle.format.specs.Layout.{written, headerOf}
-use Rattle.format.specs.Answer.{noticeOf}
+use Rattle.format.specs.Layout.{headerOf}
 use Rattle.process.specs.declared.record.Process.{Process}
 use Rattle.process.specs.Local.{Local, local}
-use Rattle.process.specs.Report.{accepts, reported}
+use Rattle.run_state.specs.RunState.{accepts}
+use Rattle.process.specs.Report.{reported, recipientOf}
 use Rattle.rules.specs.Rule.{names, creates}
 use Rattle.state.specs.Gateway.{lowestAbsent}
 use Rattle.rules.specs.Tests.{State, recordOf, askedTests, requestNumber, badReport, reportNumber}
-use Rattle.rules.specs.Step.{Answer, Stepped, answers, localOf, replied, grantedCreate, granted, refused, requested, told, notified, noted, stored}
+use Rattle.rules.specs.Step.{Answer, answers, localOf, replied, grantedCreate, granted, refused, requested, noticeTo, notified, noted, stored}
 use Rattle.rules.specs.Ready.{Ready}
 use Rattle.rules.proofs.ProperLaws.{report-proper, store-proper}
 use Rattle.rules.proofs.StateLaws.{local-proper, Changed, unchanged, put-changed}
 use Rattle.rules.proofs.NumberLaws.{envelope, number-staged, report-staged}
-use Rattle.rules.proofs.StepLaws.{by-test, report-zero}
+use Rattle.rules.proofs.StepLaws.{report-zero}
 
 -- ---- requests
 
@@ -82,9 +80,7 @@ awayNumber kind reason buffer = cond (ltb (length buffer) 266) 1 (cond (badRepor
 unfoldable pub reportSaid : ℕ → ℕ → ℕ → List ℕ → List ℕ → Local → Answer
 reportSaid p kind reason words buffer l =
     cond (eqb (reportTested kind reason buffer (l .process)) 0)
-    (cond (told kind words l)
-    (record { outcome = Granted (10 + length (lowFirst words)); buffer = overlay (written (noticeOf (l .process .host) kind p reason) (lowFirst words)) buffer })
-    (record { outcome = Granted 0; buffer = buffer }))
+    (noticeTo (recipientOf kind words l) p kind reason words buffer)
     (record { outcome = Refused (reportTested kind reason buffer (l .process)); buffer = buffer })
 
 -- what is left of the process
@@ -113,13 +109,12 @@ module _ (s : State) (r : Ready s) (p kind reason : ℕ) (words buffer : List �
 
   pub report-answer : p < 8 → noted p kind reason words buffer s .answer ≡ reportSaid p kind reason words buffer (localOf s p)
   unfolding noted notified reportSaid
-  report-answer low = go (eqb (reportTested kind reason buffer (recordOf s p)) 0) refl (told kind words (localOf s p)) refl
+  report-answer low = go (eqb (reportTested kind reason buffer (recordOf s p)) 0) refl
     where
-      go : (t : Bool) → eqb (reportTested kind reason buffer (recordOf s p)) 0 ≡ t → (u : Bool) → told kind words (localOf s p) ≡ u
+      go : (t : Bool) → eqb (reportTested kind reason buffer (recordOf s p)) 0 ≡ t
           → noted p kind reason words buffer s .answer ≡ reportSaid p kind reason words buffer (localOf s p)
-      go true e true i = rw (near-number low, e, i)
-      go true e false i = rw (near-number low, e, i)
-      go false e u i = rw (near-number low, e)
+      go true e = rw (near-number low, e)
+      go false e = rw (near-number low, e)
 
   pub report-changed : p < 8 → Changed s (noted p kind reason words buffer s .after) p (afterReport kind reason words buffer (localOf s p))
   unfolding noted notified afterReport
@@ -130,7 +125,7 @@ module _ (s : State) (r : Ready s) (p kind reason : ℕ) (words buffer : List �
       go true e =
           let z = report-zero s r p kind reason buffer (near-number low ∙ eqb-true _ 0 e) in
           let c = put-changed s r p low (reported kind words (localOf s p)) (report-proper (localOf s p) (local-proper s r p low) kind words (z .accepted)) in
-          rw (near-number low, e) (by-test (λ (x : Stepped). Changed s (x .after) p (reported kind words (localOf s p))) (told kind words (localOf s p)) (λ i. c) (λ i. c))
+          rw (near-number low, e) c
       go false e = rw (near-number low, e) (unchanged s p)
 
 -- ---- stores

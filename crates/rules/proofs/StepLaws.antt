@@ -15,11 +15,12 @@ use Rattle.format.proofs.OutcomeLaws.{first-passes, rest-passes}
 use Rattle.process.specs.declared.record.Process.{Process}
 use Rattle.process.specs.Local.{Proper}
 use Rattle.process.specs.Request.{created}
-use Rattle.process.specs.Report.{accepts, reported}
+use Rattle.run_state.specs.RunState.{accepts}
+use Rattle.process.specs.Report.{reported}
 use Rattle.rules.specs.Rule.{Rule, ruleOf, names, creates}
 use Rattle.state.specs.Gateway.{lowestAbsent}
 use Rattle.rules.specs.Tests.{State, recordOf, absent, ruleTests, askedTests, requestNumber, reportNumber}
-use Rattle.rules.specs.Step.{Stepped, localOf, put, grantedNamed, grantedCreate, granted, refused, requested, told, notified, noted, stored, Call, request, report, store, step}
+use Rattle.rules.specs.Step.{Stepped, localOf, put, grantedNamed, grantedCreate, granted, refused, requested, notified, noted, stored, Call, request, report, store, step}
 use Rattle.rules.specs.Ready.{Ready}
 use Rattle.rules.proofs.ProperLaws.{create-proper, report-proper, store-proper}
 use Rattle.rules.proofs.RuleLaws.{Passing, rule-row}
@@ -139,7 +140,7 @@ noted-ready s r p kind reason words buffer =
     let z = report-zero s r p kind reason buffer (eqb-true _ _ e) in
     let t : Ready (put p (reported kind words (localOf s p)) s) =
     put-ready s r p (z .low) (reported kind words (localOf s p)) (report-proper (localOf s p) (local-proper s r p (z .low)) kind words (z .accepted)) in
-    by-test Stays (told kind words (localOf s p)) (λ x. t) (λ x. t))
+    t)
     (λ e. r)
 
 pub stored-ready : (s : State) → Ready s → (p a v : ℕ) → Ready (stored p a v s)

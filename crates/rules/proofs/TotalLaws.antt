@@ -20,7 +20,7 @@ use Rattle.format.proofs.LayoutLaws.{length-written}
 use Rattle.process.specs.Local.{Local}
 use Rattle.rules.specs.Rule.{names, creates}
 use Rattle.rules.specs.Tests.{State, askedTests, requestTests, requestNumber, reportTests, reportNumber}
-use Rattle.rules.specs.Step.{Stepped, localOf, replied, grantedNamed, grantedCreate, granted, refused, requested, told, notified, noted}
+use Rattle.rules.specs.Step.{Answer, Stepped, localOf, replied, grantedNamed, grantedCreate, granted, refused, requested, told, noticeTo, notified, noted}
 use Rattle.rules.specs.Isolation.{isGranted}
 use Rattle.rules.specs.Total.{First, reportNumbers, cantOver, Total}
 use Rattle.rules.proofs.StepLaws.{by-test, step-ready}
@@ -139,12 +139,12 @@ request-past s m buffer n =
 
 module _ (s : State) (p kind reason : ℕ) (words buffer : List ℕ) where
   notified-is : (l : Local) (t : State) → isGranted (notified p kind reason words buffer l t .answer .outcome) ≡ true
-  unfolding notified isGranted
-  notified-is l t = by-test (λ (x : Stepped). isGranted (x .answer .outcome) ≡ true) (told kind words l) (λ e. refl) (λ e. refl)
+  unfolding notified noticeTo isGranted
+  notified-is l t = by-test (λ (x : Answer). isGranted (x .outcome) ≡ true) (told kind words l) (λ e. refl) (λ e. refl)
 
   notified-zero : (l : Local) (t : State) → numberOf (notified p kind reason words buffer l t .answer .outcome) ≡ 0
-  unfolding notified numberOf
-  notified-zero l t = by-test (λ (x : Stepped). numberOf (x .answer .outcome) ≡ 0) (told kind words l) (λ e. refl) (λ e. refl)
+  unfolding notified noticeTo numberOf
+  notified-zero l t = by-test (λ (x : Answer). numberOf (x .outcome) ≡ 0) (told kind words l) (λ e. refl) (λ e. refl)
 
   report-is : numberOf (noted p kind reason words buffer s .answer .outcome) ≡ reportNumber s p kind reason buffer
   unfolding noted numberOf
@@ -171,14 +171,17 @@ module _ (s : State) (p kind reason : ℕ) (words buffer : List ℕ) where
       (λ e i. absurd (true≢false (sym (notified-is _ _) ∙ ap isGranted i))) (λ e i. refl)
 
   report-past : (n : ℕ) → noted p kind reason words buffer s .answer .outcome ≡ Granted n → drop n (noted p kind reason words buffer s .answer .buffer) ≡ drop n buffer
-  unfolding noted notified isGranted
+  unfolding noted notified noticeTo isGranted
   report-past n =
       by-test Past (eqb (reportNumber s p kind reason buffer) 0)
-      (λ e. by-test Past (told kind words (localOf s p)) (λ i. replied-past _ (lowFirst words) buffer s n) (λ i j. refl))
+      (λ e. by-test PastAnswer (told kind words (localOf s p)) (λ i. replied-past _ (lowFirst words) buffer s n) (λ i j. refl))
       (λ e i. absurd (true≢false (sym (ap isGranted i))))
     where
+      PastAnswer : Answer → Type 0
+      PastAnswer x = x .outcome ≡ Granted n → drop n (x .buffer) ≡ drop n buffer
+
       Past : Stepped → Type 0
-      Past x = x .answer .outcome ≡ Granted n → drop n (x .answer .buffer) ≡ drop n buffer
+      Past x = PastAnswer (x .answer)
 
 report-granted : (s : State) (p kind reason : ℕ) (words buffer : List ℕ) → numberOf (noted p kind reason words buffer s .answer .outcome) ≡ 0
     → isGranted (noted p kind reason words buffer s .answer .outcome) ≡ true

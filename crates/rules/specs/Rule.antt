@@ -6,11 +6,12 @@ use lib.ListN.{getD}
 use lib.Dec.{eqb, leb}
 use Rattle.format.specs.declared.header.Header.{Header}
 use Rattle.ops.specs.Table.{op, asks}
-use Rattle.process.specs.declared.record.Run.{Run}
+use Rattle.run_state.specs.declared.Run.{Run}
 use Rattle.process.specs.declared.record.Process.{Process}
-use Rattle.breakpoints.specs.Entry.{placed}
+use Rattle.breakpoints.specs.Entry.{validBreakAddress}
 use Rattle.process.specs.Local.{Local}
-use Rattle.process.specs.Request.{halted, atBreak, hasBreak, hasRoom, debugged, endDebugged, halt, resumed, stepped, proceeded, examined, deposited, vectorDeposited, breakSet, breakRemoved, destroyed}
+use Rattle.run_state.specs.RunState.{stoppedOrAtBreak, atBreak}
+use Rattle.process.specs.Request.{hasBreak, hasRoom, debugged, endDebugged, stopped, resumed, stepped, proceeded, examined, deposited, vectorDeposited, breakSet, breakRemoved, destroyed}
 
 -- all that anyone may know of a process: 'which processes are there, who debugs each'
 pub record Public : Type 0 where
@@ -119,7 +120,7 @@ abbrev pub breakRule : Rule
 breakRule = record {
   right = holds;
   runs = λ r. true;
-  range = λ h. placed (h .arg1);
+  range = λ h. validBreakAddress (h .arg1);
   room = λ a p. hasBreak a p || hasRoom p;
   found = λ a p. true;
   effect = λ h s. breakSet (h .arg1) (h .arg2);
@@ -148,14 +149,14 @@ rules =
     noRule  -- 0 NOP
     ∷ debugRule  -- 1 DEBUG
     ∷ endDebugRule  -- 2 END DEBUG
-    ∷ plain (λ h s. halt)  -- 3 STOP
+    ∷ plain (λ h s. stopped)  -- 3 STOP
     ∷ within (upTo 4096) (λ h s. deposited (h .arg1) s)  -- 4 DEPOSIT
-    ∷ whileRun halted (λ h s. resumed)  -- 5 RESUME
+    ∷ whileRun stoppedOrAtBreak (λ h s. resumed)  -- 5 RESUME
     ∷ examineRule  -- 6 EXAMINE
     ∷ within (upTo 18) (λ h s. vectorDeposited (h .arg1) s)  -- 7 DEPOSIT STATE VECTOR
     ∷ breakRule  -- 8 BREAK
     ∷ unbreakRule  -- 9 UNBREAK
-    ∷ whileRun halted (λ h s. stepped)  -- 10 SINGLE STEP
+    ∷ whileRun stoppedOrAtBreak (λ h s. stepped)  -- 10 SINGLE STEP
     ∷ whileRun atBreak (λ h s. proceeded)  -- 11 PROCEED BPT
     ∷ noRule  -- 12 CREATE PROCESS
     ∷ plain (λ h s. destroyed)  -- 13 DESTROY PROCESS

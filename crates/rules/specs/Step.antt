@@ -1,5 +1,5 @@
 -- One call: what is answered, and state, memory and output buffer after it.
-use mathlib.Core.Bool.{Bool, not, cond, _&&_}
+use mathlib.Core.Bool.{Bool, not, cond}
 use mathlib.Core.List.{List, []}
 use Prim.Native.Nat.{ℕ, _+_}
 use lib.ListN.{length, set}
@@ -13,7 +13,7 @@ use Rattle.format.specs.Layout.{written, headerOf, stringOf}
 use Rattle.format.specs.Answer.{cantOf, createdOf, noticeOf}
 use Rattle.process.specs.Local.{Local, local}
 use Rattle.process.specs.Request.{created}
-use Rattle.process.specs.Report.{recorded, passes, reported}
+use Rattle.process.specs.Report.{reported, recipientOf}
 use Rattle.state.specs.Gateway.{withProcess}
 use Rattle.state.specs.Slot.{slot, withSlot}
 use Rattle.rules.specs.Rule.{ruleOf, names, creates}
@@ -77,15 +77,19 @@ requested m buffer s =
     cond (eqb (requestNumber s m buffer) 0) (granted (headerOf m) (stringOf m) buffer s)
     (refused (requestNumber s m buffer) (headerOf m) buffer s)
 
--- a notice 'goes to the host debugging it, if any', unless the breakpoint is passed silently
-unfoldable pub told : ℕ → List ℕ → Local → Bool
-told kind words l = not (eqb (l .process .host) 0) && not (passes kind (recorded words l .process))
+-- somebody is told of a report
+abbrev pub told : ℕ → List ℕ → Local → Bool
+told kind words l = not (eqb (recipientOf kind words l) 0)
 
--- the notice of an accepted report, or nothing
+-- the notice of an accepted report to this host, or nothing where it is nobody
+unfoldable pub noticeTo : ℕ → ℕ → ℕ → ℕ → List ℕ → List ℕ → Answer
+noticeTo host p kind reason words buffer =
+    cond (not (eqb host 0)) (replyOf (noticeOf host kind p reason) (lowFirst words) buffer) (record { outcome = Granted 0; buffer = buffer })
+
+-- an accepted report tells the host that it has to tell, if any, and leaves this state
 unfoldable pub notified : ℕ → ℕ → ℕ → List ℕ → List ℕ → Local → State → Stepped
 notified p kind reason words buffer l s =
-    cond (told kind words l) (replied (noticeOf (l .process .host) kind p reason) (lowFirst words) buffer s)
-    (answers (Granted 0) buffer s)
+    record { answer = noticeTo (recipientOf kind words l) p kind reason words buffer; after = s }
 
 -- a machine report, with its notice buffer; 'a refused one writes nothing at all'
 unfoldable pub noted : ℕ → ℕ → ℕ → List ℕ → List ℕ → State → Stepped

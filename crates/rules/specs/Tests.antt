@@ -10,7 +10,8 @@ use Rattle.ops.specs.Table.{requestForm}
 use Rattle.format.specs.Layout.{headerOf, fixedRight}
 use Rattle.format.specs.Refusal.{layoutTests}
 use Rattle.process.specs.declared.record.Process.{Process}
-use Rattle.process.specs.Report.{accepts}
+use Rattle.run_state.specs.ReportKind.{TRAP, TTRAP}
+use Rattle.run_state.specs.RunState.{accepts}
 use Rattle.state.specs.declared.gateway.Gateway.{Gateway}
 use Rattle.state.specs.Gateway.{processAt, lowestAbsent, soundTest}
 use Rattle.rules.specs.Rule.{Rule, public, ruleOf, names, creates}
@@ -70,7 +71,7 @@ requestNumber s m buffer = firstFailing (requestTests s m buffer)
 
 -- 14: 'report of kind over 3, or a reason not 0 with a kind that isn't TRAP'
 abbrev pub badReport : ℕ → ℕ → Bool
-badReport kind reason = ltb 3 kind || (not (eqb reason 0) && not (eqb kind 0))
+badReport kind reason = ltb TTRAP kind || (not (eqb reason 0) && not (eqb kind TRAP))
 
 -- 'A report is tested by 1, 2, 14, 7, 9 in that order'
 abbrev pub reportTests : State → ℕ → ℕ → ℕ → List ℕ → List Test

@@ -10,9 +10,9 @@ use Rattle.format.specs.declared.header.Header.{Header}
 use Rattle.format.specs.Outcome.{firstFailing}
 use Rattle.format.proofs.OutcomeLaws.{first-passes, rest-passes}
 use Rattle.process.specs.declared.record.Process.{Process}
-use Rattle.breakpoints.specs.declared.want.Want.the-variants.{At}
+use Rattle.breakpoints.specs.declared.entry_query.EntryQuery.the-variants.{At}
 use Rattle.process.specs.Find.{find}
-use Rattle.breakpoints.specs.Entry.{placed}
+use Rattle.breakpoints.specs.Entry.{validBreakAddress}
 use Rattle.process.specs.Request.{hasBreak, entryFor}
 use Rattle.process.proofs.EntryLaws.{entry-low}
 use Rattle.rules.specs.Rule.{Rule, ruleOf}
@@ -41,7 +41,7 @@ module _ (h : Header) (p : Process) (e : firstFailing (ruleTests (ruleOf (h .cmd
   vector-within n op short = omega (arith, leb-true (h .arg1 + h .arg2) 18 (rw op at (rule-range (ruleOf (h .cmd)) h p e)), short)
 
   pub break-within : h .cmd ≡ 8 → h .arg1 + 1 < 4096
-  unfolding ruleOf placed
+  unfolding ruleOf validBreakAddress
   break-within op =
       let range = rw op at (rule-range (ruleOf (h .cmd)) h p e) in
       omega (arith, leb-true (h .arg1) 4094 (&&-right (eqb (h .arg1 % 2) 0) (leb (h .arg1) 4094) range))

@@ -4,20 +4,20 @@ use mathlib.Core.List.{List, [], _∷_}
 use Prim.Native.Nat.{ℕ, zero, suc}
 use lib.Dec.{eqb, ltb}
 use Rattle.lists.specs.Buffer.{overlay}
-use Rattle.lists.specs.Word.{lowFirst}
 use Rattle.format.specs.declared.header.Header.{Header}
 use Rattle.format.specs.declared.outcome.Outcome.{Outcome}
-use Rattle.format.specs.declared.outcome.Outcome.the-variants.{Granted, Refused}
+use Rattle.format.specs.declared.outcome.Outcome.the-variants.{Refused}
 use Rattle.format.specs.Outcome.{test, firstFailing}
 use Rattle.format.specs.Layout.{written}
-use Rattle.format.specs.Answer.{cantOf, createdOf, noticeOf}
+use Rattle.format.specs.Answer.{cantOf, createdOf}
 use Rattle.process.specs.declared.record.Process.{Process}
 use Rattle.process.specs.Local.{Local, local}
 use Rattle.process.specs.Request.{created}
-use Rattle.process.specs.Report.{accepts, recorded, passes, reported}
+use Rattle.run_state.specs.RunState.{accepts}
+use Rattle.process.specs.Report.{reported, recipientOf}
 use Rattle.rules.specs.Rule.{ruleOf, creates}
 use Rattle.rules.specs.Tests.{badReport}
-use Rattle.rules.specs.Step.{Answer, replyOf}
+use Rattle.rules.specs.Step.{Answer, replyOf, noticeTo}
 use Rattle.tasks.specs.Task.{processTests}
 use Rattle.ops.specs.Codes.{EXAMINE}
 use Rattle.ops.specs.declared.table.Form.{Form}
@@ -75,16 +75,10 @@ createdAt p h buffer = leaving (replyOf (createdOf h p) [] buffer) (created (h .
 unfoldable pub reportAway : ℕ → ℕ → ℕ → ℕ
 reportAway p kind reason = firstFailing (test 14 (badReport kind reason) ∷ test 7 (not (ltb p 8)) ∷ [])
 
--- a notice 'goes to the host debugging it, if any', unless the report is silent
-unfoldable pub noticeOr : ℕ → Bool → ℕ → ℕ → ℕ → List ℕ → List ℕ → Answer
-noticeOr host silent process kind reason words buffer =
-    cond (not (eqb host 0) && not silent) (replyOf (noticeOf host kind process reason) (lowFirst words) buffer)
-    (answer (Granted 0) buffer)
-
 -- a report about process p, by the number of its tests; 'a refused one writes nothing at all'
 unfoldable pub reportBy : ℕ → ℕ → ℕ → ℕ → List ℕ → List ℕ → Local → Left
 reportBy zero p kind reason words buffer l =
-    leaving (noticeOr (l .process .host) (passes kind (recorded words l .process)) p kind reason words buffer) (reported kind words l)
+    leaving (noticeTo (recipientOf kind words l) p kind reason words buffer) (reported kind words l)
 reportBy (suc n) p kind reason words buffer l = leaving (answer (Refused (suc n)) buffer) l
 
 -- the tests 7 and 9 of a process whose number is under 8

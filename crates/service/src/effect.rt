@@ -52,7 +52,7 @@ pub(crate) fn perform(h: Header, k: usize, p: Process, bytes: &mut [u8], string:
         UNBREAK => p.remove_from(k, bytes),
         SINGLE_STEP => p.single_step(bytes),
         PROCEED => p.proceed(bytes),
-        DESTROY => Process::cleared(),
+        DESTROY => p.destroy(),
         _ => p,
     }
 }

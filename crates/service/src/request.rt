@@ -67,16 +67,22 @@ pub fn answer_for_process(
 }
 
 // CREATE, of the process with this number.
-pub fn answer_create(h: Header, pid: usize, bytes: &mut [u8], reply: &mut [u8]) -> Served
+pub fn answer_create(
+    h: Header,
+    pid: usize,
+    process: Process,
+    bytes: &mut [u8],
+    reply: &mut [u8],
+) -> Served
     requires { ⌜ pid < 8 ⌝ }
     requires { ⌜ length (now bytes) ≡ 4096 ⌝ }
     requires { ⌜ MESSAGE-BYTES ≤ length (now reply) ⌝ }
     ensures { λ r. ⌜ served (r .outcome) (r .process) (now (bytes .exit)) (now (reply .exit)) ≡ createdAt pid h (now (reply .entry)) ⌝ }
 {
-    let process = Process::create(h.host, bytes);
+    let created = process.create(h.host, bytes);
     let outcome = reply_plain(h.created(pid as u8), reply);
     Served {
         outcome: outcome,
-        process: process,
+        process: created,
     }
 }

@@ -7,7 +7,7 @@ use native.Mathlib.Nat.{not-suc-le-zero}
 use native.Mathlib.Omega.{arith}
 use lib.ListN.{length, getD}
 use Rattle.lists.proofs.Every.{below-at, below-all}
-use Rattle.process.specs.declared.record.Run.the-variants.{Running}
+use Rattle.run_state.specs.declared.Run.the-variants.{Running}
 use Rattle.process.specs.Record.{fresh}
 use Rattle.process.specs.Sound.{Sound}
 use Rattle.process.specs.Sound.{soundTest as soundProcess}

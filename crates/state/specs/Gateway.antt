@@ -6,7 +6,7 @@ use lib.ListN.{getD, set}
 use Rattle.lists.specs.Every.{below}
 use Rattle.lists.specs.First.{first}
 use Rattle.process.specs.declared.record.Process.{Process}
-use Rattle.process.specs.declared.record.Run.the-variants.{Running}
+use Rattle.run_state.specs.declared.Run.the-variants.{Running}
 use Rattle.process.specs.Record.{fresh}
 use Rattle.process.specs.Sound.{Sound}
 use Rattle.process.specs.Sound.{soundTest as soundProcess}

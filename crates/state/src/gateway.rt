@@ -1,6 +1,6 @@
 // The eight process records.
 use process::Process;
-use process::Run;
+use run_state::Run;
 ghost use mathlib.Core.Path.{_≡_};
 ghost use Prim.Native.Nat.{_<_};
 ghost use Rattle.state.specs.Gateway.{processAt, withProcess, lowestAbsent, soundTest, freshStart};

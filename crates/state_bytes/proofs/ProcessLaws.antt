@@ -16,19 +16,20 @@ use Rattle.lists.specs.Word.{lowFirst, vectorOf}
 use Rattle.lists.proofs.Bool.{&&-left, &&-right, &&-pairs}
 use Rattle.lists.proofs.Elements.{take-elements}
 use Rattle.lists.proofs.Word.{word-high-low, high-word, low-word, length-lowFirst}
-use Rattle.process.specs.declared.record.Run.{Run}
-use Rattle.process.specs.declared.record.Run.the-variants.{Running, Stepping, Stopped, AtBreak, Ended}
+use Rattle.run_state.specs.declared.Run.{Run}
+use Rattle.run_state.specs.declared.Run.the-variants.{Running, Stepping, Stopped, AtBreak, Ended}
 use Rattle.process.specs.declared.record.Process.{Process}
-use Rattle.process.specs.Record.{runNumber, noBreaks}
-use Rattle.process.specs.Sound.{hosted, entrySound}
+use Rattle.run_state.specs.RunState.{isRunNumber, runNumber, runOf}
+use Rattle.run_state.proofs.RunLaws.{run-back, run-formed, run-forth}
+use Rattle.process.specs.Record.{noBreaks}
+use Rattle.process.specs.Sound.{absentHasNoHost, entrySound}
 use Rattle.process.specs.Sound.{soundTest as soundProcess}
 use Rattle.breakpoints.specs.Entry.{free}
 use Rattle.state_bytes.specs.Chunk.{chunks, everyChunk}
 use Rattle.state_bytes.specs.Entry.{entryBytes, entryOf, entryFormed, entriesBits, flagsFormed}
-use Rattle.state_bytes.specs.Form.{runOf}
 use Rattle.state_bytes.specs.Number.{flagOf}
 use Rattle.state_bytes.specs.Process.{headBytes, processBytes, processOf, headFormed, processFormed, headSound, processPlain, processSound}
-use Rattle.state_bytes.specs.Widths.{entryCount, entryWidth, thereAt, hostAt, runAt, headWidth, lastRun, vectorAt, vectorWidth, entriesAt, entriesWidth, processWidth}
+use Rattle.state_bytes.specs.Widths.{entryCount, entryWidth, thereAt, hostAt, runAt, headWidth, vectorAt, vectorWidth, entriesAt, entriesWidth, processWidth}
 use Rattle.state_bytes.proofs.ChunkLaws.{bytes-take, bytes-drop, length-joined, chunks-joined, every-joined, joined-chunks, chunks-same, every-weaker}
 use Rattle.state_bytes.proofs.EntryLaws.{&&-true, length-entryBytes, entry-back, entry-formed, entry-forth, entryZero, zero-bits, flags-bits, zero-free, zero-formed}
 use Rattle.state_bytes.proofs.NumberLaws.{flag-back, flag-formed, flag-forth, by-elements}
@@ -47,30 +48,6 @@ unfolding processBytes
 process-parts p = append-assoc (headBytes p) (lowFirst (p .vector)) (joined entryBytes (p .breaks))
 
 -- ---- run states and words
-
-run-back : (r : Run) → runOf (runNumber r) ≡ r
-unfolding runOf
-run-back Running = refl
-run-back Stepping = refl
-run-back Stopped = refl
-run-back AtBreak = refl
-run-back Ended = refl
-
-run-formed : (r : Run) → leb (runNumber r) lastRun ≡ true
-run-formed Running = refl
-run-formed Stepping = refl
-run-formed Stopped = refl
-run-formed AtBreak = refl
-run-formed Ended = refl
-
-run-forth : (x : ℕ) → leb x lastRun ≡ true → runNumber (runOf x) ≡ x
-unfolding runOf
-run-forth zero e = refl
-run-forth (suc zero) e = refl
-run-forth (suc (suc zero)) e = refl
-run-forth (suc (suc (suc zero))) e = refl
-run-forth (suc (suc (suc (suc zero)))) e = refl
-run-forth (suc (suc (suc (suc (suc x))))) e = absurd (omega (arith, leb-true (suc (suc (suc (suc (suc x))))) lastRun e))
 
 vector-back : (v : List ℕ) → length v ≡ 9 → vectorOf (lowFirst v) ≡ v
 unfolding vectorOf lowFirst
@@ -114,7 +91,7 @@ pub process-forth : (m : List ℕ) → length m ≡ processWidth → Bytes m →
 unfolding processBytes processOf processFormed headFormed
 process-forth m size b e =
     let there = leb (getD m thereAt 0) 1 in
-    let run = leb (getD m runAt 0) lastRun in
+    let run = isRunNumber (getD m runAt 0) in
     let head = &&-left (there && run) _ e in
     let entries = &&-right (there && run) (everyChunk entryWidth entryFormed entryCount (drop entriesAt m)) e in
     let after : length (drop vectorAt m) ≡ vectorWidth + entriesWidth = simp length-drop (omega (arith, size)) in
@@ -156,14 +133,14 @@ module _ (m : List ℕ) where
   abbrev bits : ℕ
   bits = entriesBits (drop entriesAt m)
 
-  head-sound : headSound m ≡ headFormed m && hosted (processOf m)
-  unfolding headSound headFormed hosted processOf
-  head-sound = head-both (getD m thereAt 0) (getD m hostAt 0) (leb (getD m runAt 0) lastRun)
+  head-sound : headSound m ≡ headFormed m && absentHasNoHost (processOf m)
+  unfolding headSound headFormed absentHasNoHost processOf
+  head-sound = head-both (getD m thereAt 0) (getD m hostAt 0) (isRunNumber (getD m runAt 0))
 
   -- head, flags and entries, each by itself
   by-parts : processSound m ≡ headSound m && (flags && below (entrySound (processOf m)) entryCount)
   unfolding processSound processFormed soundProcess
-  by-parts = rw head-sound (&&-pairs (headFormed m) flags (hosted (processOf m)) (below (entrySound (processOf m)) entryCount))
+  by-parts = rw head-sound (&&-pairs (headFormed m) flags (absentHasNoHost (processOf m)) (below (entrySound (processOf m)) entryCount))
 
   pub head-fails : headSound m ≡ false → processSound m ≡ false
   head-fails h = rw (by-parts, h)

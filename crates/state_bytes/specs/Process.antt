@@ -8,13 +8,12 @@ use Rattle.lists.specs.Flag.{flag}
 use Rattle.lists.specs.Joined.{joined}
 use Rattle.lists.specs.Word.{lowFirst, vectorOf}
 use Rattle.process.specs.declared.record.Process.{Process}
-use Rattle.process.specs.Record.{runNumber}
+use Rattle.run_state.specs.RunState.{runNumber, isRunNumber, runOf}
 use Rattle.process.specs.Sound.{soundTest as soundProcess}
 use Rattle.state_bytes.specs.Chunk.{chunks, everyChunk}
 use Rattle.state_bytes.specs.Entry.{entryBytes, entryOf, entryFormed, entriesBits}
-use Rattle.state_bytes.specs.Form.{runOf}
 use Rattle.state_bytes.specs.Number.{flagOf}
-use Rattle.state_bytes.specs.Widths.{entryCount, entryWidth, thereAt, hostAt, runAt, lastRun, vectorAt, vectorWidth, entriesAt}
+use Rattle.state_bytes.specs.Widths.{entryCount, entryWidth, thereAt, hostAt, runAt, vectorAt, vectorWidth, entriesAt}
 
 -- there, host, run state
 abbrev pub headBytes : Process → List ℕ
@@ -38,7 +37,7 @@ processOf m = record {
 
 -- the flag is 0 or 1, and the run state one of the five
 unfoldable pub headFormed : List ℕ → Bool
-headFormed m = leb (getD m thereAt 0) 1 && leb (getD m runAt 0) lastRun
+headFormed m = leb (getD m thereAt 0) 1 && isRunNumber (getD m runAt 0)
 
 -- head and entries are
 unfoldable pub processFormed : List ℕ → Bool
@@ -48,7 +47,7 @@ processFormed m = headFormed m && everyChunk entryWidth entryFormed entryCount (
 
 -- the run state is one of the five, and the process is there, or absent with no host
 unfoldable pub headSound : List ℕ → Bool
-headSound m = leb (getD m runAt 0) lastRun && (eqb (getD m thereAt 0) 1 || (eqb (getD m thereAt 0) 0 && eqb (getD m hostAt 0) 0))
+headSound m = isRunNumber (getD m runAt 0) && (eqb (getD m thereAt 0) 1 || (eqb (getD m thereAt 0) 0 && eqb (getD m hostAt 0) 0))
 
 -- a sound head, and no breakpoints
 unfoldable pub processPlain : List ℕ → Bool

@@ -33,10 +33,6 @@ runAt = 2
 abbrev pub headWidth : ℕ
 headWidth = 3
 
--- the highest number of a run state
-abbrev pub lastRun : ℕ
-lastRun = 4
-
 -- ---- a process
 
 -- the nine words lie after the head

@@ -12,7 +12,6 @@
 //             4, 5     remaining count
 //             6, 7     the saved word, as it stood in memory
 mod entry;
-mod head;
 mod number;
 mod place;
 mod process_form;

@@ -1,14 +1,14 @@
 // The bytes of a process: its head, the nine words, the eight entries.
 use crate::entry::put_entries;
 use crate::entry::read_entries;
-use crate::head::run_of;
 use crate::widths::ENTRIES_AT;
 use crate::widths::HOST_AT;
-use crate::widths::LAST_RUN;
 use crate::widths::RUN_AT;
 use crate::widths::THERE_AT;
 use crate::widths::VECTOR_AT;
 use process::Process;
+use run_state::is_run_number;
+use run_state::run_of;
 use words::flag;
 use words::vector_bytes;
 use words::word_of;
@@ -94,7 +94,7 @@ pub(crate) fn head_sound(bytes: &[u8]) -> bool
     requires { ⌜ headWidth ≤ length (now bytes) ⌝ }
     ensures { λ r. ⌜ r ≡ headSound (now (bytes .entry)) ⌝ }
 {
-    if bytes[RUN_AT] > LAST_RUN {
+    if !is_run_number(bytes[RUN_AT]) {
         return false;
     }
     if bytes[THERE_AT] == 1 {

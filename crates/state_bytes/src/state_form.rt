@@ -3,7 +3,7 @@ use crate::process_form::put_process;
 use crate::widths::PROCESS_BYTES;
 use crate::widths::PROCESS_COUNT;
 use process::Process;
-use process::Run;
+use run_state::Run;
 ghost use mathlib.Core.Path.{_≡_};
 ghost use lib.ListN.{length};
 ghost use Rattle.state.specs.Gateway.{freshStart};

@@ -16,9 +16,6 @@ pub(crate) const RUN_AT: usize = 2;
 
 pub(crate) const HEAD_BYTES: usize = 3;
 
-// The highest number of a run state.
-pub(crate) const LAST_RUN: u8 = 4;
-
 // A process.
 pub(crate) const VECTOR_AT: usize = HEAD_BYTES;
 

@@ -8,11 +8,12 @@ use borrow.Author.Tests.{ne-eqb}
 use lib.ListN.{getD}
 use lib.Dec.{eqb, leb}
 use Rattle.format.specs.declared.header.Header.{Header}
-use Rattle.process.specs.declared.record.Run.{Run}
+use Rattle.run_state.specs.declared.Run.{Run}
 use Rattle.process.specs.declared.record.Process.{Process}
-use Rattle.breakpoints.specs.Entry.{placed}
+use Rattle.breakpoints.specs.Entry.{validBreakAddress}
 use Rattle.process.specs.Local.{Local}
-use Rattle.process.specs.Request.{halted, atBreak, hasBreak, hasRoom, examined}
+use Rattle.run_state.specs.RunState.{stoppedOrAtBreak, atBreak}
+use Rattle.process.specs.Request.{hasBreak, hasRoom, examined}
 use Rattle.rules.specs.Rule.{Public, Rule, rules, noRule, ruleOf}
 
 -- the op codes that do something to the process that they name
@@ -23,11 +24,11 @@ acts cmd =
 -- a rule as the code asks for it, by its op code
 pub record Coded (cmd : ℕ) (r : Rule) : Type 0 where
   pub right : (u : Public) (asker : ℕ) → r .right u asker ≡ cond (eqb cmd 1) (eqb (u .host) 0 || eqb (u .host) asker) (eqb (u .host) asker)
-  pub runs : (x : Run) → r .runs x ≡ cond (eqb cmd 5) (halted x) (cond (eqb cmd 10) (halted x) (cond (eqb cmd 11) (atBreak x) true))
+  pub runs : (x : Run) → r .runs x ≡ cond (eqb cmd 5) (stoppedOrAtBreak x) (cond (eqb cmd 10) (stoppedOrAtBreak x) (cond (eqb cmd 11) (atBreak x) true))
   pub range : (h : Header) → r .range h
       ≡ cond (eqb cmd 4) (leb (h .arg1 + h .arg2) 4096)
       (cond (eqb cmd 6) (leb (h .arg1 + h .arg2) 4096 && leb (h .arg2) 256)
-      (cond (eqb cmd 7) (leb (h .arg1 + h .arg2) 18) (cond (eqb cmd 8) (placed (h .arg1)) true)))
+      (cond (eqb cmd 7) (leb (h .arg1 + h .arg2) 18) (cond (eqb cmd 8) (validBreakAddress (h .arg1)) true)))
   pub room : (a : ℕ) (p : Process) → r .room a p ≡ cond (eqb cmd 8) (hasBreak a p || hasRoom p) true
   pub found : (a : ℕ) (p : Process) → r .found a p ≡ cond (eqb cmd 9) (hasBreak a p) true
   pub shown : (h : Header) (l : Local) → r .shown h l ≡ cond (eqb cmd 6) (examined (h .arg1) (h .arg2) l) []

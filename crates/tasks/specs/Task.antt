@@ -7,7 +7,7 @@ use Rattle.ops.specs.Codes.{BREAK, UNBREAK}
 use Rattle.format.specs.declared.header.Header.{Header}
 use Rattle.format.specs.Outcome.{Test, test, firstFailing}
 use Rattle.process.specs.declared.record.Process.{Process}
-use Rattle.breakpoints.specs.declared.want.Want.the-variants.{At}
+use Rattle.breakpoints.specs.declared.entry_query.EntryQuery.the-variants.{At}
 use Rattle.process.specs.Find.{find}
 use Rattle.process.specs.Request.{entryFor}
 use Rattle.rules.specs.Rule.{ruleOf}

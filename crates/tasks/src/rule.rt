@@ -1,7 +1,7 @@
 // The tests 8 to 12 of a request that names a process, by its op code.
 use crate::task::Task;
-use breakpoints::Want;
-use breakpoints::placed;
+use breakpoints::EntryQuery;
+use breakpoints::valid_break_address;
 use format::Header;
 use ops::BREAK;
 use ops::DEBUG;
@@ -12,8 +12,11 @@ use ops::PROCEED;
 use ops::RESUME;
 use ops::SINGLE_STEP;
 use ops::UNBREAK;
+use process::FoundEntry;
+use process::MEMORY_BYTES;
 use process::Process;
-use process::Run;
+use process::VECTOR_BYTES;
+use run_state::Run;
 ghost use mathlib.Core.Path.{_≡_};
 ghost use mathlib.Core.Bool.{_&&_};
 ghost use lib.Dec.{leb};
@@ -36,10 +39,10 @@ fn runs(cmd: u8, run: Run) -> bool
     ensures { λ r. ⌜ r ≡ ruleOf cmd .runs run ⌝ }
 {
     if cmd == RESUME {
-        return run.halted();
+        return run.stopped_or_at_break();
     }
     if cmd == SINGLE_STEP {
-        return run.halted();
+        return run.stopped_or_at_break();
     }
     if cmd == PROCEED {
         return run.at_break();
@@ -51,7 +54,7 @@ fn runs(cmd: u8, run: Run) -> bool
 fn readable(end: usize, count: u16) -> bool
     ensures { λ r. ⌜ r ≡ leb end 4096 && leb count 256 ⌝ }
 {
-    end <= 4096 && count <= 256
+    end <= MEMORY_BYTES && count <= 256
 }
 
 // 10: what is asked for lies inside memory or vector.
@@ -62,16 +65,16 @@ fn range(h: Header) -> bool
     let arg2 = h.arg2;
     let end = arg1 as usize + arg2 as usize;
     if h.cmd == DEPOSIT {
-        return end <= 4096;
+        return end <= MEMORY_BYTES;
     }
     if h.cmd == EXAMINE {
         return readable(end, arg2);
     }
     if h.cmd == DEPOSIT_VECTOR {
-        return end <= 18;
+        return end <= VECTOR_BYTES;
     }
     if h.cmd == BREAK {
-        return placed(arg1);
+        return valid_break_address(arg1);
     }
     true
 }
@@ -80,22 +83,22 @@ fn range(h: Header) -> bool
 fn break_task(a: u16, p: Process) -> Task
     ensures { λ r. ⌜ r ≡ entryTask BREAK a p ⌝ }
 {
-    let k = p.entry_for(a);
-    if k < 8 {
-        return Task::Change(k);
+    let found = p.entry_for(a);
+    match found {
+        FoundEntry::Index(k) => Task::Change(k),
+        FoundEntry::Nowhere => Task::Refuse(11),
     }
-    Task::Refuse(11)
 }
 
 // 12: there is a breakpoint to remove.
 fn unbreak_task(a: u16, p: Process) -> Task
     ensures { λ r. ⌜ r ≡ entryTask UNBREAK a p ⌝ }
 {
-    let k = p.find(Want::At(a));
-    if k < 8 {
-        return Task::Change(k);
+    let found = p.find(EntryQuery::At(a));
+    match found {
+        FoundEntry::Index(k) => Task::Change(k),
+        FoundEntry::Nowhere => Task::Refuse(12),
     }
-    Task::Refuse(12)
 }
 
 // 11 and 12.

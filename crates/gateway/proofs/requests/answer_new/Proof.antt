@@ -1,11 +1,11 @@
 -- `gateway::requests::answer_new` meets its contract: CREATE at the lowest absent process, or refused. Assumes nothing.
-use mathlib.Core.Path.{_≡_, ap, sym, _∙_}
+use mathlib.Core.Path.{_≡_}
 use native.Mathlib.Omega.{arith}
 use Rattle.lists.specs.Buffer.{Bytes}
 use Rattle.state.proofs.SlotLaws.{startOf-is}
 use Rattle.rules.specs.Tests.{lent}
 use Rattle.state_bytes.specs.State.{stateOf}
-use Rattle.gateway.proofs.PartLaws.{slot-back, tested-part, local-part}
+use Rattle.gateway.proofs.PartLaws.{slot-back, tested-part}
 use Rattle.gateway.proofs.AskedLaws.{asked-new, asked-full}
 use Rattle.gateway.proofs.LentLaws.{lent-formed, lent-fits, lent-long}
 use Rattle.gateway.proofs.FinishLaws.{finished-served, finished-unmoved}
@@ -44,13 +44,19 @@ returns c =
     let far = rw (c .before .before .before .before .before .lowest-absent .ensures) at (c .before .before .before .before .if1 .taken) in
     finished-unmoved (a .state .now) (a .memory .now) bytes formed _ _ _ (r .refuse .ensures) _ (asked-full (a .h) string (a .reply .now) st (s .pre .0) far)
 
+read-process-at-requires : tie.Need-read-process-at-requires
+read-process-at-requires c κs =
+    let s = c .before .before .before .before .before .before .before in
+    let a = s .args in
+    (c .before .if1 .left, omega (arith, lent-long (a .state .now) (a .memory .now) (a .reply .now) (s .pre .1)))
+
 start-requires : tie.Need-start-requires
 start-requires c κs = search needs
 
 add-end : tie.Need-add-end
 add-end c =
-    let p = c .before .before .lowest-absent .result in
-    omega (arith, c .start .ensures, startOf-is p (c .before .if1 .left), c .before .if1 .left)
+    let p = c .before .before .before .before .lowest-absent .result in
+    omega (arith, c .start .ensures, startOf-is p (c .before .before .before .if1 .left), c .before .before .before .if1 .left)
 
 sub-answer-create : tie.Need-sub-answer-create
 sub-answer-create c = search needs
@@ -60,25 +66,25 @@ part-answer-create-start c = search needs
 
 part-answer-create-end : tie.Need-part-answer-create-end
 part-answer-create-end c =
-    let s = c .before .before .before .before .before .before .before in
+    let s = c .before .before .before .before .before .before .before .before .before in
     let a = s .args in
-    let p = c .before .before .lowest-absent .result in
-    omega (arith, c .start .ensures, startOf-is p (c .before .if1 .left), c .before .if1 .left, lent-fits (a .state .now) (a .memory .now) (a .reply .now) (s .pre .1) .memory)
+    let p = c .before .before .before .before .lowest-absent .result in
+    omega (arith, c .start .ensures, startOf-is p (c .before .before .before .if1 .left), c .before .before .before .if1 .left, lent-fits (a .state .now) (a .memory .now) (a .reply .now) (s .pre .1) .memory)
 
 answer-create-requires : tie.Need-answer-create-requires
 answer-create-requires c κs =
     let t = c .before .before in
-    let s = c .before .before .before .before .before .before .before .before .before in
+    let s = c .before .before .before .before .before .before .before .before .before .before .before in
     let a = s .args in
-    let low = c .before .before .before .if1 .left in
+    let low = c .before .before .before .before .before .if1 .left in
     let fit = lent-fits (a .state .now) (a .memory .now) (a .reply .now) (s .pre .1) in
     (low, (tested-part (stateOf (a .state .now)) (a .memory .now) _ (t .start .result) low (t .start .ensures) (fit .memory) (fit .sound) .size, fit .room))
 
 keep-requires : tie.Need-keep-requires
 keep-requires c κs =
-    let s = c .before .before .before .before .before .before .before .before .before .before .before .before .before .before .before .before in
+    let s = c .before .before .before .before .before .before .before .before .before .before .before .before .before .before .before .before .before .before in
     let a = s .args in
-    (c .before .before .before .before .before .before .before .before .before .before .if1 .left, lent-long (a .state .now) (a .memory .now) (a .reply .now) (s .pre .1))
+    (c .before .before .before .before .before .before .before .before .before .before .before .before .if1 .left, lent-long (a .state .now) (a .memory .now) (a .reply .now) (s .pre .1))
 
 same-length-3 : tie.Need-same-length-3
 same-length-3 c = search needs
@@ -95,15 +101,15 @@ returns-2 c =
     let f = c .before .before in
     let v = c .before .before .before .before .before .before .before .before .before in
     let t = c .before .before .before .before .before .before .before .before .before .before .before .before in
-    let i = c .before .before .before .before .before .before .before .before .before .before .before .before .before in
-    let k = c .before .before .before .before .before .before .before .before .before .before .before .before .before .before .before .before .before .before in
-    let s = c .before .before .before .before .before .before .before .before .before .before .before .before .before .before .before .before .before .before .before in
+    let i = c .before .before .before .before .before .before .before .before .before .before .before .before .before .before .before in
+    let k = c .before .before .before .before .before .before .before .before .before .before .before .before .before .before .before .before .before .before .before .before in
+    let s = c .before .before .before .before .before .before .before .before .before .before .before .before .before .before .before .before .before .before .before .before .before in
     let a = s .args in
     let st = lent (stateOf (a .state .now)) (a .memory .now) in
     let bytes : Bytes (a .state .now) = λ j. omega (arith, k .slice-known .given j) in
     let formed = lent-formed (a .state .now) (a .memory .now) (a .reply .now) (s .pre .1) in
     rw (f .keep .ensures, slot-back _ (t .start .result) (a .memory .now) (t .start .ensures) _)
-    (finished-served (a .state .now) (a .memory .now) bytes formed _ (i .if1 .left) _ _ _ _ _ (v .answer-create .ensures) _ (asked-new (a .h) string (a .reply .now) st (s .pre .0) _ (c .before .before .before .before .before .before .before .before .before .before .before .before .before .before .lowest-absent .ensures) (i .if1 .left)))
+    (finished-served (a .state .now) (a .memory .now) bytes formed _ (i .if1 .left) _ _ _ _ _ (v .answer-create .ensures) _ (asked-new (a .h) string (a .reply .now) st (s .pre .0) _ (c .before .before .before .before .before .before .before .before .before .before .before .before .before .before .before .before .lowest-absent .ensures) (i .if1 .left)))
 
 pub answer-new-spec : {M : Type 1} → statement M
 answer-new-spec =
@@ -114,6 +120,7 @@ answer-new-spec =
     same-length
     same-length-2
     returns
+    read-process-at-requires
     start-requires
     add-end
     sub-answer-create

@@ -46,8 +46,8 @@ single-step-requires c κs = search needs
 proceed-requires : tie.Need-proceed-requires
 proceed-requires c κs = search needs
 
-cleared-requires : tie.Need-cleared-requires
-cleared-requires c κs = search needs
+destroy-requires : tie.Need-destroy-requires
+destroy-requires c κs = search needs
 
 returns : tie.Need-returns
 unfolding ruleOf
@@ -135,7 +135,7 @@ returns-10 c =
 
 returns-11 : tie.Need-returns-11
 unfolding ruleOf
-returns-11 c = rw (c .before .match .keys11) (c .cleared .ensures, refl)
+returns-11 c = rw (c .before .match .keys11) (c .destroy .ensures, refl)
 
 returns-12 : tie.Need-returns-12
 returns-12 c =
@@ -159,7 +159,7 @@ perform-spec =
     remove-from-requires
     single-step-requires
     proceed-requires
-    cleared-requires
+    destroy-requires
     returns
     same-length
     returns-2

@@ -2,18 +2,15 @@
 use mathlib.Core.Path.{refl, ap}
 use borrow.Author.Tests.{eq-eqb, ne-eqb}
 use Rattle.message.specs.Exchange.{Written, sends}
-use Rattle.service.specs.At.{answer, noticeOr}
+use Rattle.rules.specs.Step.{noticeTo}
+use Rattle.service.specs.At.{answer}
 use borrow.Author.Needs.{needs}
 use Rattle.service.proofs.report.notify.Statement.{statement}
 use Rattle.service.proofs.report.notify.Tie as tie
 
 returns : tie.Need-returns
-unfolding noticeOr
+unfolding noticeTo
 returns c = rw (eq-eqb _ _ (c .if1 .taken)) refl
-
-returns-2 : tie.Need-returns-2
-unfolding noticeOr
-returns-2 c = rw (ne-eqb _ _ (c .before .if1 .left), c .if2 .taken) refl
 
 write-notice-requires : tie.Need-write-notice-requires
 write-notice-requires c κs = search needs
@@ -21,11 +18,11 @@ write-notice-requires c κs = search needs
 same-length : tie.Need-same-length
 same-length c = search needs
 
-returns-3 : tie.Need-returns-3
-unfolding noticeOr sends
-returns-3 c =
-    rw (ne-eqb _ _ (c .before .before .before .before .before .if1 .left), c .before .before .before .before .if2 .left)
+returns-2 : tie.Need-returns-2
+unfolding noticeTo sends
+returns-2 c =
+    rw (ne-eqb _ _ (c .before .before .before .before .if1 .left))
     (ap (λ (w : Written). answer (w .outcome) (w .buffer)) (c .before .before .write-notice .ensures))
 
 pub notify-spec : {M : Type 1} → statement M
-notify-spec = tie.close (tie.spec returns returns-2 write-notice-requires same-length returns-3)
+notify-spec = tie.close (tie.spec returns write-notice-requires same-length returns-2)

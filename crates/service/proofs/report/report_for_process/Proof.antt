@@ -15,7 +15,7 @@ unfolding reportAt
 returns c =
     let n = c .before in
     let a = c .before .before .before .before .args in
-    rw (← n .report-number-at .ensures, report-refused _ (c .if1 .taken) (a .process) (a .kind) (a .reason) (a .words) (a .notice .now) (local (a .p) (a .bytes .now))) refl
+    rw (← n .report-number-at .ensures, report-refused _ (c .if1 .taken) (a .pid) (a .kind) (a .reason) (a .words) (a .notice .now) (local (a .process) (a .bytes .now))) refl
 
 report-requires : tie.Need-report-requires
 report-requires c κs = search needs

@@ -10,7 +10,7 @@ use lib.Seq.{length-take-le, take-all}
 use Rattle.lists.specs.Buffer.{overlay}
 use Rattle.lists.specs.Joined.{joined}
 use Rattle.lists.proofs.Buffer.{length-overlay, overlay-all}
-use Rattle.process.specs.declared.record.Run.the-variants.{Running}
+use Rattle.run_state.specs.declared.Run.the-variants.{Running}
 use Rattle.process.specs.Record.{fresh}
 use Rattle.state.specs.Gateway.{freshStart}
 use Rattle.state_bytes.specs.Process.{processBytes}

@@ -1,8 +1,11 @@
 -- `tasks::rule::break_task` meets its contract, by whether an entry was found. Assumes nothing.
+use mathlib.Core.Path.{sym, _∙_}
 use borrow.Author.Needs.{needs}
 use borrow.Author.Tests.{lt-ltb, le-ltb}
 use Rattle.format.specs.Outcome.{firstFailing}
+use Rattle.process.specs.Request.{entryFor}
 use Rattle.process.proofs.EntryLaws.{entry-low}
+use Rattle.process.proofs.FindLaws.{found-index, found-nowhere}
 use Rattle.rules.specs.Rule.{ruleOf}
 use Rattle.tasks.specs.Task.{taskBy, entryOf, entryTask}
 use Rattle.tasks.proofs.rule.break_task.Statement.{statement}
@@ -11,13 +14,28 @@ use Rattle.tasks.proofs.rule.break_task.Tie as tie
 entry-for-requires : tie.Need-entry-for-requires
 entry-for-requires c κs = search needs
 
+enum-known-found : tie.Need-enum-known-found
+enum-known-found c = search needs
+
+enum-told : tie.Need-enum-told
+enum-told c = search needs
+
 returns : tie.Need-returns
 unfolding entryTask entryOf taskBy firstFailing ruleOf
-returns c = let a = c .before .before .args in rw (← entry-low (a .a) (a .p), ← c .before .entry-for .ensures, lt-ltb _ _ (c .if1 .taken))
+returns c =
+    let g = c .before in
+    let f = g .before .before in
+    let a = f .before .args in
+    let at = found-index (entryFor (a .a) (a .p)) _ (sym (f .entry-for .ensures) ∙ g .found .given .1) in
+    rw (← entry-low (a .a) (a .p), lt-ltb _ _ (at .low), at .same)
 
 returns-2 : tie.Need-returns-2
 unfolding entryTask entryOf taskBy firstFailing ruleOf
-returns-2 c = let a = c .before .before .args in rw (← entry-low (a .a) (a .p), ← c .before .entry-for .ensures, le-ltb _ _ (c .if1 .left))
+returns-2 c =
+    let f = c .before .before in
+    let a = f .before .args in
+    let none = found-nowhere (entryFor (a .a) (a .p)) (sym (f .entry-for .ensures) ∙ c .enum-told .given .1) in
+    rw (← entry-low (a .a) (a .p), le-ltb _ _ none)
 
 pub break-task-spec : {M : Type 1} → statement M
-break-task-spec = tie.close (tie.spec entry-for-requires returns returns-2)
+break-task-spec = tie.close (tie.spec entry-for-requires enum-known-found enum-told returns returns-2)

@@ -26,11 +26,11 @@ returns-2 c = let h = c .before .before .before .before .before .args .h in rw (
 returns-3 : tie.Need-returns-3
 returns-3 c = let h = c .before .before .before .before .before .before .args .h in rw (coded (h .cmd) .range h, ne-eqb _ _ (c .before .before .before .before .if1 .left), ne-eqb _ _ (c .before .before .if2 .left), eq-eqb _ _ (c .if3 .taken))
 
-placed-requires : tie.Need-placed-requires
-placed-requires c κs = search needs
+valid-break-address-requires : tie.Need-valid-break-address-requires
+valid-break-address-requires c κs = search needs
 
 returns-4 : tie.Need-returns-4
-returns-4 c = let h = c .before .before .before .before .before .before .before .before .before .args .h in rw (coded (h .cmd) .range h, ne-eqb _ _ (c .before .before .before .before .before .before .before .if1 .left), ne-eqb _ _ (c .before .before .before .before .before .if2 .left), ne-eqb _ _ (c .before .before .before .if3 .left), eq-eqb _ _ (c .before .if4 .taken)) (c .placed .ensures)
+returns-4 c = let h = c .before .before .before .before .before .before .before .before .before .args .h in rw (coded (h .cmd) .range h, ne-eqb _ _ (c .before .before .before .before .before .before .before .if1 .left), ne-eqb _ _ (c .before .before .before .before .before .if2 .left), ne-eqb _ _ (c .before .before .before .if3 .left), eq-eqb _ _ (c .before .if4 .taken)) (c .valid-break-address .ensures)
 
 returns-5 : tie.Need-returns-5
 returns-5 c = let h = c .before .before .before .before .before .before .before .before .args .h in rw (coded (h .cmd) .range h, ne-eqb _ _ (c .before .before .before .before .before .before .if1 .left), ne-eqb _ _ (c .before .before .before .before .if2 .left), ne-eqb _ _ (c .before .before .if3 .left), ne-eqb _ _ (c .if4 .left))
@@ -46,6 +46,6 @@ range-spec =
     readable-requires
     returns-2
     returns-3
-    placed-requires
+    valid-break-address-requires
     returns-4
     returns-5)

@@ -5,17 +5,17 @@ use Rattle.tasks.proofs.OpLaws.{coded}
 use Rattle.tasks.proofs.rule.runs.Statement.{statement}
 use Rattle.tasks.proofs.rule.runs.Tie as tie
 
-halted-requires : tie.Need-halted-requires
-halted-requires c κs = search needs
+stopped-or-at-break-requires : tie.Need-stopped-or-at-break-requires
+stopped-or-at-break-requires c κs = search needs
 
 returns : tie.Need-returns
-returns c = let a = c .before .before .args in rw (coded (a .cmd) .runs (a .run), eq-eqb _ _ (c .before .if1 .taken)) (c .halted .ensures)
+returns c = let a = c .before .before .args in rw (coded (a .cmd) .runs (a .run), eq-eqb _ _ (c .before .if1 .taken)) (c .stopped-or-at-break .ensures)
 
-halted-requires-2 : tie.Need-halted-requires-2
-halted-requires-2 c κs = search needs
+stopped-or-at-break-requires-2 : tie.Need-stopped-or-at-break-requires-2
+stopped-or-at-break-requires-2 c κs = search needs
 
 returns-2 : tie.Need-returns-2
-returns-2 c = let a = c .before .before .before .args in rw (coded (a .cmd) .runs (a .run), ne-eqb _ _ (c .before .before .if1 .left), eq-eqb _ _ (c .before .if2 .taken)) (c .halted2 .ensures)
+returns-2 c = let a = c .before .before .before .args in rw (coded (a .cmd) .runs (a .run), ne-eqb _ _ (c .before .before .if1 .left), eq-eqb _ _ (c .before .if2 .taken)) (c .stopped-or-at-break2 .ensures)
 
 at-break-requires : tie.Need-at-break-requires
 at-break-requires c κs = search needs
@@ -30,9 +30,9 @@ pub runs-spec : {M : Type 1} → statement M
 runs-spec =
     tie.close
     (tie.spec
-    halted-requires
+    stopped-or-at-break-requires
     returns
-    halted-requires-2
+    stopped-or-at-break-requires-2
     returns-2
     at-break-requires
     returns-3

@@ -5,7 +5,7 @@ use borrow.Author.Tests.{not-true, not-false, eq-eqb, ne-eqb}
 use borrow.Author.Needs.{needs}
 use Rattle.breakpoints.specs.declared.entry.Breakpoint.{Breakpoint}
 use Rattle.process.specs.Record.{entry}
-use Rattle.breakpoints.specs.Entry.{placed}
+use Rattle.breakpoints.specs.Entry.{validBreakAddress}
 use Rattle.process.specs.Sound.{entrySound, usedSound}
 use Rattle.process.proofs.record.Process.entry_sound.Statement.{statement}
 use Rattle.process.proofs.record.Process.entry_sound.Tie as tie
@@ -36,8 +36,8 @@ returns-2 c =
     let a = s .args in
     rw (used (a .b) (entry (a .self) (a .k)) (s .pre .1) _ (not-false (a .b .used) (i .if1 .left)), eq-eqb _ _ (c .if2 .taken))
 
-placed-requires : tie.Need-placed-requires
-placed-requires c κs = search needs
+valid-break-address-requires : tie.Need-valid-break-address-requires
+valid-break-address-requires c κs = search needs
 
 returns-3 : tie.Need-returns-3
 unfolding entrySound usedSound
@@ -51,12 +51,12 @@ returns-3 c =
       used (a .b) (entry (a .self) (a .k)) (s .pre .1) _ (not-false (a .b .used) (i .if1 .left)),
       ne-eqb _ _ (h .if2 .left),
       ← address (a .b) (entry (a .self) (a .k)) (s .pre .1),
-      ← p .placed .ensures,
-      not-true (p .placed .result) (c .if3 .taken),
+      ← p .valid-break-address .ensures,
+      not-true (p .valid-break-address .result) (c .if3 .taken),
     )
 
-first-there-requires : tie.Need-first-there-requires
-first-there-requires c κs =
+address-is-unique-requires : tie.Need-address-is-unique-requires
+address-is-unique-requires c κs =
     let i = c .before .before .before .before in
     let s = i .before .before in
     let a = s .args in
@@ -77,15 +77,15 @@ returns-4 c =
     rw (
       used (a .b) e (s .pre .1) _ (not-false (a .b .used) (i .if1 .left)),
       ne-eqb _ _ (h .if2 .left),
-      ap placed (sym (address (a .b) e (s .pre .1))) ∙ sym (p .placed .ensures) ∙ not-false (p .placed .result) (j .if3 .left),
-      ← f .first-there .ensures,
-      not-true (f .first-there .result) (c .if4 .taken),
+      ap validBreakAddress (sym (address (a .b) e (s .pre .1))) ∙ sym (p .valid-break-address .ensures) ∙ not-false (p .valid-break-address .result) (j .if3 .left),
+      ← f .address-is-unique .ensures,
+      not-true (f .address-is-unique .result) (c .if4 .taken),
     )
 
 lift-sound-requires : tie.Need-lift-sound-requires
 lift-sound-requires c κs =
     let s = c .before .before .before .before .before .before .before .before in
-    lifted (s .args .b) (entry (s .args .self) (s .args .k)) (s .pre .1)
+    (s .pre .0, lifted (s .args .b) (entry (s .args .self) (s .args .k)) (s .pre .1))
 
 returns-5 : tie.Need-returns-5
 unfolding entrySound usedSound
@@ -102,9 +102,9 @@ returns-5 c =
     rw (
       used (a .b) e (s .pre .1) _ (not-false (a .b .used) (i .if1 .left)),
       ne-eqb _ _ (h .if2 .left),
-      ap placed (sym (address (a .b) e (s .pre .1))) ∙ sym (p .placed .ensures) ∙ not-false (p .placed .result) (j .if3 .left),
-      ← f .first-there .ensures,
-      not-false (f .first-there .result) (g .if4 .left),
+      ap validBreakAddress (sym (address (a .b) e (s .pre .1))) ∙ sym (p .valid-break-address .ensures) ∙ not-false (p .valid-break-address .result) (j .if3 .left),
+      ← f .address-is-unique .ensures,
+      not-false (f .address-is-unique .result) (g .if4 .left),
     )
     (c .lift-sound .ensures)
 
@@ -114,9 +114,9 @@ entry-sound-spec =
     (tie.spec
     returns
     returns-2
-    placed-requires
+    valid-break-address-requires
     returns-3
-    first-there-requires
+    address-is-unique-requires
     returns-4
     lift-sound-requires
     returns-5)

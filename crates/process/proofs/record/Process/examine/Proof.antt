@@ -5,7 +5,7 @@ use native.Mathlib.Omega.{arith}
 use borrow.Author.Needs.{needs}
 use lib.Seq.{length-take-le}
 use lib.ListN.{length, take, drop, length-drop}
-use Rattle.breakpoints.specs.Seen.{laidWords}
+use Rattle.breakpoints.specs.Seen.{overlaySavedWords}
 use Rattle.process.specs.Request.{examined}
 use Rattle.breakpoints.proofs.ExamineLaws.{part-words}
 use Rattle.lists.proofs.Buffer.{copy-whole}
@@ -27,8 +27,8 @@ part-copy-end c = search needs
 copy-requires : tie.Need-copy-requires
 copy-requires c κs = search needs
 
-lay-requires : tie.Need-lay-requires
-lay-requires c κs = search needs
+overlay-saved-words-requires : tie.Need-overlay-saved-words-requires
+overlay-saved-words-requires c κs = search needs
 
 same-length : tie.Need-same-length
 same-length c = search needs
@@ -45,8 +45,8 @@ returns c =
     let size : at + n - at ≡ n = omega arith in
     let fits : at + n - at ≤ length (drop at m) = simp length-drop (omega (arith, s .pre)) in
     let long : length (s .args .out .now) ≡ length (take (at + n - at) (drop at m)) = sym (length-take-le (at + n - at) (drop at m) fits ∙ size) in
-    l .lay .ensures
-    ∙ ap (laidWords at (s .args .self .breaks))
+    l .overlay-saved-words .ensures
+    ∙ ap (overlaySavedWords at (s .args .self .breaks))
     (k .copy .ensures .1 ∙ copy-whole (take (at + n - at) (drop at m)) (s .args .out .now) long ∙ ap (λ (i : ℕ). take i (drop at m)) size)
     ∙ part-words at n (s .args .self .breaks) m
 
@@ -59,6 +59,6 @@ examine-spec =
     part-copy-start
     part-copy-end
     copy-requires
-    lay-requires
+    overlay-saved-words-requires
     same-length
     returns)

@@ -1,59 +1,24 @@
--- `process::record::Process::report` meets its contract, by whether the report is passed silently. Assumes nothing.
-use mathlib.Core.Path.{_≡_, refl, sym, ap, _∙_}
-use Prim.Native.Nat.{ℕ}
-use borrow.Author.Needs.{needs}
-use borrow.Author.Tests.{lt-ltb, le-ltb}
-use lib.Dec.{ltb}
+-- `process::record::Process::report` meets its contract, by the verdict. Assumes nothing.
+use mathlib.Core.Path.{_≡_, refl, sym, _∙_}
 use lib.ListN.{length-map}
 use Rattle.process.specs.Local.{local}
 use Rattle.process.specs.Record.{withVector}
-use Rattle.process.specs.Report.{recorded, reported}
-use Rattle.process.proofs.ReportLaws.{passes-count, passed-low, passed-is}
+use Rattle.process.specs.Report.{storeVectorAndReplant, recipientOf, reported}
+use Rattle.process.proofs.ReportLaws.{counts-low, counts-count}
 use Rattle.process.proofs.PlantingLaws.{inside-replanted}
 use Rattle.process.proofs.TestedLaws.{tested-inside}
+use borrow.Author.Needs.{needs}
 use Rattle.process.proofs.record.Process.report.Statement.{statement}
 use Rattle.process.proofs.record.Process.report.Tie as tie
 
-settle-requires : tie.Need-settle-requires
-settle-requires c κs = let s = c .before .before in tested-inside (s .args .self) (s .args .bytes .now) (s .pre)
+store-vector-and-replant-requires : tie.Need-store-vector-and-replant-requires
+store-vector-and-replant-requires c κs = let s = c .before .before in tested-inside (s .args .self) (s .args .bytes .now) (s .pre)
 
-passed-entry-requires : tie.Need-passed-entry-requires
-passed-entry-requires c κs = search needs
+verdict-requires : tie.Need-verdict-requires
+verdict-requires c κs = search needs
 
-pass-requires : tie.Need-pass-requires
-unfolding recorded
-pass-requires c κs =
-    let i = c .before in
-    let q = i .before in
-    let r = q .before .before .before in
-    let s = r .before .before .before in
-    let a = s .args in
-    let eight = simp length-map at (s .good .0 .1 .1 .1 .1 .1 .1 .0 .1 .0 .1) in
-    let p = r .settle .result in
-    let yes = sym (passed-low (a .kind) p) ∙ ap (λ (k : ℕ). ltb k 8) (sym (q .passed-entry .ensures)) ∙ lt-ltb _ _ (i .if1 .taken) in
-    let inside = inside-replanted (withVector (a .vector) (a .self)) (a .bytes .now) eight (tested-inside (a .self) (a .bytes .now) (s .pre)) in (
-      i .if1 .taken,
-      rw (r .settle .ensures .0, r .settle .ensures .1) inside,
-      rw (q .passed-entry .ensures, passed-is (a .kind) p yes) (passes-count (a .kind) p yes),
-    )
-
-same-length : tie.Need-same-length
-same-length c = search needs
-
-returns : tie.Need-returns
-unfolding reported
-returns c =
-    let w = c .before .before in
-    let i = w .before .before in
-    let q = i .before in
-    let r = q .before .before .before in
-    let s = r .before .before .before in
-    let a = s .args in
-    let p = r .settle .result in
-    let yes = sym (passed-low (a .kind) p) ∙ ap (λ (k : ℕ). ltb k 8) (sym (q .passed-entry .ensures)) ∙ lt-ltb _ _ (i .if1 .taken) in
-    let whole : recorded (a .vector) (local (a .self) (a .bytes .now)) ≡ local p (r .settle .last .1 .1 .0) =
-    rw (r .settle .ensures .0, r .settle .ensures .1) in
-    rw (whole, yes, ← passed-is (a .kind) p yes, ← q .passed-entry .ensures) (w .pass .ensures .0, (refl, w .pass .ensures .1))
+enum-told : tie.Need-enum-told
+enum-told c = search needs
 
 after-requires : tie.Need-after-requires
 after-requires c κs = search needs
@@ -61,34 +26,74 @@ after-requires c κs = search needs
 with-run-requires : tie.Need-with-run-requires
 with-run-requires c κs = search needs
 
+enum-known-verdict : tie.Need-enum-known-verdict
+enum-known-verdict c = search needs
+
+pass-requires : tie.Need-pass-requires
+unfolding storeVectorAndReplant
+pass-requires c κs =
+    let v = c .before .before in
+    let q = v .before .before in
+    let r = q .before .before .before in
+    let s = r .before .before .before in
+    let a = s .args in
+    let eight = simp length-map at (s .good .0 .1 .1 .1 .1 .1 .1 .0 .1 .0 .1) in
+    let p = r .store-vector-and-replant .result in
+    let counted = sym (q .verdict .ensures) ∙ v .verdict2 .given .1 in
+    let inside = inside-replanted (withVector (a .vector) (a .self)) (a .bytes .now) eight (tested-inside (a .self) (a .bytes .now) (s .pre)) in (
+      counts-low (a .kind) p _ counted,
+      rw (r .store-vector-and-replant .ensures .0, r .store-vector-and-replant .ensures .1) inside,
+      counts-count (a .kind) p _ counted,
+    )
+
+same-length : tie.Need-same-length
+same-length c = search needs
+
+returns : tie.Need-returns
+unfolding reported recipientOf
+returns c =
+    let k = c .before in
+    let e = k .before in
+    let q = e .before .before in
+    let r = q .before .before .before in
+    let s = r .before .before .before in
+    let a = s .args in
+    let p = r .store-vector-and-replant .result in
+    let stops = sym (q .verdict .ensures) ∙ e .enum-told .given .1 in
+    let whole : storeVectorAndReplant (a .vector) (local (a .self) (a .bytes .now)) ≡ local p (r .store-vector-and-replant .last .1 .1 .0) =
+    rw (r .store-vector-and-replant .ensures .0, r .store-vector-and-replant .ensures .1) in
+    rw (whole, stops, c .with-run .ensures, k .after .ensures) (refl, (refl, refl))
+
 same-length-2 : tie.Need-same-length-2
 same-length-2 c = search needs
 
 returns-2 : tie.Need-returns-2
-unfolding reported
+unfolding reported recipientOf
 returns-2 c =
-    let k = c .before in
-    let i = k .before in
-    let q = i .before in
+    let w = c .before .before in
+    let v = w .before .before .before in
+    let q = v .before .before in
     let r = q .before .before .before in
     let s = r .before .before .before in
     let a = s .args in
-    let p = r .settle .result in
-    let no = sym (passed-low (a .kind) p) ∙ ap (λ (k : ℕ). ltb k 8) (sym (q .passed-entry .ensures)) ∙ le-ltb _ _ (i .if1 .left) in
-    let whole : recorded (a .vector) (local (a .self) (a .bytes .now)) ≡ local p (r .settle .last .1 .1 .0) =
-    rw (r .settle .ensures .0, r .settle .ensures .1) in
-    rw (whole, no, c .with-run .ensures, k .after .ensures) (refl, (refl, refl))
+    let p = r .store-vector-and-replant .result in
+    let counted = sym (q .verdict .ensures) ∙ v .verdict2 .given .1 in
+    let whole : storeVectorAndReplant (a .vector) (local (a .self) (a .bytes .now)) ≡ local p (r .store-vector-and-replant .last .1 .1 .0) =
+    rw (r .store-vector-and-replant .ensures .0, r .store-vector-and-replant .ensures .1) in
+    rw (whole, counted) (w .pass .ensures .0, (refl, w .pass .ensures .1))
 
 pub report-spec : {M : Type 1} → statement M
 report-spec =
     tie.close
     (tie.spec
-    settle-requires
-    passed-entry-requires
+    store-vector-and-replant-requires
+    verdict-requires
+    enum-told
+    after-requires
+    with-run-requires
+    enum-known-verdict
     pass-requires
     same-length
     returns
-    after-requires
-    with-run-requires
     same-length-2
     returns-2)

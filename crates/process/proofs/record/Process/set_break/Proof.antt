@@ -32,8 +32,14 @@ returns c =
     let used = sym (entry-used (a .a) (a .t1) eight (rw (s .pre .1) at (s .pre .0))) ∙ ap (λ (k : ℕ). entry (a .t1) k .used) (sym (s .pre .1)) ∙ i .if1 .taken in
     rw (used, ← entry-there (a .a) (a .t1) used, ← s .pre .1, c .with-entry .ensures, w .with-count .ensures) (refl, refl)
 
+at-requires : tie.Need-at-requires
+at-requires c κs = search needs
+
 plant-in-requires : tie.Need-plant-in-requires
-plant-in-requires c κs = (c .before .before .before .before .pre .0, c .before .before .before .before .pre .2)
+plant-in-requires c κs =
+    let n = c .before in
+    let s = n .before .before .before .before in
+    (s .pre .0, rw (n .at .ensures) (s .pre .2))
 
 same-length : tie.Need-same-length
 same-length c = search needs
@@ -42,12 +48,13 @@ returns-2 : tie.Need-returns-2
 unfolding breakSet
 returns-2 c =
     let w = c .before .before in
-    let i = w .before .before in
+    let n = w .before .before in
+    let i = n .before in
     let s = i .before .before .before in
     let eight = simp length-map at (s .good .0 .1 .1 .1 .1 .1 .1 .0 .1 .0 .1) in
     let a = s .args in
     let used = sym (entry-used (a .a) (a .t1) eight (rw (s .pre .1) at (s .pre .0))) ∙ ap (λ (k : ℕ). entry (a .t1) k .used) (sym (s .pre .1)) ∙ i .if1 .left in
-    rw (used, ← entry-new (a .a) (a .t1) used, ← s .pre .1) (w .plant-in .ensures)
+    rw (used, ← entry-new (a .a) (a .t1) used, ← s .pre .1, ← n .at .ensures) (w .plant-in .ensures)
 
 pub set-break-spec : {M : Type 1} → statement M
 set-break-spec =
@@ -58,6 +65,7 @@ set-break-spec =
     with-count-requires
     with-entry-requires
     returns
+    at-requires
     plant-in-requires
     same-length
     returns-2)

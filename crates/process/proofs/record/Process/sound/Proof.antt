@@ -9,30 +9,30 @@ use borrow.Author.Needs.{needs}
 use lib.ListN.{length, getD, length-map}
 use Rattle.breakpoints.specs.declared.entry.Breakpoint.{Breakpoint}
 use Rattle.breakpoints.specs.Entry.{free}
-use Rattle.process.specs.Sound.{hosted, entrySound, soundTest}
+use Rattle.process.specs.Sound.{absentHasNoHost, entrySound, soundTest}
 use Rattle.lists.specs.Every.{below}
 use Rattle.lists.proofs.Every.{below-more, below-fails}
 use Rattle.process.proofs.record.Process.sound.Statement.{statement}
 use Rattle.process.proofs.record.Process.sound.Tie as tie
 
 abbrev Inv-loop : tie.InvT-loop
-Inv-loop self breaks k₀ k = (k ≤ 8) × (length breaks ≡ 8) × (breaks ≡ self .breaks) × (hosted self ≡ true) × (below (entrySound self) k ≡ true)
+Inv-loop self breaks k₀ k = (k ≤ 8) × (length breaks ≡ 8) × (breaks ≡ self .breaks) × (absentHasNoHost self ≡ true) × (below (entrySound self) k ≡ true)
 
 abbrev μ-loop : tie.MeasureT-loop
 μ-loop self breaks k₀ k = 8 - k
 
-hosted-requires : tie.Need-hosted-requires Inv-loop μ-loop
-hosted-requires c κs = search needs
+absent-has-no-host-requires : tie.Need-absent-has-no-host-requires Inv-loop μ-loop
+absent-has-no-host-requires c κs = search needs
 
 returns : tie.Need-returns Inv-loop μ-loop
 unfolding soundTest
-returns c = rw (← c .before .hosted .ensures, not-true (c .before .hosted .result) (c .if1 .taken))
+returns c = rw (← c .before .absent-has-no-host .ensures, not-true (c .before .absent-has-no-host .result) (c .if1 .taken))
 
 loop-holds : tie.Need-loop-holds Inv-loop μ-loop
 loop-holds c =
     let h = c .before .before in
     let eight = simp length-map at (h .before .good .0 .1 .1 .1 .1 .1 .1 .0 .1 .0 .1) in
-    (omega arith, eight, refl, sym (h .hosted .ensures) ∙ not-false (h .hosted .result) (c .before .if1 .left), refl)
+    (omega arith, eight, refl, sym (h .absent-has-no-host .ensures) ∙ not-false (h .absent-has-no-host .result) (c .before .if1 .left), refl)
 
 mul-b : tie.Need-mul-b Inv-loop μ-loop
 mul-b c = search needs
@@ -81,7 +81,7 @@ sound-spec =
     (tie.spec
     Inv-loop
     μ-loop
-    hosted-requires
+    absent-has-no-host-requires
     returns
     loop-holds
     mul-b

@@ -1,7 +1,7 @@
 -- `process::record::Process::stop` meets its contract, by whether the process moves. Assumes nothing.
 use mathlib.Core.Path.{refl}
 use borrow.Author.Needs.{needs}
-use Rattle.process.specs.Request.{halt}
+use Rattle.process.specs.Request.{stopped}
 use Rattle.process.proofs.TestedLaws.{tested-inside}
 use Rattle.process.proofs.record.Process.stop.Statement.{statement}
 use Rattle.process.proofs.record.Process.stop.Tie as tie
@@ -19,14 +19,14 @@ same-length : tie.Need-same-length
 same-length c = search needs
 
 returns : tie.Need-returns
-unfolding halt
+unfolding stopped
 returns c =
     let r = c .before .before .before in
     let i = r .before .before in
     rw (← i .before .moving .ensures, i .if1 .taken, c .with-run .ensures, r .replant .ensures .0) (refl, r .replant .ensures .1)
 
 returns-2 : tie.Need-returns-2
-unfolding halt
+unfolding stopped
 returns-2 c = rw (← c .before .moving .ensures, c .if1 .left) (refl, refl)
 
 pub stop-spec : {M : Type 1} → statement M

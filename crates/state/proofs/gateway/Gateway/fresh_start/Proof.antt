@@ -9,7 +9,7 @@ use lib.ListN.{replicate}
 use lib.ListN.{length, take, drop}
 use Rattle.state.specs.Gateway.{freshStart}
 use Rattle.process.specs.Record.{fresh}
-use Rattle.process.specs.declared.record.Run.the-variants.{Running}
+use Rattle.run_state.specs.declared.Run.the-variants.{Running}
 use Rattle.lists.proofs.MapStep.{map-step, map-whole}
 use Rattle.state.proofs.gateway.Gateway.fresh_start.Statement.{statement}
 use Rattle.state.proofs.gateway.Gateway.fresh_start.Tie as tie

@@ -1,0 +1,23 @@
+// What is looked for among the entries of a process.
+use crate::entry::Breakpoint;
+ghost use mathlib.Core.Path.{_≡_};
+ghost use Rattle.breakpoints.specs.EntryQuery.{matches};
+
+// An entry that is free, that is lifted, or that is a breakpoint at this address.
+pub enum EntryQuery {
+    Free,
+    Lifted,
+    At(u16),
+}
+
+impl Breakpoint {
+    pub fn matches(self, query: EntryQuery) -> bool
+        ensures { λ r. ⌜ r ≡ matches query self ⌝ }
+    {
+        match query {
+            EntryQuery::Free => !self.used,
+            EntryQuery::Lifted => if self.used { self.lifted } else { false },
+            EntryQuery::At(a) => if self.used { self.address == a } else { false },
+        }
+    }
+}

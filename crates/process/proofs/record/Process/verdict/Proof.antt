@@ -1,0 +1,85 @@
+-- `process::record::Process::verdict` meets its contract: at each `return` the tests that led there say its value. Assumes nothing.
+use mathlib.Core.Path.{sym, _∙_}
+use native.Mathlib.Omega.{arith}
+use borrow.Author.Tests.{eq-eqb, ne-eqb, lt-ltb, le-ltb}
+use Rattle.breakpoints.specs.declared.entry_query.EntryQuery.the-variants.{At}
+use Rattle.process.specs.Find.{find}
+use Rattle.process.specs.Request.{hasBreak}
+use Rattle.process.specs.Report.{passes, verdictOf}
+use Rattle.process.proofs.FindLaws.{found-index, found-nowhere}
+use borrow.Author.Needs.{needs}
+use Rattle.process.proofs.record.Process.verdict.Statement.{statement}
+use Rattle.process.proofs.record.Process.verdict.Tie as tie
+
+returns : tie.Need-returns
+unfolding verdictOf passes
+returns c = rw (ne-eqb _ _ (c .if1 .taken))
+
+pc-requires : tie.Need-pc-requires
+pc-requires c κs = search needs
+
+find-requires : tie.Need-find-requires
+find-requires c κs = search needs
+
+enum-known-found : tie.Need-enum-known-found
+enum-known-found c = search needs
+
+enum-told : tie.Need-enum-told
+enum-told c = search needs
+
+returns-2 : tie.Need-returns-2
+unfolding verdictOf passes hasBreak
+returns-2 c =
+    let f = c .before .before in
+    let p = f .before in
+    let none = found-nowhere (find (At (p .pc .result)) (p .before .before .args .t1)) (sym (f .find .ensures) ∙ c .enum-told .given .1) in
+    rw (eq-eqb _ _ (p .before .if1 .left), ← p .pc .ensures, le-ltb _ _ none)
+
+mul-b : tie.Need-mul-b
+mul-b c =
+    let g = c .before in
+    let f = g .before .before in
+    let p = f .before in
+    let at = found-index (find (At (p .pc .result)) (p .before .before .args .t1)) _ (sym (f .find .ensures) ∙ g .found .given .1) in
+    omega arith
+
+element-copy-out-b : tie.Need-element-copy-out-b
+element-copy-out-b c =
+    let g = c .before in
+    let f = g .before .before in
+    let p = f .before in
+    let at = found-index (find (At (p .pc .result)) (p .before .before .args .t1)) _ (sym (f .find .ensures) ∙ g .found .given .1) in
+    omega arith
+
+returns-3 : tie.Need-returns-3
+unfolding verdictOf passes hasBreak
+returns-3 c =
+    let g = c .before .before .before .before in
+    let f = g .before .before in
+    let p = f .before in
+    let at = found-index (find (At (p .pc .result)) (p .before .before .args .t1)) _ (sym (f .find .ensures) ∙ g .found .given .1) in
+    rw (eq-eqb _ _ (p .before .if1 .left), ← p .pc .ensures, lt-ltb _ _ (at .low), at .same, lt-ltb _ _ (c .if2 .taken))
+
+returns-4 : tie.Need-returns-4
+unfolding verdictOf passes hasBreak
+returns-4 c =
+    let g = c .before .before .before .before in
+    let f = g .before .before in
+    let p = f .before in
+    let at = found-index (find (At (p .pc .result)) (p .before .before .args .t1)) _ (sym (f .find .ensures) ∙ g .found .given .1) in
+    rw (eq-eqb _ _ (p .before .if1 .left), ← p .pc .ensures, lt-ltb _ _ (at .low), at .same, le-ltb _ _ (c .if2 .left))
+
+pub verdict-spec : {M : Type 1} → statement M
+verdict-spec =
+    tie.close
+    (tie.spec
+    returns
+    pc-requires
+    find-requires
+    enum-known-found
+    enum-told
+    returns-2
+    mul-b
+    element-copy-out-b
+    returns-3
+    returns-4)

@@ -1,0 +1,3 @@
+-- The definitions that the contracts of this crate, and of those above it, cite. Words in quotation marks are document 01's.
+pub mod ReportKind
+pub mod RunState
