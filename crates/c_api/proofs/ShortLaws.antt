@@ -20,7 +20,7 @@ use Rattle.format.specs.Layout.{headerOf}
 use Rattle.rules.specs.Tests.{State, lent, requestNumber, reportNumber}
 use Rattle.rules.specs.Step.{Answer, Stepped, request, report, step, localOf, grantedNamed, grantedCreate, granted, refused, requested, told, noticeTo, notified, noted}
 use Rattle.rules.proofs.StepLaws.{by-test}
-use Rattle.tasks.proofs.OpLaws.{coded}
+use Rattle.checks.proofs.OpLaws.{coded}
 use Rattle.state_bytes.specs.State.{stateOf, stateFormed}
 use Rattle.gateway.specs.Called.{Called, finished, callOn, startOn}
 use Rattle.c_api.specs.Called.{Short}

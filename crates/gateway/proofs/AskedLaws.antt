@@ -27,7 +27,7 @@ use Rattle.rules.specs.Tests.{State, recordOf, askedTests}
 use Rattle.rules.specs.Step.{Answer, Stepped, replyOf, localOf, put, grantedNamed, grantedCreate, granted, refused}
 use Rattle.rules.proofs.NumberLaws.{envelope, envelope-sent}
 use Rattle.rules.proofs.StateLaws.{put-same}
-use Rattle.tasks.specs.Task.{processTests}
+use Rattle.checks.specs.Decision.{processTests}
 use Rattle.service.specs.declared.target.Target.{Target}
 use Rattle.service.specs.declared.target.Target.the-variants.{Named, OutOfRange, New, Nowhere}
 use Rattle.service.specs.At.{Left, cantBy, targetOf, namedBy, namedAt, createdAt}

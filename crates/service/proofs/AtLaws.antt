@@ -9,7 +9,7 @@ use Rattle.format.specs.declared.outcome.Outcome.the-variants.{Refused}
 use Rattle.format.specs.Outcome.{firstFailing}
 use Rattle.process.specs.Local.{Local}
 use Rattle.rules.specs.Rule.{ruleOf}
-use Rattle.tasks.specs.Task.{processTests}
+use Rattle.checks.specs.Decision.{processTests}
 use Rattle.service.specs.At.{leaving, answer, cantBy, changes, namedBy, namedAt, reportBy}
 
 -- ---- EXAMINE leaves its process

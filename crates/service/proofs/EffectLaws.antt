@@ -17,7 +17,7 @@ use Rattle.process.specs.Request.{hasBreak, entryFor}
 use Rattle.process.proofs.EntryLaws.{entry-low}
 use Rattle.rules.specs.Rule.{Rule, ruleOf}
 use Rattle.rules.specs.Tests.{ruleTests}
-use Rattle.tasks.specs.Task.{entryOf}
+use Rattle.checks.specs.Decision.{entryOf}
 
 module _ (r : Rule) (h : Header) (p : Process) (e : firstFailing (ruleTests r h p) ≡ 0) where
   pub rule-range : r .range h ≡ true

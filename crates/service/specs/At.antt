@@ -18,7 +18,7 @@ use Rattle.process.specs.Report.{reported, recipientOf}
 use Rattle.rules.specs.Rule.{ruleOf, creates}
 use Rattle.rules.specs.Tests.{badReport}
 use Rattle.rules.specs.Step.{Answer, replyOf, noticeTo}
-use Rattle.tasks.specs.Task.{processTests}
+use Rattle.checks.specs.Decision.{processTests}
 use Rattle.ops.specs.Codes.{EXAMINE}
 use Rattle.ops.specs.declared.table.Form.{Form}
 use Rattle.service.specs.declared.target.Target.{Target}

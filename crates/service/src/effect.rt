@@ -20,7 +20,7 @@ ghost use Rattle.format.specs.Outcome.{firstFailing};
 ghost use Rattle.process.specs.Local.{local, Tested};
 ghost use Rattle.rules.specs.Rule.{ruleOf};
 ghost use Rattle.rules.specs.Tests.{ruleTests};
-ghost use Rattle.tasks.specs.Task.{entryOf};
+ghost use Rattle.checks.specs.Decision.{entryOf};
 ghost use Rattle.service.specs.At.{changes};
 
 // Whether a granted request of this op code may change its process; EXAMINE does not.

@@ -4,10 +4,10 @@ use crate::reply::refuse;
 use crate::reply::reply_plain;
 use crate::reply::reply_to;
 use crate::served::Served;
+use checks::Decision;
+use checks::decide;
 use format::Header;
 use process::Process;
-use tasks::Task;
-use tasks::task_of;
 ghost use mathlib.Core.Path.{_≡_};
 ghost use Prim.Native.Nat.{_≤_, _<_};
 ghost use lib.ListN.{length};
@@ -15,7 +15,7 @@ ghost use Rattle.format.specs.Outcome.{firstFailing};
 ghost use Rattle.process.specs.Local.{local, Tested};
 ghost use Rattle.rules.specs.Rule.{ruleOf};
 ghost use Rattle.rules.specs.Tests.{ruleTests};
-ghost use Rattle.tasks.specs.Task.{entryOf};
+ghost use Rattle.checks.specs.Decision.{entryOf};
 ghost use Rattle.service.specs.At.{served, namedBy, namedAt, createdAt};
 ghost use Rattle.format.specs.Sizes.{MESSAGE-BYTES};
 
@@ -56,10 +56,10 @@ pub fn answer_for_process(
     requires { ⌜ MESSAGE-BYTES ≤ length (now reply) ⌝ }
     ensures { λ r. ⌜ served (r .outcome) (r .process) (now (bytes .exit)) (now (reply .exit)) ≡ namedAt h (now (string .entry)) (now (reply .entry)) (local process (now (bytes .entry))) ⌝ }
 {
-    let task = task_of(h, process);
-    match task {
-        Task::Change(k) => grant(h, k, process, bytes, string, reply),
-        Task::Refuse(number) => Served {
+    let decision = decide(h, process);
+    match decision {
+        Decision::Allow(k) => grant(h, k, process, bytes, string, reply),
+        Decision::Refuse(number) => Served {
             outcome: refuse(h, number, reply),
             process: process,
         },

@@ -5,7 +5,7 @@ use borrow.Author.Tests.{ne-eqb}
 use Rattle.process.specs.Request.{breakRemoved}
 use Rattle.process.proofs.TestedLaws.{tested-inside}
 use Rattle.rules.specs.Rule.{ruleOf}
-use Rattle.tasks.proofs.OpLaws.{coded}
+use Rattle.checks.proofs.OpLaws.{coded}
 use Rattle.service.proofs.EffectLaws.{deposit-within, vector-within, break-within, break-is, break-low, unbreak-is, unbreak-low}
 use Rattle.service.proofs.effect.perform.Statement.{statement}
 use Rattle.service.proofs.effect.perform.Tie as tie

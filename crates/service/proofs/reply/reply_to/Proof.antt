@@ -1,6 +1,6 @@
 -- `service::reply::reply_to` meets its contract, by whether the reply carries bytes. Assumes nothing.
 use borrow.Author.Tests.{eq-eqb, ne-eqb}
-use Rattle.tasks.proofs.OpLaws.{coded}
+use Rattle.checks.proofs.OpLaws.{coded}
 use Rattle.service.proofs.EffectLaws.{examine-within, examine-short}
 use borrow.Author.Needs.{needs}
 use Rattle.service.proofs.reply.reply_to.Statement.{statement}

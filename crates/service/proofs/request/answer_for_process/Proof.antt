@@ -1,19 +1,19 @@
 -- `service::request::answer_for_process` meets its contract, by what the request is to do. Assumes nothing.
 use mathlib.Core.Path.{ap₂, refl, sym, _∙_}
 use Rattle.process.specs.Local.{local}
-use Rattle.tasks.specs.declared.task.Task.the-variants.{Change, Refuse}
+use Rattle.checks.specs.declared.decision.Decision.the-variants.{Allow, Refuse}
 use Rattle.service.specs.At.{leaving, namedAt, namedBy}
-use Rattle.tasks.proofs.TaskLaws.{says}
+use Rattle.checks.proofs.DecisionLaws.{says}
 use Rattle.service.proofs.AtLaws.{named-refused}
 use borrow.Author.Needs.{needs}
 use Rattle.service.proofs.request.answer_for_process.Statement.{statement}
 use Rattle.service.proofs.request.answer_for_process.Tie as tie
 
-task-of-requires : tie.Need-task-of-requires
-task-of-requires c κs = search needs
+decide-requires : tie.Need-decide-requires
+decide-requires c κs = search needs
 
-enum-known-task : tie.Need-enum-known-task
-enum-known-task c = search needs
+enum-known-decision : tie.Need-enum-known-decision
+enum-known-decision c = search needs
 
 grant-requires : tie.Need-grant-requires
 grant-requires c κs =
@@ -21,11 +21,11 @@ grant-requires c κs =
     let k = c .before .before .before .before .before in
     let s = c .before .before .before .before .before .before .before .before .before in
     let a = s .args in
-    let d = says (a .h) (a .process) (Change _) (sym (t .task .given .1) ∙ k .task-of .ensures) in
+    let d = says (a .h) (a .process) (Allow _) (sym (t .decision .given .1) ∙ k .decide .ensures) in
     (s .pre .0, (d .rule, (d .entry, s .pre .1)))
 
-enum-known-task-2 : tie.Need-enum-known-task-2
-enum-known-task-2 c = search needs
+enum-known-decision-2 : tie.Need-enum-known-decision-2
+enum-known-decision-2 c = search needs
 
 refuse-requires : tie.Need-refuse-requires
 refuse-requires c κs = search needs
@@ -42,7 +42,7 @@ returns c =
     let t = c .before .before .before .before .before .before .before .before in
     let k = c .before .before .before .before .before .before .before .before .before .before in
     let a = c .before .before .before .before .before .before .before .before .before .before .before .before .before .before .args in
-    let d = says (a .h) (a .process) (Change _) (sym (t .task .given .1) ∙ k .task-of .ensures) in
+    let d = says (a .h) (a .process) (Allow _) (sym (t .decision .given .1) ∙ k .decide .ensures) in
     rw (d .passed) (c .before .before .before .before .grant .ensures)
 
 same-length-3 : tie.Need-same-length-3
@@ -54,7 +54,7 @@ returns-2 c =
     let t = c .before .before .before .before .before in
     let k = c .before .before .before .before .before .before .before in
     let a = c .before .before .before .before .before .before .before .before .before .before .before .args in
-    let d = says (a .h) (a .process) (Refuse _) (sym (t .task2 .given .1) ∙ k .task-of .ensures) in
+    let d = says (a .h) (a .process) (Refuse _) (sym (t .decision2 .given .1) ∙ k .decide .ensures) in
     rw (← d .0, named-refused _ (d .1) (a .h) (a .string .now) (a .reply .now) (local (a .process) (a .bytes .now)))
     (ap₂ leaving (c .before .before .refuse .ensures) refl)
 
@@ -62,10 +62,10 @@ pub answer-for-process-spec : {M : Type 1} → statement M
 answer-for-process-spec =
     tie.close
     (tie.spec
-    task-of-requires
-    enum-known-task
+    decide-requires
+    enum-known-decision
     grant-requires
-    enum-known-task-2
+    enum-known-decision-2
     refuse-requires
     same-length
     same-length-2

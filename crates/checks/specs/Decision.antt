@@ -1,0 +1,42 @@
+-- What a request to a process is to do, by the tests 7 to 12, and what they found on the way.
+use mathlib.Core.Bool.{not, cond}
+use mathlib.Core.List.{List, [], _∷_}
+use Prim.Native.Nat.{ℕ, zero, suc}
+use lib.Dec.{eqb}
+use Rattle.ops.specs.Codes.{BREAK, UNBREAK}
+use Rattle.format.specs.declared.header.Header.{Header}
+use Rattle.format.specs.Outcome.{Test, test, firstFailing}
+use Rattle.process.specs.declared.record.Process.{Process}
+use Rattle.breakpoints.specs.declared.entry_query.EntryQuery.the-variants.{At}
+use Rattle.process.specs.Find.{find}
+use Rattle.process.specs.Request.{entryFor}
+use Rattle.rules.specs.Rule.{ruleOf}
+use Rattle.rules.specs.Tests.{ruleTests}
+use Rattle.checks.specs.declared.decision.Decision.{Decision}
+use Rattle.checks.specs.declared.decision.Decision.the-variants.{Allow, Refuse}
+
+-- the decision where no test fails, else the refusal by this number
+unfoldable pub decisionBy : ℕ → Decision → Decision
+decisionBy zero decision = decision
+decisionBy (suc n) decision = Refuse (suc n)
+
+-- the entry of the process that a BREAK or UNBREAK at this address goes to; others go to none, and have 0
+unfoldable pub entryOf : ℕ → ℕ → Process → ℕ
+entryOf cmd a p = cond (eqb cmd BREAK) (entryFor a p) (cond (eqb cmd UNBREAK) (find (At a) p) 0)
+
+-- by the tests 11 and 12
+unfoldable pub entryDecision : ℕ → ℕ → Process → Decision
+entryDecision cmd a p =
+    decisionBy (firstFailing (test 11 (not (ruleOf cmd .room a p)) ∷ test 12 (not (ruleOf cmd .found a p)) ∷ [])) (Allow (entryOf cmd a p))
+
+-- by the tests 8 to 12
+unfoldable pub ruleDecision : Header → Process → Decision
+ruleDecision h p = decisionBy (firstFailing (ruleTests (ruleOf (h .cmd)) h p)) (Allow (entryOf (h .cmd) (h .arg1) p))
+
+-- the tests 7 to 12 of a process whose number is under 8
+abbrev pub processTests : Header → Process → List Test
+processTests h p = test 7 (not (p .there)) ∷ ruleTests (ruleOf (h .cmd)) h p
+
+-- by the tests 7 to 12
+unfoldable pub decisionOf : Header → Process → Decision
+decisionOf h p = decisionBy (firstFailing (processTests h p)) (Allow (entryOf (h .cmd) (h .arg1) p))

@@ -1,0 +1,135 @@
+// The tests 8 to 12 of a request that names a process, by its op code.
+use crate::decision::Decision;
+use breakpoints::EntryQuery;
+use breakpoints::valid_break_address;
+use format::Header;
+use ops::BREAK;
+use ops::DEBUG;
+use ops::DEPOSIT;
+use ops::DEPOSIT_VECTOR;
+use ops::EXAMINE;
+use ops::PROCEED;
+use ops::RESUME;
+use ops::SINGLE_STEP;
+use ops::UNBREAK;
+use process::FoundEntry;
+use process::MEMORY_BYTES;
+use process::Process;
+use process::VECTOR_BYTES;
+use run_state::Run;
+ghost use mathlib.Core.Path.{_≡_};
+ghost use mathlib.Core.Bool.{_&&_};
+ghost use lib.Dec.{leb};
+ghost use Rattle.rules.specs.Rule.{public, ruleOf};
+ghost use Rattle.checks.specs.Decision.{entryDecision, ruleDecision};
+ghost use Rattle.ops.specs.Codes.{BREAK, UNBREAK};
+
+// 8: the asker debugs the process; for DEBUG, no other host does.
+fn right(cmd: u8, p: Process, asker: u8) -> bool
+    ensures { λ r. ⌜ r ≡ ruleOf cmd .right (public p) asker ⌝ }
+{
+    if cmd != DEBUG {
+        return p.host == asker;
+    }
+    p.host == 0 || p.host == asker
+}
+
+// 9: the run state is one that the op code works in.
+fn runs(cmd: u8, run: Run) -> bool
+    ensures { λ r. ⌜ r ≡ ruleOf cmd .runs run ⌝ }
+{
+    if cmd == RESUME {
+        return run.stopped_or_at_break();
+    }
+    if cmd == SINGLE_STEP {
+        return run.stopped_or_at_break();
+    }
+    if cmd == PROCEED {
+        return run.at_break();
+    }
+    true
+}
+
+// Whether so many bytes from this address on may be examined.
+fn readable(end: usize, count: u16) -> bool
+    ensures { λ r. ⌜ r ≡ leb end 4096 && leb count 256 ⌝ }
+{
+    end <= MEMORY_BYTES && count <= 256
+}
+
+// 10: what is asked for lies inside memory or vector.
+fn range(h: Header) -> bool
+    ensures { λ r. ⌜ r ≡ ruleOf (h .cmd) .range h ⌝ }
+{
+    let arg1 = h.arg1;
+    let arg2 = h.arg2;
+    let end = arg1 as usize + arg2 as usize;
+    if h.cmd == DEPOSIT {
+        return end <= MEMORY_BYTES;
+    }
+    if h.cmd == EXAMINE {
+        return readable(end, arg2);
+    }
+    if h.cmd == DEPOSIT_VECTOR {
+        return end <= VECTOR_BYTES;
+    }
+    if h.cmd == BREAK {
+        return valid_break_address(arg1);
+    }
+    true
+}
+
+// 11: a BREAK at this address has an entry to go to.
+fn break_decision(a: u16, p: Process) -> Decision
+    ensures { λ r. ⌜ r ≡ entryDecision BREAK a p ⌝ }
+{
+    let found = p.entry_for(a);
+    match found {
+        FoundEntry::Index(k) => Decision::Allow(k),
+        FoundEntry::Nowhere => Decision::Refuse(11),
+    }
+}
+
+// 12: there is a breakpoint to remove.
+fn unbreak_decision(a: u16, p: Process) -> Decision
+    ensures { λ r. ⌜ r ≡ entryDecision UNBREAK a p ⌝ }
+{
+    let found = p.find(EntryQuery::At(a));
+    match found {
+        FoundEntry::Index(k) => Decision::Allow(k),
+        FoundEntry::Nowhere => Decision::Refuse(12),
+    }
+}
+
+// 11 and 12.
+fn entry_decision(cmd: u8, a: u16, p: Process) -> Decision
+    ensures { λ r. ⌜ r ≡ entryDecision cmd a p ⌝ }
+{
+    if cmd == BREAK {
+        return break_decision(a, p);
+    }
+    if cmd == UNBREAK {
+        return unbreak_decision(a, p);
+    }
+    Decision::Allow(0)
+}
+
+// The first of these tests that fails, or the entry that the request goes to.
+pub(crate) fn rule_decision(h: Header, p: Process) -> Decision
+    ensures { λ r. ⌜ r ≡ ruleDecision h p ⌝ }
+{
+    let cmd = h.cmd;
+    let host = h.host;
+    let arg1 = h.arg1;
+    let run = p.run;
+    if !right(cmd, p, host) {
+        return Decision::Refuse(8);
+    }
+    if !runs(cmd, run) {
+        return Decision::Refuse(9);
+    }
+    if !range(h) {
+        return Decision::Refuse(10);
+    }
+    entry_decision(cmd, arg1, p)
+}

@@ -1,3 +1,0 @@
--- Laws that several proofs of this crate, and of the crates above, cite.
-pub mod OpLaws
-pub mod TaskLaws
