@@ -1,6 +1,6 @@
 // A machine report, with the buffer for its notice.
-use crate::checks::check_buffers_and_state;
 use crate::kept::keep;
+use crate::lent::check_buffers_and_state;
 use format::Outcome;
 use process::MEMORY_BYTES;
 use service::check_report;

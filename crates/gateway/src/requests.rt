@@ -1,6 +1,6 @@
 // A request: any message, with the buffer for its reply.
-use crate::checks::check_buffers_and_state;
 use crate::kept::keep;
+use crate::lent::check_buffers_and_state;
 use format::Header;
 use format::Outcome;
 use format::string;

@@ -1,10 +1,10 @@
--- `gateway::checks::check_buffers_and_state` meets its contract: at each `return` the tests before it have passed. Assumes nothing.
+-- `gateway::lent::check_buffers_and_state` meets its contract: at each `return` the tests before it have passed. Assumes nothing.
 use borrow.Author.Tests.{eq-eqb, ne-eqb, lt-ltb, le-ltb, not-true, not-false}
 use lib.ListN.{length}
 use Rattle.gateway.specs.Called.{lentOn}
 use borrow.Author.Needs.{needs}
-use Rattle.gateway.proofs.checks.check_buffers_and_state.Statement.{statement}
-use Rattle.gateway.proofs.checks.check_buffers_and_state.Tie as tie
+use Rattle.gateway.proofs.lent.check_buffers_and_state.Statement.{statement}
+use Rattle.gateway.proofs.lent.check_buffers_and_state.Tie as tie
 
 returns : tie.Need-returns
 unfolding lentOn
