@@ -13,6 +13,7 @@ use Rattle.process.specs.declared.record.Process.{Process}
 use Rattle.process.specs.Report.{accepts}
 use Rattle.state.specs.declared.gateway.Gateway.{Gateway}
 use Rattle.state.specs.Gateway.{processAt, lowestAbsent, soundTest}
+use Rattle.state.specs.Slot.{capacity}
 use Rattle.rules.specs.Rule.{Rule, public, ruleOf, names, creates}
 
 -- the gateway's eight records and the lent memory
@@ -26,7 +27,7 @@ lent g memory = record { gateway = g; memory = memory }
 
 -- 1: 'memory not 32,768 bytes, or reply or notice buffer under 266'
 abbrev pub noRoom : List ℕ → List ℕ → Bool
-noRoom memory buffer = not (eqb (length memory) 32768) || ltb (length buffer) 266
+noRoom memory buffer = not (eqb (length memory) capacity) || ltb (length buffer) 266
 
 -- 2: 'state not sound'
 abbrev pub unsound : State → Bool
