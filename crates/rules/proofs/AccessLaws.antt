@@ -1,17 +1,17 @@
 -- The law of a call at one process, and what follows from it whatever the call is: a host that may not see the inside is answered by the
 -- public part alone, and the public part after the call goes by the one before it. Assumes nothing.
 use mathlib.Core.Path.{_≡_, refl, sym, ap, _∙_}
-use mathlib.Core.Bool.{Bool, true, false, not, cond, true≢false, and-false}
+use mathlib.Core.Bool.{Bool, true, false, cond, true≢false, and-false}
 use mathlib.Core.List.{List, []}
 use mathlib.Core.Logic.{_⊎_, inl, inr}
-use Prim.Native.Nat.{ℕ, _+_}
+use Prim.Native.Nat.{ℕ}
 use borrow.Author.Tests.{eqb-true}
 use lib.ListN.{length}
 use lib.Dec.{eqb, ltb}
 use Rattle.lists.specs.Buffer.{overlay}
 use Rattle.format.specs.declared.header.Header.{Header}
 use Rattle.format.specs.declared.outcome.Outcome.the-variants.{Granted}
-use Rattle.format.specs.Outcome.{Test, firstFailing}
+use Rattle.format.specs.Outcome.{firstFailing}
 use Rattle.format.specs.Layout.{written}
 use Rattle.process.specs.Local.{Local, Proper}
 use Rattle.rules.specs.Rule.{Public, public}

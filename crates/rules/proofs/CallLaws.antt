@@ -1,7 +1,7 @@
 -- The law of a call: all that the theorems ask of one. Each call has one proof of it (RequestLaws, ReportLaws), and every theorem follows
 -- for all calls alike. Assumes nothing.
 use mathlib.Core.Path.{_≡_}
-use mathlib.Core.Bool.{Bool, true, cond}
+use mathlib.Core.Bool.{true, cond}
 use mathlib.Core.List.{List, []}
 use mathlib.Core.Logic.{_⊎_}
 use Prim.Native.Nat.{ℕ, _<_}
@@ -16,7 +16,7 @@ use Rattle.rules.specs.Turn.{turnOf, bufferOf}
 use Rattle.rules.specs.Ready.{Ready}
 use Rattle.rules.specs.Isolation.{Processes, asker, subject, event, passedOver, fieldsOf, toldOf, publicOf}
 use Rattle.rules.specs.Outsider.{only}
-use Rattle.rules.specs.Total.{testsOf}
+use Rattle.rules.specs.Total.{testsOf, numbersOf, oneOf}
 use Rattle.rules.proofs.RuleLaws.{Turns}
 use Rattle.rules.proofs.TurnLaws.{turnNumber}
 use Rattle.rules.proofs.AccessLaws.{Fair}
@@ -57,6 +57,7 @@ pub record Lawful (c : Call) : Type 0 where
   -- it is the call in its parts
   pub turn : (s : State) → step s c ≡ taken (turnOf s c) (bufferOf c) s
   pub number : (s : State) → turnNumber (turnOf s c) s ≡ firstFailing (testsOf s c)
+  pub listed : (s : State) → oneOf (numbersOf c) (firstFailing (testsOf s c)) ≡ true
   -- the parts go by what everyone may know
   pub alike : (s t : State) → Ready s → Ready t → Shown s t → turnOf s c ≡ turnOf t c
   pub placed : (s : State) → Ready s → firstFailing (turnOf s c .tests) ≡ 0 → Placed s c (turnOf s c .place)

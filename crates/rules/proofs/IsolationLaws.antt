@@ -13,14 +13,14 @@ use Rattle.process.specs.Local.{Local}
 use Rattle.rules.specs.Rule.{Public, public}
 use Rattle.rules.specs.Tests.{State}
 use Rattle.rules.specs.Access.{Asker, nobody, by, insider, Access, Place, nowhere, atProcess, Turn, numberAt, reached, taken}
-use Rattle.rules.specs.Step.{Answer, Stepped, localOf, put, Call, step}
+use Rattle.rules.specs.Step.{Answer, Stepped, localOf, Call, step}
 use Rattle.rules.specs.Turn.{turnOf, bufferOf}
 use Rattle.rules.specs.Ready.{Ready}
 use Rattle.rules.specs.Run.{entry}
 use Rattle.rules.specs.Isolation.{Hosts, Processes, asker, subject, event, passedOver, isOne, publicOf, Debuggers, noticed, sentTo, part, struck, blank, Apart, Free, theirs}
 use Rattle.rules.proofs.StateLaws.{local-proper, Changed, unchanged, put-changed}
 use Rattle.rules.proofs.AccessLaws.{saidAt, leftAt, Taking, May, Discreet, Fair, outer-zero, said-stranger, left-alike, quiet}
-use Rattle.rules.proofs.CallLaws.{Silent, There, Nowhere, Placed}
+use Rattle.rules.proofs.CallLaws.{Silent, Placed}
 use Rattle.rules.proofs.LawfulLaws.{lawful}
 use Rattle.rules.proofs.StepLaws.{by-test, Done, stays, idles, acts, done, acts-changed}
 use Rattle.rules.proofs.DebuggerLaws.{acts-public, debuggers}

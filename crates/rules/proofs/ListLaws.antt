@@ -1,6 +1,6 @@
 -- Whole lists of calls: the claim of isolation, from the laws of one call and the induction over lists. Assumes nothing.
 use mathlib.Core.Path.{_≡_, refl, sym, ap, _∙_, subst}
-use mathlib.Core.Bool.{Bool, true, false, cond, _&&_}
+use mathlib.Core.Bool.{Bool, true}
 use mathlib.Core.List.{List, [], _∷_, _++_}
 use Rattle.rules.specs.Tests.{State}
 use Rattle.rules.specs.Step.{Answer, Call, step}

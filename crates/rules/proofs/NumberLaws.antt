@@ -1,10 +1,10 @@
 -- The number of a request, stage by stage: what the message says by itself, and what is asked of the process. Assumes nothing.
 use mathlib.Core.Path.{_≡_, refl, sym}
-use mathlib.Core.Bool.{Bool, true, false, not, cond, _||_, true≢false}
+use mathlib.Core.Bool.{Bool, true, false, not, cond, true≢false}
 use mathlib.Core.List.{List, [], _∷_, _++_}
 use Prim.Native.Nat.{ℕ, zero, suc, _+_, _≤_}
 use native.Mathlib.Omega.{arith}
-use borrow.Author.Tests.{eq-eqb, eqb-true, not-false, not-true}
+use borrow.Author.Tests.{eqb-true, not-false, not-true}
 use lib.ListN.{length}
 use lib.Dec.{eqb, ltb, eqb·suc-zero}
 use Rattle.lists.specs.Every.{every}
@@ -16,14 +16,11 @@ use Rattle.ops.specs.declared.table.Op.{Op}
 use Rattle.format.specs.Outcome.{Test, test, firstFailing}
 use Rattle.ops.specs.Table.{bare, row, ops, op, asks, requestForm}
 use Rattle.format.specs.Layout.{headerOf, stringOf, fixedRight}
-use Rattle.format.specs.Refusal.{carriedLength, unusedZero, wrongLength, wrongHeader, unknown, misfits, malformed, layoutTests}
+use Rattle.format.specs.Refusal.{carriedLength, unusedZero, misfits, layoutTests}
 use Rattle.format.proofs.OutcomeLaws.{rest-passes}
 use Rattle.format.proofs.TestLaws.{zero-passed, sized-between}
 use Rattle.format.proofs.LayoutLaws.{length-stringOf}
 use Rattle.message.proofs.AnswerLaws.{Asked, asked-passed, requestForm-known}
-use Rattle.process.specs.Report.{accepts}
-use Rattle.rules.specs.Tests.{State, noRoom, unsound, recordOf, absent, askedTests, requestNumber, badReport, reportNumber}
-use Rattle.rules.specs.Ready.{Ready}
 
 -- the tests of a message and its reply buffer by themselves
 abbrev pub envelopeTests : List ℕ → List ℕ → List Test
@@ -42,9 +39,18 @@ pub by-test : {A : Type 0} (F : A → Type 0) (t : Bool) {x y : A} → (t ≡ tr
 by-test F true f g = f refl
 by-test F false f g = g refl
 
+-- a choice between two that are the same
+pub same-cond : {A : Type 0} (t : Bool) (x : A) → cond t x x ≡ x
+same-cond true x = refl
+same-cond false x = refl
+
 pub orElse-zero : (a b : ℕ) → orElse a b ≡ 0 → (a ≡ 0) × (b ≡ 0)
 orElse-zero zero b e = (refl, e)
 orElse-zero (suc a) b e = let z = rw (eqb·suc-zero a) at e in absurd (omega arith)
+
+pub orElse-none : (a : ℕ) → orElse a 0 ≡ a
+orElse-none zero = refl
+orElse-none (suc a) = rw (eqb·suc-zero a)
 
 pub orElse-assoc : (a b c : ℕ) → orElse (orElse a b) c ≡ orElse a (orElse b c)
 orElse-assoc a b c = go (eqb a 0) refl
@@ -63,6 +69,15 @@ first-append (t ∷ ts) us e = go (t .fails) (first-append ts us (&&-right (not 
         → cond b (t .number) (firstFailing (ts ++ us)) ≡ orElse (cond b (t .number) (firstFailing ts)) (firstFailing us)
     go true i = rw (not-true (eqb (t .number) 0) (&&-left (not (eqb (t .number) 0)) _ e))
     go false i = i
+
+-- a test over the numbers of a list of tests holds of the number that it gives
+pub first-listed : (F : ℕ → Bool) (ts : List Test) → F 0 ≡ true → every (λ (t : Test). F (t .number)) ts ≡ true → F (firstFailing ts) ≡ true
+unfolding firstFailing
+first-listed F [] z e = z
+first-listed F (t ∷ ts) z e =
+    by-test (λ (n : ℕ). F n ≡ true) (t .fails)
+    (λ b. &&-left (F (t .number)) (every (λ (u : Test). F (u .number)) ts) e)
+    (λ b. first-listed F ts z (&&-right (F (t .number)) (every (λ (u : Test). F (u .number)) ts) e))
 
 -- ---- what a message that passes says
 

@@ -1,6 +1,6 @@
 -- The laws of machine reports and of stores by the machine. Assumes nothing.
 use mathlib.Core.Path.{_≡_, refl, sym, _∙_}
-use mathlib.Core.Bool.{Bool, true, false, not, cond, _&&_}
+use mathlib.Core.Bool.{true, not}
 use mathlib.Core.List.{List, []}
 use mathlib.Core.Logic.{_⊎_, inl, inr}
 use Prim.Native.Nat.{ℕ, _<_}
@@ -9,30 +9,23 @@ use lib.Dec.{eqb, ltb}
 use Rattle.lists.specs.Word.{lowFirst}
 use Rattle.lists.proofs.Bool.{&&-left, &&-both}
 use Rattle.format.specs.Outcome.{firstFailing}
-use Rattle.format.specs.Layout.{written}
 use Rattle.format.specs.Answer.{noticeOf}
 use Rattle.format.proofs.OutcomeLaws.{first-passes, rest-passes}
 use Rattle.process.specs.Local.{Local, Proper}
 use Rattle.process.specs.Report.{passes, recorded, reported}
 use Rattle.rules.specs.Rule.{Public, public, names}
-use Rattle.rules.specs.Tests.{State, reportNumber}
-use Rattle.rules.specs.Access.{nobody, insider, nowhere, atProcess, numberAt}
-use Rattle.rules.specs.Step.{Answer, told, Call, report, store, step}
+use Rattle.rules.specs.Tests.{State, reportTests, reportNumber}
+use Rattle.rules.specs.Access.{nobody, insider, numberAt}
+use Rattle.rules.specs.Step.{told, Call, report, store, step}
 use Rattle.rules.specs.Turn.{reportAccess, reportTurn, storeAccess, storeTurn, turnOf, bufferOf}
-use Rattle.rules.specs.Ready.{Ready}
 use Rattle.rules.specs.Isolation.{asker, subject, event, passedOver, fieldsOf, isGranted, toldOf}
-use Rattle.rules.specs.Total.{testsOf}
+use Rattle.rules.specs.Total.{testsOf, numbersOf, oneOf}
 use Rattle.rules.proofs.ProperLaws.{report-proper, store-proper}
 use Rattle.rules.proofs.RuleLaws.{public-reported}
-use Rattle.rules.proofs.NumberLaws.{by-test, orElse-zero}
+use Rattle.rules.proofs.NumberLaws.{by-test, same-cond, first-listed, orElse-zero}
 use Rattle.rules.proofs.TurnLaws.{report-number, report-turn, store-number, store-turn}
 use Rattle.rules.proofs.AccessLaws.{May, Sends, Discreet, Fair, outerNumber}
-use Rattle.rules.proofs.CallLaws.{Shown, Silent, There, Nowhere, Placed, Lawful}
-
--- a choice between two that are the same
-pub same-cond : {A : Type 0} (t : Bool) (x : A) → cond t x x ≡ x
-same-cond true x = refl
-same-cond false x = refl
+use Rattle.rules.proofs.CallLaws.{Silent, There, Placed, Lawful}
 
 -- the public part stays
 abbrev pub kept : Public → Public
@@ -91,10 +84,11 @@ module _ (p kind reason : ℕ) (words : List ℕ) where
     }
 
     pub report-lawful : Lawful here
-    unfolding step turnOf bufferOf testsOf reportNumber event asker passedOver subject reportTurn Placed
+    unfolding step turnOf bufferOf testsOf numbersOf reportNumber event asker passedOver subject reportTurn Placed
     report-lawful = record {
       turn = report-turn p kind reason words buffer;
       number = report-number p kind reason words buffer;
+      listed = λ s. first-listed (oneOf (numbersOf here)) (reportTests s p kind reason buffer) refl refl;
       alike = λ s t r q a. rw (r .memory, q .memory, r .sound, q .sound);
       placed = λ s r z.
           report-there s (ltb-true p 8 (not-false _ (first-passes 6 _ _ (rest-passes 13 _ _ (rest-passes 1 _ _ (rest-passes 0 _ _ z))))));
@@ -136,10 +130,11 @@ module _ (p x v : ℕ) where
   }
 
   pub store-lawful : Lawful (store p x v)
-  unfolding step turnOf bufferOf testsOf event asker passedOver subject storeTurn Placed firstFailing
+  unfolding step turnOf bufferOf testsOf numbersOf event asker passedOver subject storeTurn Placed firstFailing
   store-lawful = record {
     turn = store-turn p x v;
     number = store-number p x v;
+    listed = λ s. refl;
     alike = λ s t r q a. refl;
     placed = λ s r z.
         by-test (Placed s (store p x v)) (ltb p 8) (λ e. store-there s (ltb-true p 8 e)) (λ e. record { told = λ d q. store-silent d _ q; quiet = λ i. refl });

@@ -1,19 +1,20 @@
 -- The law of requests. Assumes nothing.
 use mathlib.Core.Path.{_≡_, refl, sym, ap, _∙_}
-use mathlib.Core.Bool.{Bool, true, false, not, cond, _&&_, _||_, true≢false}
-use mathlib.Core.List.{List, [], _∷_, _++_}
+use mathlib.Core.Bool.{Bool, true, false, not, _&&_, _||_, true≢false}
+use mathlib.Core.List.{List, []}
 use mathlib.Core.Logic.{_⊎_, inl, inr}
 use Prim.Native.Nat.{ℕ, _≤_, _<_}
 use native.Mathlib.Omega.{arith}
 use borrow.Author.Tests.{eq-eqb, ne-eqb, eqb-true, ltb-true, leb-true, le-leb, not-true, not-false}
-use lib.ListN.{length, take, getD}
-use lib.Dec.{eqb, ltb, leb, lit<}
+use lib.ListN.{length, take}
+use lib.Dec.{eqb, leb, lit<}
 use lib.Seq.{getD-take, length-take-le}
 use Rattle.lists.specs.Buffer.{overlay}
 use Rattle.lists.proofs.Bool.{&&-left, &&-right, &&-both}
 use Rattle.lists.proofs.First.{first-passes, first-alike}
 use Rattle.format.specs.declared.header.Header.{Header}
-use Rattle.format.specs.Outcome.{test, firstFailing}
+use Rattle.lists.specs.Every.{every}
+use Rattle.format.specs.Outcome.{Test, firstFailing}
 use Rattle.format.specs.Layout.{written, headerOf, stringOf}
 use Rattle.format.specs.Answer.{createdOf}
 use Rattle.format.proofs.OutcomeLaws.{rest-passes}
@@ -26,19 +27,18 @@ use Rattle.state.specs.Gateway.{lowestAbsent}
 use Rattle.state.specs.Gateway.{nobody as noProcess}
 use Rattle.state.proofs.GatewayLaws.{state-sound}
 use Rattle.rules.specs.Rule.{Rule, Public, public, ruleOf, names, creates}
-use Rattle.rules.specs.Tests.{State, ruleTests, requestNumber}
-use Rattle.rules.specs.Access.{by, insider, Place, atProcess, numberAt, grants}
-use Rattle.rules.specs.Step.{Answer, Call, request, step}
-use Rattle.rules.specs.Turn.{cantBytes, ruleAccess, createAccess, placeTests, requestPlace, messageTests, requestTurn, turnOf, bufferOf}
+use Rattle.rules.specs.Tests.{State, askedTests, requestTests, requestNumber}
+use Rattle.rules.specs.Access.{by, insider, numberAt}
+use Rattle.rules.specs.Step.{Call, request, step}
+use Rattle.rules.specs.Turn.{ruleAccess, createAccess, placeTests, requestPlace, messageTests, requestTurn, turnOf, bufferOf}
 use Rattle.rules.specs.Ready.{Ready}
 use Rattle.rules.specs.Isolation.{Processes, namesOne, deposits, asker, subject, event, passedOver, fieldsOf, isGranted, publicThen, toldOf, publicOf}
-use Rattle.rules.specs.Outsider.{only}
-use Rattle.rules.specs.Total.{testsOf}
+use Rattle.rules.specs.Total.{testsOf, numbersOf, oneOf}
 use Rattle.rules.proofs.ProperLaws.{create-proper}
-use Rattle.rules.proofs.RuleLaws.{Open, Kept, Row, Passing, rule-row, Turns}
+use Rattle.rules.proofs.RuleLaws.{Open, Kept, Row, rule-row}
 use Rattle.rules.proofs.RuleLaws.{Taking as RowTaking}
-use Rattle.rules.proofs.NumberLaws.{by-test, orElse, orElse-zero, first-append, Sent, layout-sent}
-use Rattle.rules.proofs.TurnLaws.{turnNumber, request-number, request-turn}
+use Rattle.rules.proofs.NumberLaws.{by-test, same-cond, first-listed, orElse-zero, first-append, Sent, layout-sent}
+use Rattle.rules.proofs.TurnLaws.{request-number, request-turn}
 use Rattle.rules.proofs.AccessLaws.{Taking, May, Discreet, Fair, outerNumber}
 use Rattle.rules.proofs.CallLaws.{Shown, Silent, There, Nowhere, Placed, Lawful}
 
@@ -226,10 +226,6 @@ deposit-kept cmd = deposit-is cmd Kept (λ asker u. refl) (λ asker u. refl)
 deposit-creates : (cmd : ℕ) → deposits cmd ≡ true → creates cmd ≡ false
 deposit-creates cmd = deposit-is cmd (λ (n : ℕ). creates n ≡ false) refl refl
 
-same-cond : {A : Type 0} (t : Bool) (x : A) → cond t x x ≡ x
-same-cond true x = refl
-same-cond false x = refl
-
 deposit-silent : (m buffer : List ℕ) → deposits (headerOf m .cmd) ≡ true → Silent (request m buffer)
 unfolding toldOf fieldsOf Kept
 deposit-silent m buffer e d a q =
@@ -260,11 +256,25 @@ module _ (m buffer : List ℕ) where
       (&&-both (leb 10 (length (take 10 m))) _ (long-take m (&&-left (leb 10 (length m)) _ e)) (&&-right (leb 10 (length m)) (names (headerOf m .cmd) && P (headerOf m .pid)) e)))
       (λ d. e)
 
+  request-listed : (s : State) → oneOf (numbersOf (request m buffer)) (firstFailing (requestTests s m buffer)) ≡ true
+  unfolding numbersOf askedTests
+  request-listed s = first-listed Listed (requestTests s m buffer) refl numbers
+    where
+      Listed : ℕ → Bool
+      Listed = oneOf (numbersOf (request m buffer))
+
+      Each : List Test → Type 0
+      Each ts = every (λ (t : Test). Listed (t .number)) ts ≡ true
+
+      numbers : Each (requestTests s m buffer)
+      numbers = by-test Each (names (headerOf m .cmd)) (λ e. refl) (λ e. by-test Each (creates (headerOf m .cmd)) (λ i. refl) (λ i. refl))
+
   pub request-lawful : Lawful (request m buffer)
   unfolding step turnOf bufferOf testsOf requestNumber event asker passedOver
   request-lawful = record {
     turn = request-turn m buffer;
     number = request-number m buffer;
+    listed = request-listed;
     alike = request-alike;
     placed = request-placed;
     event-asker = λ e. absurd (true≢false (sym e));

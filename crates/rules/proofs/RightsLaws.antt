@@ -6,18 +6,16 @@ use mathlib.Core.Logic.{_⊎_, inl, inr}
 use Prim.Native.Nat.{ℕ, _<_}
 use borrow.Author.Tests.{eqb-true, eqb-false}
 use lib.Dec.{eqb}
-use Rattle.format.specs.declared.outcome.Outcome.{Outcome}
-use Rattle.process.specs.Local.{Local}
 use Rattle.rules.specs.Rule.{Public}
 use Rattle.rules.specs.Tests.{State}
-use Rattle.rules.specs.Access.{Asker, nobody, by, insider, Access, numberAt}
+use Rattle.rules.specs.Access.{Asker, nobody, by, Access, numberAt}
 use Rattle.rules.specs.Step.{Stepped, localOf, put, Call, step}
 use Rattle.rules.specs.Ready.{Ready}
 use Rattle.rules.specs.Run.{final}
 use Rattle.rules.specs.Isolation.{asker, fieldsOf, isGranted, publicOf}
 use Rattle.rules.specs.Rights.{holder, Allowed, MayChange, Begins, Ends, NoneEnds, NoneBegins, Rights}
-use Rattle.rules.proofs.RuleLaws.{BeginsBy, EndsBy, Turns}
-use Rattle.rules.proofs.AccessLaws.{Taking, May, outer-zero}
+use Rattle.rules.proofs.RuleLaws.{Turns}
+use Rattle.rules.proofs.AccessLaws.{May, outer-zero}
 use Rattle.rules.proofs.CallLaws.{There}
 use Rattle.rules.proofs.StepLaws.{Done, stays, idles, acts, done, acts-changed, step-ready}
 use Rattle.rules.proofs.DebuggerLaws.{acts-public, acts-else}

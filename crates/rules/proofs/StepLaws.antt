@@ -1,12 +1,11 @@
 -- One call on a sound state: it is refused, goes to no process, or changes one process; the state after it is sound. Assumes nothing.
-use mathlib.Core.Path.{_≡_, refl, sym, ap, _∙_, subst}
-use mathlib.Core.Bool.{Bool, true, false}
+use mathlib.Core.Path.{_≡_, refl, sym, subst}
 use mathlib.Core.List.{List}
-use Prim.Native.Nat.{ℕ, _<_}
+use Prim.Native.Nat.{ℕ}
 use borrow.Author.Tests.{eqb-true}
 use lib.Dec.{eqb}
 use Rattle.format.specs.Outcome.{firstFailing}
-use Rattle.process.specs.Local.{Local, Proper}
+use Rattle.process.specs.Local.{Proper}
 use Rattle.rules.specs.Tests.{State}
 use Rattle.rules.specs.Access.{Access, Place, nowhere, atProcess, numberAt, grants, refuses, reached, taken}
 use Rattle.rules.specs.Step.{Stepped, localOf, put, Call, step}

@@ -1,6 +1,6 @@
 -- Demand 1. Assumes nothing.
 use mathlib.Core.Path.{_≡_, refl, sym, ap, _∙_, subst}
-use mathlib.Core.Bool.{Bool, true, false, cond, _&&_, true≢false}
+use mathlib.Core.Bool.{Bool, true, false, cond, true≢false}
 use mathlib.Core.List.{List, [], _∷_}
 use mathlib.Core.Logic.{_⊎_, inl, inr}
 use Prim.Native.Nat.{ℕ}
@@ -9,22 +9,18 @@ use borrow.Author.Tests.{eqb-true, eq-eqb}
 use lib.ListN.{length, drop}
 use lib.Dec.{ltb, eqb}
 use Rattle.lists.specs.Buffer.{overlay}
-use Rattle.lists.specs.Every.{every}
-use Rattle.lists.proofs.Bool.{&&-left, &&-right}
 use Rattle.lists.proofs.Buffer.{drop-overlay}
-use Rattle.format.specs.declared.outcome.Outcome.{Outcome}
 use Rattle.format.specs.declared.outcome.Outcome.the-variants.{Granted, Refused}
 use Rattle.format.specs.Outcome.{Test, firstFailing, numberOf}
 use Rattle.format.specs.Layout.{headerOf}
 use Rattle.format.specs.Answer.{cantOf}
 use Rattle.format.proofs.LayoutLaws.{length-written}
-use Rattle.rules.specs.Rule.{names, creates}
-use Rattle.rules.specs.Tests.{State, askedTests, requestTests, requestNumber, reportNumber}
+use Rattle.rules.specs.Tests.{State, requestNumber, reportNumber}
 use Rattle.rules.specs.Access.{Place, nowhere, atProcess, Turn, numberAt, reached, taken}
-use Rattle.rules.specs.Step.{Answer, Stepped, localOf, put, granted, refused, requested, notified, noted, Call, request, report, store, step}
+use Rattle.rules.specs.Step.{Stepped, localOf, put, granted, refused, requested, noted, Call, request, report, step}
 use Rattle.rules.specs.Turn.{turnOf, bufferOf}
 use Rattle.rules.specs.Isolation.{isGranted}
-use Rattle.rules.specs.Total.{testsOf, numbersOf, oneOf, First, cantOver, Total}
+use Rattle.rules.specs.Total.{testsOf, First, cantOver, Total}
 use Rattle.rules.proofs.TurnLaws.{placeNumber, turnNumber}
 use Rattle.rules.proofs.LawfulLaws.{lawful}
 use Rattle.rules.proofs.StepLaws.{by-test, step-ready}
@@ -40,15 +36,6 @@ first-is (t ∷ ts) = go (t .fails) refl (first-is ts)
         → ((t .fails ≡ true) × (cond b (t .number) (firstFailing ts) ≡ t .number)) ⊎ ((t .fails ≡ false) × First ts (cond b (t .number) (firstFailing ts)))
     go true e f = inl (e, refl)
     go false e f = inr (e, f)
-
--- a test over the numbers of a list of tests holds of the number that it gives
-listed : (F : ℕ → Bool) (ts : List Test) → F 0 ≡ true → every (λ (t : Test). F (t .number)) ts ≡ true → F (firstFailing ts) ≡ true
-unfolding firstFailing
-listed F [] z e = z
-listed F (t ∷ ts) z e =
-    by-test (λ (n : ℕ). F n ≡ true) (t .fails)
-    (λ b. &&-left (F (t .number)) (every (λ (u : Test). F (u .number)) ts) e)
-    (λ b. listed F ts z (&&-right (F (t .number)) (every (λ (u : Test). F (u .number)) ts) e))
 
 -- ---- a call in its parts
 
@@ -99,24 +86,6 @@ turn-told t buffer s = go (eqb (firstFailing (t .tests)) 0) refl
 told : (s : State) (c : Call) → Told (firstFailing (testsOf s c)) (bufferOf c) s (step s c)
 told s c = rw (lawful c .turn s, ← lawful c .number s) (turn-told (turnOf s c) (bufferOf c) s)
 
--- ---- the numbers of each call
-
-numbers : (s : State) (c : Call) → every (λ (t : Test). oneOf (numbersOf c) (t .number)) (testsOf s c) ≡ true
-unfolding testsOf numbersOf askedTests
-numbers s (request m buffer) =
-    by-test Listed (names (headerOf m .cmd)) (λ e. refl) (λ e. by-test Listed (creates (headerOf m .cmd)) (λ i. refl) (λ i. refl))
-  where
-    Listed : List Test → Type 0
-    Listed ts = every (λ (t : Test). oneOf (numbersOf (request m buffer)) (t .number)) ts ≡ true
-numbers s (report p kind reason words buffer) = refl
-numbers s (store p x v) = refl
-
-zero-listed : (c : Call) → oneOf (numbersOf c) 0 ≡ true
-unfolding numbersOf
-zero-listed (request m buffer) = refl
-zero-listed (report p kind reason words buffer) = refl
-zero-listed (store p x v) = refl
-
 -- ---- the column 'Written'
 
 request-silent : (s : State) (m buffer : List ℕ) (n : ℕ) → requested m buffer s .answer .outcome ≡ Refused n
@@ -144,7 +113,7 @@ pub total : Total
 unfolding step bufferOf
 total = record {
   number = λ s c. subst (First (testsOf s c)) (sym (told s c .is)) (first-is (testsOf s c));
-  listed = λ s c. rw (told s c .is) (listed (oneOf (numbersOf c)) (testsOf s c) (zero-listed c) (numbers s c));
+  listed = λ s c. rw (told s c .is) (lawful c .listed s);
   granted = λ s c z. told s c .grant (sym (told s c .is) ∙ z);
   refused = λ s c n. told s c .kept (λ z. n (told s c .is ∙ z));
   past = λ s c. told s c .past;

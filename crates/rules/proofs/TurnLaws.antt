@@ -1,9 +1,8 @@
 -- Each call, in its parts, answers and leaves what its definition says. Assumes nothing.
 use mathlib.Core.Path.{_≡_, refl, sym, ap, _∙_}
 use mathlib.Core.Bool.{Bool, true, false, not, cond, _&&_}
-use mathlib.Core.List.{List, [], _∷_}
+use mathlib.Core.List.{List, []}
 use Prim.Native.Nat.{ℕ}
-use borrow.Author.Tests.{eqb-true, eq-eqb}
 use lib.Dec.{eqb, ltb}
 use Rattle.lists.specs.Buffer.{overlay}
 use Rattle.lists.specs.Word.{lowFirst}
@@ -15,8 +14,8 @@ use Rattle.format.specs.Answer.{cantOf, createdOf, noticeOf}
 use Rattle.format.proofs.LayoutLaws.{length-written}
 use Rattle.process.specs.Report.{accepts}
 use Rattle.state.specs.Gateway.{lowestAbsent}
-use Rattle.rules.specs.Rule.{Rule, public, ruleOf, names, creates}
-use Rattle.rules.specs.Tests.{State, recordOf, noRoom, unsound, ruleTests, askedTests, requestNumber, badReport, reportNumber}
+use Rattle.rules.specs.Rule.{public, ruleOf, names, creates}
+use Rattle.rules.specs.Tests.{State, recordOf, noRoom, unsound, askedTests, requestNumber, badReport, reportNumber}
 use Rattle.rules.specs.Access.{Access, Place, nowhere, atProcess, Turn, numberAt, reached, taken}
 use Rattle.rules.specs.Step.{answers, localOf, grantedNamed, grantedCreate, granted, refused, requested, told, notified, noted, stored}
 use Rattle.rules.specs.Turn.{cantBytes, ruleAccess, createAccess, placeTests, requestPlace, messageTests, requestTurn, reportAccess, reportTurn, storeAccess, storeTurn}

@@ -1,5 +1,5 @@
 -- Each call in its parts. What it answers and leaves by these is what `step` says (the law `turn` of each call).
-use mathlib.Core.Bool.{Bool, not, cond}
+use mathlib.Core.Bool.{not, cond}
 use mathlib.Core.List.{List, [], _∷_, _++_}
 use Prim.Native.Nat.{ℕ}
 use lib.ListN.{length, set}
