@@ -22,9 +22,13 @@ unfoldable pub Allowed : Asker → Public → Public → Type 0
 Allowed nobody before after = Unit {0}
 Allowed (by host) before after = (insider before host ≡ true) ⊎ (insider after host ≡ true)
 
+-- a call that names the process or is about it, or a CREATE
+abbrev pub Reaches : ℕ → Call → Type 0
+Reaches p c = (subject (only p) c ≡ true) ⊎ (fieldsOf c .cmd ≡ 12)
+
 -- a request that names it, or a CREATE, of the host that debugs it or does then; a report about it; a store into it
 abbrev pub MayChange : ℕ → State → Call → Type 0
-MayChange p s c = ((subject (only p) c ≡ true) ⊎ (fieldsOf c .cmd ≡ 12)) × Allowed (asker c) (publicOf s p) (publicOf (step s c .after) p)
+MayChange p s c = Reaches p c × Allowed (asker c) (publicOf s p) (publicOf (step s c .after) p)
 
 -- by a granted DEBUG of a process that nobody debugs, or the granted CREATE of it, the asker debugs it
 pub record Begins (p : ℕ) (s : State) (c : Call) : Type 0 where

@@ -16,7 +16,7 @@ use Rattle.process.specs.Request.{created}
 use Rattle.process.specs.Report.{accepts, reported}
 use Rattle.state.specs.Gateway.{lowestAbsent}
 use Rattle.rules.specs.Rule.{Rule, ruleOf, names, creates}
-use Rattle.rules.specs.Tests.{State, noRoom, unsound, badReport}
+use Rattle.rules.specs.Tests.{State, noRoom, unsound, outerTests, innerTests, badReport}
 use Rattle.rules.specs.Access.{Access, Place, nowhere, atProcess, Turn}
 use Rattle.rules.specs.Step.{told, Call, request, report, store}
 
@@ -29,13 +29,8 @@ cantBytes h number = cond (ltb number 7) [] (written (cantOf h) [])
 -- an op code that names a process, by its row of the rules
 unfoldable pub ruleAccess : Rule → Header → List ℕ → Access
 ruleAccess r h string = record {
-  outer = λ u. test 7 (not (u .there)) ∷ test 8 (not (r .right u (h .host))) ∷ [];
-  inner = λ l.
-      test 9 (not (r .runs (l .process .run)))
-      ∷ test 10 (not (r .range h))
-      ∷ test 11 (not (r .room (h .arg1) (l .process)))
-      ∷ test 12 (not (r .found (h .arg1) (l .process)))
-      ∷ [];
+  outer = λ u. test 7 (not (u .there)) ∷ outerTests r h u;
+  inner = λ l. innerTests r h (l .process);
   reply = λ l. written h (r .shown h l);
   refusal = λ l. cantBytes h;
   effect = r .effect h string;
