@@ -9,7 +9,7 @@ use Rattle.rules.specs.Run.{Entry, entry, run, final, leave}
 use Rattle.rules.specs.Isolation.{Hosts, Processes, asker, isOne, part, heard, struck, blank, strike, Alike, Apart, Free, Away, theirs, Claim}
 use Rattle.rules.proofs.StepLaws.{step-ready}
 use Rattle.rules.proofs.IsolationLaws.{apart-same, apart-back, free-apart, struck-apart, struck-part, both, stays-blank, theirs-idle}
-use Rattle.rules.proofs.TraceLaws.{Machine, Lawful, Idle, heardOf, strikeOf, AwayOf, finalOf, runOf, leaveOf, restOf}
+use Rattle.rules.proofs.TraceLaws.{Machine, Stepwise, Idle, heardOf, strikeOf, AwayOf, finalOf, runOf, leaveOf, restOf}
 use Rattle.rules.proofs.TraceLaws.{both-away as away, same-heard as heard-alike, same-next as next-alike, left-out as run-left, same-end as end-left}
 
 module _ (H : Hosts) (P : Processes) where
@@ -30,8 +30,8 @@ module _ (H : Hosts) (P : Processes) where
     Free = Free H;
   }
 
-  lawful : Lawful machine
-  lawful = record {
+  stepwise : Stepwise machine
+  stepwise = record {
     ready = step-ready;
     itself = apart-same;
     back = apart-back;
@@ -99,16 +99,16 @@ module _ (H : Hosts) (P : Processes) where
     apart = subst (λ (T : Type 0). T) (is-away s₁ l₁) w
 
     same-heard : heard H (run s₁ l₁) ≡ heard H (run s₂ l₂)
-    same-heard = is-heard s₁ l₁ ∙ heard-alike machine lawful P s₁ s₂ r₁ r₂ a l₁ l₂ alike apart ∙ sym (is-heard s₂ l₂)
+    same-heard = is-heard s₁ l₁ ∙ heard-alike machine stepwise P s₁ s₂ r₁ r₂ a l₁ l₂ alike apart ∙ sym (is-heard s₂ l₂)
 
     same-next : (c : Call) → isOne H (asker c) ≡ true → step (final s₁ l₁) c .answer ≡ step (final s₂ l₂) c .answer
     same-next c h =
         ap (λ (s : State). step s c .answer) (is-final s₁ l₁)
-        ∙ next-alike machine lawful (λ (s : State). step s c .answer) (λ k s t r q b f. both H k s t r q b c .same f h) P s₁ s₂ r₁ r₂ a l₁ l₂ alike apart
+        ∙ next-alike machine stepwise (λ (s : State). step s c .answer) (λ k s t r q b f. both H k s t r q b c .same f h) P s₁ s₂ r₁ r₂ a l₁ l₂ alike apart
         ∙ sym (ap (λ (s : State). step s c .answer) (is-final s₂ l₂))
 
     both-away : Away H P s₂ l₂
-    both-away = subst (λ (T : Type 0). T) (sym (is-away s₂ l₂)) (away machine lawful P s₁ s₂ r₁ r₂ a l₁ l₂ alike apart)
+    both-away = subst (λ (T : Type 0). T) (sym (is-away s₂ l₂)) (away machine stepwise P s₁ s₂ r₁ r₂ a l₁ l₂ alike apart)
 
   module _ (s : State) (r : Ready s) (l : List Call) (w : Away H P s l) (marks : List Bool) where
     still : AwayOf machine P s l

@@ -48,7 +48,7 @@ module _ (m : Machine) where
   lastOf k s (c ∷ l) = lastOf (m .next k s c) (m .after s c) l
 
   -- the laws of one call
-  pub record Lawful : Type 0 where
+  pub record Stepwise : Type 0 where
     pub ready : (s : m .S) → m .Ready s → (c : m .C) → m .Ready (m .after s c)
     pub itself : (k : m .K) (s : m .S) → m .Apart k s s
     pub back : (k : m .K) (s t : m .S) → m .Apart k s t → m .Apart k t s
@@ -60,7 +60,7 @@ module _ (m : Machine) where
     pub stays-apart : (k : m .K) (s t : m .S) → m .Ready s → m .Ready t → m .Apart k s t → m .Free k s → (c : m .C) → m .struck k c ≡ false → m .Apart (m .next k s c) (m .after s c) (m .after t (m .blank k c))
     pub stays-part : (k : m .K) (s t : m .S) → m .Ready s → m .Ready t → m .Apart k s t → m .Free k s → (c : m .C) → m .struck k c ≡ false → m .part s c ≡ m .part t (m .blank k c)
 
-  module _ (w : Lawful) where
+  module _ (w : Stepwise) where
     away-head : (k : m .K) (s : m .S) (l : List (m .C)) → AwayOf k s l → m .Free k s
     unfolding AwayOf
     away-head k s [] a = a

@@ -1,21 +1,22 @@
 -- Each call, in its parts, answers and leaves what its definition says. Assumes nothing.
 use mathlib.Core.Path.{_≡_, refl, sym, ap, _∙_}
 use mathlib.Core.Bool.{Bool, true, false, not, cond, _&&_}
-use mathlib.Core.List.{List, []}
+use mathlib.Core.List.{List, [], _∷_}
 use Prim.Native.Nat.{ℕ}
 use lib.Dec.{eqb, ltb}
 use Rattle.lists.specs.Buffer.{overlay}
 use Rattle.lists.specs.Word.{lowFirst}
 use Rattle.format.specs.declared.header.Header.{Header}
 use Rattle.format.specs.declared.outcome.Outcome.the-variants.{Granted, Refused}
-use Rattle.format.specs.Outcome.{firstFailing}
+use Rattle.format.specs.Outcome.{test, firstFailing}
 use Rattle.format.specs.Layout.{written, headerOf, stringOf}
 use Rattle.format.specs.Answer.{cantOf, createdOf, noticeOf}
 use Rattle.format.proofs.LayoutLaws.{length-written}
+use Rattle.process.specs.Local.{Local}
 use Rattle.process.specs.Report.{accepts}
 use Rattle.state.specs.Gateway.{lowestAbsent}
-use Rattle.rules.specs.Rule.{public, ruleOf, names, creates}
-use Rattle.rules.specs.Tests.{State, recordOf, noRoom, unsound, askedTests, requestNumber, badReport, reportNumber}
+use Rattle.rules.specs.Rule.{Rule, public, ruleOf, names, creates}
+use Rattle.rules.specs.Tests.{State, recordOf, noRoom, unsound, outerTests, innerTests, ruleTests, askedTests, requestNumber, badReport, reportNumber}
 use Rattle.rules.specs.Access.{Access, Place, nowhere, atProcess, Turn, numberAt, reached, taken}
 use Rattle.rules.specs.Step.{answers, localOf, grantedNamed, grantedCreate, granted, refused, requested, told, notified, noted, stored}
 use Rattle.rules.specs.Turn.{cantBytes, ruleAccess, createAccess, placeTests, requestPlace, messageTests, requestTurn, reportAccess, reportTurn, storeAccess, storeTurn}
@@ -32,11 +33,19 @@ turnNumber t s = orElse (firstFailing (t .tests)) (placeNumber (t .place) s)
 
 -- ---- requests
 
-named-number : (t u v : Bool) (n : ℕ) → orElse (cond (not t) 7 0) (orElse (cond (not u) 7 (cond (not v) 8 0)) n) ≡ cond (not (t && u)) 7 (cond (not v) 8 n)
-named-number true true true n = refl
-named-number true true false n = refl
-named-number true false v n = refl
-named-number false u v n = refl
+seven : (t u : Bool) (n : ℕ) → orElse (cond (not t) 7 0) (cond (not u) 7 n) ≡ cond (not (t && u)) 7 n
+seven true true n = refl
+seven true false n = refl
+seven false u n = refl
+
+-- whichever tests the rows list
+named-number : (t : Bool) (r : Rule) (h : Header) (string : List ℕ) (l : Local)
+    → orElse (cond (not t) 7 0) (numberAt (ruleAccess r h string) l) ≡ cond (not (t && l .process .there)) 7 (firstFailing (ruleTests r h (l .process)))
+unfolding numberAt ruleAccess firstFailing public
+named-number t r h string l =
+    let p = l .process in
+    ap (orElse (cond (not t) 7 0)) (sym (first-append (test 7 (not (p .there)) ∷ outerTests r h (public p)) (innerTests r h p) refl))
+    ∙ seven t (p .there) (firstFailing (ruleTests r h p))
 
 or-none : (t : Bool) → orElse (cond t 13 0) 0 ≡ cond t 13 0
 or-none true = refl
@@ -49,7 +58,7 @@ module _ (h : Header) (string : List ℕ) (s : State) where
     where
       go : (t : Bool) → names (h .cmd) ≡ t → (u : Bool) → creates (h .cmd) ≡ u
           → orElse (firstFailing (placeTests h s)) (placeNumber (requestPlace h string s) s) ≡ firstFailing (askedTests h s)
-      go true e u i = rw e (named-number (ltb (h .pid) 8) (recordOf s (h .pid) .there) (ruleOf (h .cmd) .right (public (recordOf s (h .pid))) (h .host)) _)
+      go true e u i = rw e (named-number (ltb (h .pid) 8) (ruleOf (h .cmd)) h string (localOf s (h .pid)))
       go false e true i = rw (e, i) (or-none (not (ltb (lowestAbsent (s .gateway)) 8)))
       go false e false i = rw (e, i)
 
