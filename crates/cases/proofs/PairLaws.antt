@@ -22,7 +22,7 @@ use Rattle.process.specs.Find.{find}
 use Rattle.process.specs.Planting.{plantedIn, liftedIn, removedFrom, replanted, liftedAt}
 use Rattle.process.specs.Record.{fresh}
 use Rattle.run_state.specs.RunState.{accepts, runAfter}
-use Rattle.process.specs.Report.{storeVectorAndReplant, passes, verdictOf, passed, reported, recipientOf}
+use Rattle.process.specs.Report.{storeVectorAndReplant, passes, verdictOf, recipientOf, passed, reported}
 use Rattle.process.specs.Request.{hasBreak, hasRoom, examined, deposited, vectorAfter, breakSet, breakRemoved, created, cleared}
 use Rattle.breakpoints.specs.Seen.{restored, seen, savedFrom, overlaySavedByte, overlaySavedWord}
 use Rattle.process.specs.Request.{sheltered}
@@ -39,7 +39,8 @@ use Rattle.rules.specs.Tests.{askedTests, requestNumber, reportNumber}
 use Rattle.rules.specs.Tests.{State}
 use Rattle.rules.specs.Step.{Answer, localOf, stored}
 use Rattle.rules.specs.Ready.{Ready}
-use Rattle.rules.specs.Isolation.{namesOne, isGranted, publicThen, toldOf, noticed, toThem, part, heard, struck, blank, strike, Alike}
+use Rattle.rules.specs.Access.{insider}
+use Rattle.rules.specs.Isolation.{namesOne, asker, subject, event, passedOver, fieldsOf, isOne, isGranted, publicThen, toldOf, noticed, sentTo, part, heard, struck, blank, strike, Alike}
 use Rattle.rules.specs.Outsider.{only, Never, Outside}
 use Rattle.cases.specs.Pair.{one, other, oneCalls, otherCalls, PremisesMet}
 
@@ -70,16 +71,13 @@ others (suc (suc (suc (suc (suc (suc (suc zero))))))) h n = refl
 others (suc (suc (suc (suc (suc (suc (suc (suc q)))))))) h n = absurd (omega arith)
 
 alike : Alike (only 5) (only 2) oneCalls otherCalls
-unfolding namesOne struck blank strike overlay lowFirst cantOf createdOf noticeOf written headerOf stringOf fixedRight numberOf firstFailing unusedZero carriedLength wrongLength wrongHeader misfits rowOf requestForm matches find plantedIn liftedIn removedFrom replanted liftedAt fresh accepts storeVectorAndReplant passes verdictOf recipientOf passed runAfter reported hasBreak hasRoom examined deposited vectorAfter breakSet breakRemoved created cleared restored seen savedFrom sheltered overlaySavedByte overlaySavedWord validBreakAddress absentHasNoHost liftSound usedSound entrySound soundTest freshStart soundState startOf slot withSlot public ruleOf names run put grantedNamed grantedCreate granted refused requested noticeTo notified noted step lowestAbsent askedTests requestNumber reportNumber
+unfolding namesOne asker subject event passedOver isOne struck blank strike overlay lowFirst cantOf createdOf noticeOf written headerOf stringOf fixedRight numberOf firstFailing unusedZero carriedLength wrongLength wrongHeader misfits rowOf requestForm matches find plantedIn liftedIn removedFrom replanted liftedAt fresh accepts storeVectorAndReplant passes verdictOf recipientOf passed runAfter reported hasBreak hasRoom examined deposited vectorAfter breakSet breakRemoved created cleared restored seen savedFrom sheltered overlaySavedByte overlaySavedWord validBreakAddress absentHasNoHost liftSound usedSound entrySound soundTest freshStart soundState startOf slot withSlot public ruleOf names run put grantedNamed grantedCreate granted refused requested noticeTo notified noted step lowestAbsent askedTests requestNumber reportNumber
 alike = refl
 
-not-five : _≡_ {A = ℕ} 6 5 → ⊥
-not-five e = omega arith
-
 outside : Outside 5 2 one oneCalls
-unfolding namesOne isGranted publicThen toldOf Never stored overlay lowFirst cantOf createdOf noticeOf written headerOf stringOf fixedRight numberOf firstFailing unusedZero carriedLength wrongLength wrongHeader misfits rowOf requestForm matches find plantedIn liftedIn removedFrom replanted liftedAt fresh accepts storeVectorAndReplant passes verdictOf recipientOf passed runAfter reported hasBreak hasRoom examined deposited vectorAfter breakSet breakRemoved created cleared restored seen savedFrom sheltered overlaySavedByte overlaySavedWord validBreakAddress absentHasNoHost liftSound usedSound entrySound soundTest freshStart soundState startOf slot withSlot public ruleOf names run put grantedNamed grantedCreate granted refused requested noticeTo notified noted step lowestAbsent askedTests requestNumber reportNumber
+unfolding namesOne fieldsOf insider isGranted publicThen toldOf Never stored overlay lowFirst cantOf createdOf noticeOf written headerOf stringOf fixedRight numberOf firstFailing unusedZero carriedLength wrongLength wrongHeader misfits rowOf requestForm matches find plantedIn liftedIn removedFrom replanted liftedAt fresh accepts storeVectorAndReplant passes verdictOf recipientOf passed runAfter reported hasBreak hasRoom examined deposited vectorAfter breakSet breakRemoved created cleared restored seen savedFrom sheltered overlaySavedByte overlaySavedWord validBreakAddress absentHasNoHost liftSound usedSound entrySound soundTest freshStart soundState startOf slot withSlot public ruleOf names run put grantedNamed grantedCreate granted refused requested noticeTo notified noted step lowestAbsent askedTests requestNumber reportNumber
 outside =
-    (not-five, (not-five, (not-five, (not-five, (not-five, (not-five, (not-five, (not-five, (not-five, not-five)))))))))
+    (refl, (refl, (refl, (refl, (refl, (refl, (refl, (refl, (refl, refl)))))))))
 
 -- the byte that host 6 examined
 abbrev firstByte : List Answer → ℕ
@@ -87,7 +85,7 @@ firstByte [] = 0
 firstByte (a ∷ rest) = getD (a .buffer) 10 0
 
 unlike : heard (only 6) (run one oneCalls) ≡ heard (only 6) (run other otherCalls) → ⊥
-unfolding heard part toThem noticed stored overlay lowFirst cantOf createdOf noticeOf written headerOf stringOf fixedRight numberOf firstFailing unusedZero carriedLength wrongLength wrongHeader misfits rowOf requestForm matches find plantedIn liftedIn removedFrom replanted liftedAt fresh accepts storeVectorAndReplant passes verdictOf recipientOf passed runAfter reported hasBreak hasRoom examined deposited vectorAfter breakSet breakRemoved created cleared restored seen savedFrom sheltered overlaySavedByte overlaySavedWord validBreakAddress absentHasNoHost liftSound usedSound entrySound soundTest freshStart soundState startOf slot withSlot public ruleOf names run put grantedNamed grantedCreate granted refused requested noticeTo notified noted step lowestAbsent askedTests requestNumber reportNumber
+unfolding heard part asker sentTo noticed stored overlay lowFirst cantOf createdOf noticeOf written headerOf stringOf fixedRight numberOf firstFailing unusedZero carriedLength wrongLength wrongHeader misfits rowOf requestForm matches find plantedIn liftedIn removedFrom replanted liftedAt fresh accepts storeVectorAndReplant passes verdictOf recipientOf passed runAfter reported hasBreak hasRoom examined deposited vectorAfter breakSet breakRemoved created cleared restored seen savedFrom sheltered overlaySavedByte overlaySavedWord validBreakAddress absentHasNoHost liftSound usedSound entrySound soundTest freshStart soundState startOf slot withSlot public ruleOf names run put grantedNamed grantedCreate granted refused requested noticeTo notified noted step lowestAbsent askedTests requestNumber reportNumber
 unlike e = let z : _≡_ {A = ℕ} 0 7 = ap firstByte e in omega arith
 
 pub premises-met : PremisesMet

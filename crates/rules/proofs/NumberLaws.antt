@@ -1,14 +1,14 @@
 -- The number of a request, stage by stage: what the message says by itself, and what is asked of the process. Assumes nothing.
 use mathlib.Core.Path.{_≡_, refl, sym}
-use mathlib.Core.Bool.{Bool, true, false, not, cond, _||_, true≢false}
-use mathlib.Core.List.{List, [], _∷_}
-use Prim.Native.Nat.{ℕ, _+_, _≤_}
+use mathlib.Core.Bool.{Bool, true, false, not, cond, true≢false}
+use mathlib.Core.List.{List, [], _∷_, _++_}
+use Prim.Native.Nat.{ℕ, zero, suc, _+_, _≤_}
 use native.Mathlib.Omega.{arith}
-use borrow.Author.Tests.{eq-eqb, eqb-true, not-false}
+use borrow.Author.Tests.{eqb-true, not-false, not-true}
 use lib.ListN.{length}
-use lib.Dec.{eqb, ltb}
+use lib.Dec.{eqb, ltb, eqb·suc-zero}
 use Rattle.lists.specs.Every.{every}
-use Rattle.lists.proofs.Bool.{||-right}
+use Rattle.lists.proofs.Bool.{&&-left, &&-right, ||-right}
 use Rattle.lists.proofs.Every.{every-getD}
 use Rattle.ops.specs.declared.table.Carried.{Carried}
 use Rattle.ops.specs.declared.table.Carried.the-variants.{Nothing, Counted, Vector}
@@ -16,14 +16,11 @@ use Rattle.ops.specs.declared.table.Op.{Op}
 use Rattle.format.specs.Outcome.{Test, test, firstFailing}
 use Rattle.ops.specs.Table.{bare, row, ops, op, asks, requestForm}
 use Rattle.format.specs.Layout.{headerOf, stringOf, fixedRight}
-use Rattle.format.specs.Refusal.{carriedLength, unusedZero, wrongLength, wrongHeader, unknown, misfits, malformed, layoutTests}
+use Rattle.format.specs.Refusal.{carriedLength, unusedZero, misfits, layoutTests}
 use Rattle.format.proofs.OutcomeLaws.{rest-passes}
 use Rattle.format.proofs.TestLaws.{zero-passed, sized-between}
 use Rattle.format.proofs.LayoutLaws.{length-stringOf}
 use Rattle.message.proofs.AnswerLaws.{Asked, asked-passed, requestForm-known}
-use Rattle.run_state.specs.RunState.{accepts}
-use Rattle.rules.specs.Tests.{State, noRoom, unsound, recordOf, absent, askedTests, requestNumber, badReport, reportNumber}
-use Rattle.rules.specs.Ready.{Ready}
 
 -- the tests of a message and its reply buffer by themselves
 abbrev pub envelopeTests : List ℕ → List ℕ → List Test
@@ -37,34 +34,50 @@ envelope m buffer = firstFailing (envelopeTests m buffer)
 abbrev pub orElse : ℕ → ℕ → ℕ
 orElse a b = cond (eqb a 0) b a
 
-staged : (a c d e f : Bool) (n : ℕ)
-    → cond a 1 (cond false 2 (cond c 3 (cond d 4 (cond e 5 (cond f 6 n))))) ≡ orElse (cond a 1 (cond c 3 (cond d 4 (cond e 5 (cond f 6 0))))) n
-staged true c d e f n = refl
-staged false true d e f n = refl
-staged false false true e f n = refl
-staged false false false true f n = refl
-staged false false false false true n = refl
-staged false false false false false n = refl
+-- a choice, by its test
+pub by-test : {A : Type 0} (F : A → Type 0) (t : Bool) {x y : A} → (t ≡ true → F x) → (t ≡ false → F y) → F (cond t x y)
+by-test F true f g = f refl
+by-test F false f g = g refl
 
-module _ (s : State) (r : Ready s) where
-  room-by : (buffer : List ℕ) → noRoom (s .memory) buffer ≡ ltb (length buffer) 266
-  room-by buffer = rw (eq-eqb (length (s .memory)) 32768 (r .memory))
+-- a choice between two that are the same
+pub same-cond : {A : Type 0} (t : Bool) (x : A) → cond t x x ≡ x
+same-cond true x = refl
+same-cond false x = refl
 
-  sound-by : unsound s ≡ false
-  sound-by = rw (r .sound)
+pub orElse-zero : (a b : ℕ) → orElse a b ≡ 0 → (a ≡ 0) × (b ≡ 0)
+orElse-zero zero b e = (refl, e)
+orElse-zero (suc a) b e = let z = rw (eqb·suc-zero a) at e in absurd (omega arith)
 
-  pub number-staged : (m buffer : List ℕ) → requestNumber s m buffer ≡ orElse (envelope m buffer) (firstFailing (askedTests (headerOf m) s))
-  unfolding requestNumber envelope firstFailing
-  number-staged m buffer =
-      rw (room-by buffer, sound-by)
-      (staged (ltb (length buffer) 266) (wrongLength (length m)) (wrongHeader (fixedRight m) (headerOf m .host)) (unknown (requestForm (headerOf m .cmd)))
-      (malformed (requestForm (headerOf m .cmd)) (headerOf m) (length m)) (firstFailing (askedTests (headerOf m) s)))
+pub orElse-none : (a : ℕ) → orElse a 0 ≡ a
+orElse-none zero = refl
+orElse-none (suc a) = rw (eqb·suc-zero a)
 
-  -- a report's number likewise
-  pub report-staged : (p kind reason : ℕ) (buffer : List ℕ)
-      → reportNumber s p kind reason buffer ≡ firstFailing (test 1 (ltb (length buffer) 266) ∷ test 2 false ∷ test 14 (badReport kind reason) ∷ test 7 (absent s p) ∷ test 9 (not (accepts kind (recordOf s p .run))) ∷ [])
-  unfolding reportNumber firstFailing
-  report-staged p kind reason buffer = rw (room-by buffer, sound-by)
+pub orElse-assoc : (a b c : ℕ) → orElse (orElse a b) c ≡ orElse a (orElse b c)
+orElse-assoc a b c = go (eqb a 0) refl
+  where
+    go : (t : Bool) → eqb a 0 ≡ t → orElse (orElse a b) c ≡ orElse a (orElse b c)
+    go true e = rw e
+    go false e = rw (e, e)
+
+-- one list of tests after another, none of which has the number 0
+pub first-append : (ts us : List Test) → every (λ (t : Test). not (eqb (t .number) 0)) ts ≡ true → firstFailing (ts ++ us) ≡ orElse (firstFailing ts) (firstFailing us)
+unfolding firstFailing
+first-append [] us e = refl
+first-append (t ∷ ts) us e = go (t .fails) (first-append ts us (&&-right (not (eqb (t .number) 0)) _ e))
+  where
+    go : (b : Bool) → firstFailing (ts ++ us) ≡ orElse (firstFailing ts) (firstFailing us)
+        → cond b (t .number) (firstFailing (ts ++ us)) ≡ orElse (cond b (t .number) (firstFailing ts)) (firstFailing us)
+    go true i = rw (not-true (eqb (t .number) 0) (&&-left (not (eqb (t .number) 0)) _ e))
+    go false i = i
+
+-- a test over the numbers of a list of tests holds of the number that it gives
+pub first-listed : (F : ℕ → Bool) (ts : List Test) → F 0 ≡ true → every (λ (t : Test). F (t .number)) ts ≡ true → F (firstFailing ts) ≡ true
+unfolding firstFailing
+first-listed F [] z e = z
+first-listed F (t ∷ ts) z e =
+    by-test (λ (n : ℕ). F n ≡ true) (t .fails)
+    (λ b. &&-left (F (t .number)) (every (λ (u : Test). F (u .number)) ts) e)
+    (λ b. first-listed F ts z (&&-right (F (t .number)) (every (λ (u : Test). F (u .number)) ts) e))
 
 -- ---- what a message that passes says
 
@@ -89,11 +102,11 @@ pub record Sent (m : List ℕ) : Type 0 where
   pub long : 10 ≤ length m
   pub carried : length (stringOf m) ≤ headerOf m .arg2
 
-pub envelope-sent : (m buffer : List ℕ) → envelope m buffer ≡ 0 → Sent m
-unfolding envelope misfits
-envelope-sent m buffer e =
+pub layout-sent : (m : List ℕ) → firstFailing (layoutTests (fixedRight m) (requestForm (headerOf m .cmd)) (headerOf m) (length m)) ≡ 0 → Sent m
+unfolding misfits
+layout-sent m e =
     let h = headerOf m in
-    let p = zero-passed (fixedRight m) (requestForm (h .cmd)) h (length m) (rest-passes 0 _ _ e) in
+    let p = zero-passed (fixedRight m) (requestForm (h .cmd)) h (length m) e in
     let a = asked-passed (fixedRight m) h (length m) p in
     let long = sized-between (length m) (p .sized) .0 in
     let f = asks (op (h .cmd)) in
@@ -102,3 +115,7 @@ envelope-sent m buffer e =
     let short = carried-short (f .carried) (h .arg2)
     (every-getD (λ (o : Op). uncounted (asks o .carried)) ops (row bare bare) (h .cmd) requests-counted (a .known)) in
     record { asked = a; long = long; carried = omega (arith, length-stringOf m long) }
+
+pub envelope-sent : (m buffer : List ℕ) → envelope m buffer ≡ 0 → Sent m
+unfolding envelope
+envelope-sent m buffer e = layout-sent m (rest-passes 0 _ _ e)

@@ -1,17 +1,18 @@
 -- One host and one process: the claim for sets, at the set of one each. Assumes nothing.
 use mathlib.Core.Path.{_≡_, refl, sym, ap, ap₂, _∙_, subst, fun-ext}
-use mathlib.Core.Bool.{Bool, true, false, true≢false}
+use mathlib.Core.Bool.{Bool, true, false}
 use mathlib.Core.List.{List, [], _∷_}
 use Prim.Native.Nat.{ℕ, _<_}
-use borrow.Author.Tests.{eqb-true, eqb-false, eq-eqb, ne-eqb}
+use borrow.Author.Tests.{eqb-true, eqb-false, eq-eqb}
 use lib.Dec.{eqb}
 use Rattle.process.specs.Local.{Local}
 use Rattle.rules.specs.Rule.{Public, public}
 use Rattle.rules.specs.Tests.{State, recordOf}
+use Rattle.rules.specs.Access.{insider}
 use Rattle.rules.specs.Step.{Call, step}
 use Rattle.rules.specs.Ready.{Ready}
 use Rattle.rules.specs.Run.{run}
-use Rattle.rules.specs.Isolation.{Apart, Free, Away, toldOf, publicOf, Debuggers, Claim}
+use Rattle.rules.specs.Isolation.{isOne, Apart, Free, Away, toldOf, publicOf, Debuggers, Claim}
 use Rattle.rules.specs.Outsider.{only, Differ, Never, Outside, Outsider}
 use Rattle.rules.proofs.StepLaws.{step-ready}
 use Rattle.rules.proofs.ListLaws.{claim}
@@ -22,8 +23,7 @@ differ-apart : (p : ℕ) (s₁ s₂ : State) → Differ p s₁ s₂ → Apart (o
 unfolding public
 differ-apart p s₁ s₂ d = record {
   shown = λ q h. shown q h (eqb p q) refl;
-  whole = λ q h n. ap (λ (l : Local). l .process) (d .others q h (λ e. eqb-false p q n (sym e)));
-  bytes = λ q h n. ap (λ (l : Local). l .bytes) (d .others q h (λ e. eqb-false p q n (sym e)));
+  others = λ q h n. d .others q h (λ e. eqb-false p q n (sym e));
 }
   where
     here : public (recordOf s₁ p) ≡ public (recordOf s₂ p)
@@ -36,11 +36,11 @@ differ-apart p s₁ s₂ d = record {
 -- ---- not to debug it, by the answers and by the states
 
 module _ (host p : ℕ) where
-  out-free : (s : State) → (publicOf s p .host ≡ host → ⊥) → Free (only host) (only p) s
-  out-free s n q low e = rw (← eqb-true p q e) (ne-eqb host (publicOf s p .host) (λ i. n (sym i)))
+  out-free : (s : State) → insider (publicOf s p) host ≡ false → Free (only host) (only p) s
+  out-free s n q low e k i = rw (← eqb-true p q e, ← eqb-true host k i) n
 
-  free-out : p < 8 → (s : State) → Free (only host) (only p) s → publicOf s p .host ≡ host → ⊥
-  free-out low s f i = true≢false (sym (eq-eqb host (publicOf s p .host) (sym i)) ∙ f p low (eq-eqb p p refl))
+  free-out : p < 8 → (s : State) → Free (only host) (only p) s → insider (publicOf s p) host ≡ false
+  free-out low s f = f p low (eq-eqb p p refl) host (eq-eqb host host refl)
 
   -- what the calls tell is what the states hold
   told-after : (s : State) → Ready s → (c : Call) → toldOf (publicOf s) c (step s c .answer) ≡ publicOf (step s c .after)
@@ -66,11 +66,12 @@ module _ (host p : ℕ) where
   )
 
   pub outsider : p < 8 → Outsider host p
+  unfolding isOne
   outsider low = record {
     either = λ s₁ s₂ r₁ r₂ d l₁ l₂ e w. away-out low l₂ s₂ r₂ (c .both-away s₁ s₂ r₁ r₂ (differ-apart p s₁ s₂ d) l₁ l₂ e (out-away l₁ s₁ r₁ w));
     same-answers = λ s₁ s₂ r₁ r₂ d l₁ l₂ e w. c .same-heard s₁ s₂ r₁ r₂ (differ-apart p s₁ s₂ d) l₁ l₂ e (out-away l₁ s₁ r₁ w);
-    same-next = λ s₁ s₂ r₁ r₂ d l₁ l₂ e w m buffer h.
-        c .same-next s₁ s₂ r₁ r₂ (differ-apart p s₁ s₂ d) l₁ l₂ e (out-away l₁ s₁ r₁ w) m buffer (eq-eqb host _ (sym h));
+    same-next = λ s₁ s₂ r₁ r₂ d l₁ l₂ e w a h.
+        c .same-next s₁ s₂ r₁ r₂ (differ-apart p s₁ s₂ d) l₁ l₂ e (out-away l₁ s₁ r₁ w) a (ap (isOne (only host)) h ∙ eq-eqb host host refl);
     unnoticed = λ s r l w. c .left-out s r l (out-away l s r w);
     same-end = λ s r l w. c .same-end s r l (out-away l s r w);
   }

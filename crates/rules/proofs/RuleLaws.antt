@@ -1,6 +1,6 @@
 -- What holds of every row of the rules: one law for each row, and every other proof goes by these. Assumes nothing.
-use mathlib.Core.Path.{_≡_, refl, sym, _∙_, subst}
-use mathlib.Core.Bool.{Bool, true, false, cond, _&&_, _||_, true≢false}
+use mathlib.Core.Path.{_≡_, refl, sym, ap, _∙_, subst}
+use mathlib.Core.Bool.{Bool, true, false, cond, _||_, true≢false}
 use mathlib.Core.List.{List, [], _∷_}
 use mathlib.Core.Logic.{_⊎_, inl, inr}
 use Prim.Native.Nat.{ℕ, zero, suc, _+_, _≤_, _<_, _%_}
@@ -9,6 +9,7 @@ use borrow.Author.Tests.{eqb-true, leb-true}
 use lib.ListN.{length, getD}
 use lib.Dec.{eqb, leb, ltb}
 use Rattle.lists.proofs.Bool.{&&-left, &&-right}
+use Rattle.ops.specs.Table.{ops}
 use Rattle.format.specs.declared.header.Header.{Header}
 use Rattle.run_state.specs.declared.Run.{Run}
 use Rattle.process.specs.declared.record.Process.{Process}
@@ -24,6 +25,7 @@ use Rattle.process.specs.declared.report.Verdict.{Verdict}
 use Rattle.process.specs.declared.report.Verdict.the-variants.{Stops, CountsDown}
 use Rattle.process.specs.Report.{storeVectorAndReplant, verdictOf, passed, carriedOut, reported}
 use Rattle.rules.specs.Rule.{Public, public, Rule, rules, noRule, debugRule, endDebugRule, examineRule, breakRule, unbreakRule, plain, whileRun, within, upTo, ruleOf}
+use Rattle.rules.specs.Access.{Asker, by}
 use Rattle.rules.specs.Isolation.{publicThen}
 use Rattle.rules.proofs.ProperLaws.{end-debug-proper, stop-proper, step-proper, proceed-proper, deposit-proper, break-proper, unbreak-proper, destroy-proper, host-proper, resume-proper, vector-proper}
 
@@ -58,8 +60,23 @@ Kept cmd = (asker : ℕ) (u : Public) → publicThen cmd asker u ≡ u
 pub record Taking (cmd : ℕ) (r : Rule) : Type 0 where
   pub free : Open r
   pub takes : (asker : ℕ) (u : Public) → publicThen cmd asker u .host ≡ asker
-  pub alone : (u : Public) (asker : ℕ) → r .right u asker ≡ true → (u .host ≡ 0) ⊎ (u .host ≡ asker)
-  pub op : cmd ≡ 1
+
+-- by a call with these fields the right to debug process p begins; u and v are its public parts before and after
+pub record BeginsBy (w : Asker) (h : Header) (p : ℕ) (u v : Public) : Type 0 where
+  pub op : ((h .cmd ≡ 1) × (h .pid ≡ p)) ⊎ (h .cmd ≡ 12)
+  pub before : u .host ≡ 0
+  pub after : w ≡ by (v .host)
+
+-- or it ends
+pub record EndsBy (w : Asker) (h : Header) (p : ℕ) (u v : Public) : Type 0 where
+  pub op : (h .cmd ≡ 2) ⊎ (h .cmd ≡ 13)
+  pub named : h .pid ≡ p
+  pub before : w ≡ by (u .host)
+  pub after : v .host ≡ 0
+
+-- or it stays
+abbrev pub Turns : Asker → Header → ℕ → Public → Public → Type 0
+Turns w h p u v = (v .host ≡ u .host) ⊎ (BeginsBy w h p u v ⊎ EndsBy w h p u v)
 
 pub record Row (cmd : ℕ) (r : Rule) : Type 0 where
   -- a sound process stays sound
@@ -70,6 +87,8 @@ pub record Row (cmd : ℕ) (r : Rule) : Type 0 where
   pub discreet : Kept cmd ⊎ Open r
   -- the public part after it
   pub publicly : (h : Header) (string : List ℕ) (l : Local) → public (r .effect h string l .process) ≡ publicThen cmd (h .host) (public (l .process))
+  -- the right to debug after it
+  pub turns : (h : Header) → h .cmd ≡ cmd → (u : Public) → r .right u (h .host) ≡ true → Turns (by (h .host)) h (h .pid) u (publicThen cmd (h .host) u)
 
 -- ---- public parts
 
@@ -104,6 +123,7 @@ quiet-row cmd r kept right q keeps = record {
   guarded = λ u asker e. inl (right u asker e);
   discreet = inl kept;
   publicly = λ h string l. q h string l ∙ sym (kept (h .host) (public (l .process)));
+  turns = λ h e u i. inl (ap (λ (v : Public). v .host) (kept (h .host) u));
 }
 
 -- the op codes that leave the public part
@@ -133,10 +153,15 @@ debug-row : Row 1 debugRule
 unfolding public publicThen
 debug-row = record {
   keeps = λ h s l g p. host-proper (h .host) l g (p .there) (p .asked);
-  guarded = λ u asker e. inr (record { free = debug-open; takes = λ a v. refl; alone = alone; op = refl });
+  guarded = λ u asker e. inr (record { free = debug-open; takes = λ a v. refl });
   discreet = inr debug-open;
   publicly = λ h s l. refl;
+  turns = λ h e u i. begins h e u (alone u (h .host) i);
 }
+  where
+    begins : (h : Header) → h .cmd ≡ 1 → (u : Public) → (u .host ≡ 0) ⊎ (u .host ≡ h .host) → Turns (by (h .host)) h (h .pid) u (publicThen 1 (h .host) u)
+    begins h e u (inl z) = inr (inl (record { op = inl (e, refl); before = z; after = refl }))
+    begins h e u (inr i) = inl (sym i)
 
 end-debug-open : Open endDebugRule
 end-debug-open = record { runs = λ x. refl; range = λ h. refl; room = λ a p. refl; found = λ a p. refl; shown = λ h l. refl }
@@ -148,6 +173,7 @@ end-debug-row = record {
   guarded = λ u asker e. inl (held u asker e);
   discreet = inr end-debug-open;
   publicly = λ h s l. refl;
+  turns = λ h e u i. inr (inr (record { op = inl e; named = refl; before = ap by (sym (held u (h .host) i)); after = refl }));
 }
 
 stop-row : Row 3 (plain (λ h s. stopped))
@@ -220,6 +246,7 @@ destroy-row = record {
   guarded = λ u asker e. inl (held u asker e);
   discreet = inr destroy-open;
   publicly = λ h s l. refl;
+  turns = λ h e u i. inr (inr (record { op = inr e; named = refl; before = ap by (sym (held u (h .host) i)); after = refl }));
 }
 
 -- ---- all of them
@@ -236,7 +263,7 @@ each-getD from (r ∷ rs) e (suc k) h =
     rw (← same) (each-getD (suc from) rs (e .1) k (omega arith))
 
 -- the rule of any op code of the table
-pub rule-row : (cmd : ℕ) → cmd < 14 → Row cmd (ruleOf cmd)
+pub rule-row : (cmd : ℕ) → cmd < length ops → Row cmd (ruleOf cmd)
 unfolding ruleOf
 rule-row cmd h =
     let same : cmd + 0 ≡ cmd = omega arith in

@@ -1,23 +1,25 @@
 -- A state with another process in one place: what changes, what stays, and that it is still sound. Assumes nothing.
-use mathlib.Core.Path.{_≡_, refl, ap, _∙_}
+use mathlib.Core.Path.{_≡_, refl, sym, ap, ap₂, _∙_, subst}
 use mathlib.Core.Bool.{Bool, true, false}
 use mathlib.Core.List.{List}
-use Prim.Native.Nat.{ℕ, _<_}
+use Prim.Native.Nat.{ℕ, _≤_, _<_}
 use native.Mathlib.Omega.{arith}
 use borrow.Author.Tests.{eqb-true, eqb-false}
-use lib.ListN.{length, length-set}
+use lib.ListN.{length, length-set, List·getD-eq-default}
 use lib.Seq.{getD-set-same, getD-set-other, set-getD}
 use lib.Dec.{eqb}
 use Rattle.process.specs.declared.record.Process.{Process}
 use Rattle.process.specs.Sound.{Sound}
-use Rattle.process.specs.Local.{Local, Proper}
+use Rattle.process.specs.Local.{Local, local, Proper}
 use Rattle.state.specs.Gateway.{nobody}
 use Rattle.state.specs.Slot.{slot, withSlot}
 use Rattle.state.proofs.GatewayLaws.{state-sound, state-passes}
 use Rattle.state.proofs.SlotLaws.{length-slot, length-withSlot, withSlot-slot, slot-same, slot-other}
+use Rattle.rules.specs.Rule.{public}
 use Rattle.rules.specs.Tests.{State, recordOf}
 use Rattle.rules.specs.Step.{localOf, put}
 use Rattle.rules.specs.Ready.{Ready}
+use Rattle.rules.specs.Isolation.{publicOf}
 use Rattle.rules.proofs.ProperLaws.{sound-of, proper-of}
 
 -- each process of a sound state is sound, with its bytes
@@ -27,13 +29,15 @@ local-proper s r p h =
 
 -- what is in a state that is s but for process p
 pub record Changed (s t : State) (p : ℕ) (l : Local) : Type 0 where
-  pub here : recordOf t p ≡ l .process
-  pub here-bytes : slot p (t .memory) ≡ l .bytes
-  pub else : (q : ℕ) → (q ≡ p → ⊥) → recordOf t q ≡ recordOf s q
-  pub else-bytes : (q : ℕ) → q < 8 → (q ≡ p → ⊥) → slot q (t .memory) ≡ slot q (s .memory)
+  pub here : localOf t p ≡ l
+  pub else : (q : ℕ) → q < 8 → (q ≡ p → ⊥) → localOf t q ≡ localOf s q
 
 pub unchanged : (s : State) (p : ℕ) → Changed s s p (localOf s p)
-unchanged s p = record { here = refl; here-bytes = refl; else = λ q n. refl; else-bytes = λ q h n. refl }
+unchanged s p = record { here = refl; else = λ q h n. refl }
+
+-- past the eight processes there is none
+pub public-past : (s : State) → Ready s → (p : ℕ) → 8 ≤ p → publicOf s p ≡ public nobody
+public-past s r p h = let e = r .processes in ap public (List·getD-eq-default (s .gateway .processes) nobody (omega arith))
 
 -- a process put back as it is
 pub put-same : (p : ℕ) (s : State) → put p (localOf s p) s ≡ s
@@ -42,29 +46,32 @@ put-same p s =
     ap (λ (ps : List Process). record { gateway = record { processes = ps }; memory = withSlot p (slot p (s .memory)) (s .memory) }) (set-getD (s .gateway .processes) p nobody)
     ∙ ap (λ (m : List ℕ). record { gateway = s .gateway; memory = m }) (withSlot-slot p (s .memory))
 
+pair : {x y : Process} {bs cs : List ℕ} → x ≡ y → bs ≡ cs → local x bs ≡ local y cs
+pair e q = ap₂ (λ (x : Process) (bs : List ℕ). local x bs) e q
+
 module _ (s : State) (r : Ready s) (p : ℕ) (h : p < 8) (l : Local) (g : Proper l) where
   pub put-changed : Changed s (put p l s) p l
   unfolding put
   put-changed = let e = r .processes in record {
-    here = getD-set-same (s .gateway .processes) p (l .process) nobody (omega arith);
-    here-bytes = slot-same p (l .bytes) (s .memory) h (r .memory) (g .tested .size);
-    else = λ q n. getD-set-other (s .gateway .processes) p q (l .process) nobody n;
-    else-bytes = λ q i n. slot-other p q (l .bytes) (s .memory) h i n (r .memory) (g .tested .size);
+    here = pair (getD-set-same (s .gateway .processes) p (l .process) nobody (omega arith)) (slot-same p (l .bytes) (s .memory) h (r .memory) (g .tested .size));
+    else = λ q i n.
+        pair (getD-set-other (s .gateway .processes) p q (l .process) nobody n)
+        (slot-other p q (l .bytes) (s .memory) h i n (r .memory) (g .tested .size));
   }
 
   eights : (q : ℕ) → q < 8 → length (recordOf (put p l s) q .breaks) ≡ 8
   eights q i = go (eqb q p) refl
     where
       go : (t : Bool) → eqb q p ≡ t → length (recordOf (put p l s) q .breaks) ≡ 8
-      go true e = ap (λ (x : Process). length (x .breaks)) (ap (recordOf (put p l s)) (eqb-true q p e) ∙ put-changed .here) ∙ g .eight
-      go false e = ap (λ (x : Process). length (x .breaks)) (put-changed .else q (eqb-false q p e)) ∙ r .entries q i
+      go true e = ap (λ (x : Local). length (x .process .breaks)) (ap (localOf (put p l s)) (eqb-true q p e) ∙ put-changed .here) ∙ g .eight
+      go false e = ap (λ (x : Local). length (x .process .breaks)) (put-changed .else q i (eqb-false q p e)) ∙ r .entries q i
 
   sounds : (q : ℕ) → q < 8 → Sound (recordOf (put p l s) q)
   sounds q i = go (eqb q p) refl
     where
       go : (t : Bool) → eqb q p ≡ t → Sound (recordOf (put p l s) q)
-      go true e = rw (ap (recordOf (put p l s)) (eqb-true q p e) ∙ put-changed .here) (sound-of l g)
-      go false e = rw (put-changed .else q (eqb-false q p e)) (state-sound (s .gateway) (r .sound) q i)
+      go true e = subst (λ (x : Local). Sound (x .process)) (sym (ap (localOf (put p l s)) (eqb-true q p e) ∙ put-changed .here)) (sound-of l g)
+      go false e = subst (λ (x : Local). Sound (x .process)) (sym (put-changed .else q i (eqb-false q p e))) (state-sound (s .gateway) (r .sound) q i)
 
   pub put-ready : Ready (put p l s)
   unfolding put

@@ -1,28 +1,28 @@
 -- Demand 1. Assumes nothing.
 use mathlib.Core.Path.{_≡_, refl, sym, ap, _∙_, subst}
-use mathlib.Core.Bool.{Bool, true, false, cond, _&&_, true≢false}
+use mathlib.Core.Bool.{Bool, true, false, cond, true≢false}
 use mathlib.Core.List.{List, [], _∷_}
 use mathlib.Core.Logic.{_⊎_, inl, inr}
-use Prim.Native.Nat.{ℕ, _+_, _≤_}
-use borrow.Author.Tests.{eqb-true, eq-eqb, leb-true}
+use Prim.Native.Nat.{ℕ}
+use native.Mathlib.Omega.{arith}
+use borrow.Author.Tests.{eqb-true, eq-eqb}
 use lib.ListN.{length, drop}
-use lib.Dec.{leb, ltb, eqb}
-use Rattle.lists.specs.Every.{every}
-use Rattle.lists.specs.Word.{lowFirst}
-use Rattle.lists.proofs.Bool.{&&-left, &&-right}
+use lib.Dec.{ltb, eqb}
+use Rattle.lists.specs.Buffer.{overlay}
 use Rattle.lists.proofs.Buffer.{drop-overlay}
-use Rattle.format.specs.declared.header.Header.{Header}
 use Rattle.format.specs.declared.outcome.Outcome.the-variants.{Granted, Refused}
 use Rattle.format.specs.Outcome.{Test, firstFailing, numberOf}
-use Rattle.format.specs.Layout.{written, headerOf, stringOf}
+use Rattle.format.specs.Layout.{headerOf}
 use Rattle.format.specs.Answer.{cantOf}
 use Rattle.format.proofs.LayoutLaws.{length-written}
-use Rattle.process.specs.Local.{Local}
-use Rattle.rules.specs.Rule.{names, creates}
-use Rattle.rules.specs.Tests.{State, askedTests, requestTests, requestNumber, reportTests, reportNumber}
-use Rattle.rules.specs.Step.{Answer, Stepped, localOf, replied, grantedNamed, grantedCreate, granted, refused, requested, told, noticeTo, notified, noted}
+use Rattle.rules.specs.Tests.{State, requestNumber, reportNumber}
+use Rattle.rules.specs.Access.{Place, nowhere, atProcess, Turn, numberAt, reached, taken}
+use Rattle.rules.specs.Step.{Stepped, localOf, put, granted, refused, requested, noted, Call, request, report, step}
+use Rattle.rules.specs.Turn.{turnOf, bufferOf}
 use Rattle.rules.specs.Isolation.{isGranted}
-use Rattle.rules.specs.Total.{First, reportNumbers, cantOver, Total}
+use Rattle.rules.specs.Total.{testsOf, First, cantOver, Total}
+use Rattle.rules.proofs.TurnLaws.{placeNumber, turnNumber}
+use Rattle.rules.proofs.LawfulLaws.{lawful}
 use Rattle.rules.proofs.StepLaws.{by-test, step-ready}
 
 -- ---- the first test that fails
@@ -37,177 +37,90 @@ first-is (t ∷ ts) = go (t .fails) refl (first-is ts)
     go true e f = inl (e, refl)
     go false e f = inr (e, f)
 
--- a test over the numbers of a list of tests holds of the number that it gives
-listed : (F : ℕ → Bool) (ts : List Test) → F 0 ≡ true → every (λ (t : Test). F (t .number)) ts ≡ true → F (firstFailing ts) ≡ true
-unfolding firstFailing
-listed F [] z e = z
-listed F (t ∷ ts) z e =
-    by-test (λ (n : ℕ). F n ≡ true) (t .fails)
-    (λ b. &&-left (F (t .number)) (every (λ (u : Test). F (u .number)) ts) e)
-    (λ b. listed F ts z (&&-right (F (t .number)) (every (λ (u : Test). F (u .number)) ts) e))
+-- ---- a call in its parts
 
--- ---- requests
+-- a call that was answered with this number from this state, with this buffer lent
+record Told (number : ℕ) (buffer : List ℕ) (s : State) (x : Stepped) : Type 0 where
+  is : numberOf (x .answer .outcome) ≡ number
+  grant : number ≡ 0 → isGranted (x .answer .outcome) ≡ true
+  kept : (number ≡ 0 → ⊥) → x .after ≡ s
+  past : (n : ℕ) → x .answer .outcome ≡ Granted n → drop n (x .answer .buffer) ≡ drop n buffer
 
-module _ (s : State) (m buffer : List ℕ) where
-  granted-outcome : numberOf (granted (headerOf m) (stringOf m) buffer s .answer .outcome) ≡ 0
-  unfolding granted grantedNamed grantedCreate numberOf
-  granted-outcome =
-      by-test (λ (x : Stepped). numberOf (x .answer .outcome) ≡ 0) (names (headerOf m .cmd)) (λ e. refl)
-      (λ e. by-test (λ (x : Stepped). numberOf (x .answer .outcome) ≡ 0) (creates (headerOf m .cmd)) (λ i. refl) (λ i. refl))
+granted-told : (number : ℕ) → number ≡ 0 → (bytes buffer : List ℕ) (s t : State)
+    → Told number buffer s (record { answer = record { outcome = Granted (length bytes); buffer = overlay bytes buffer }; after = t })
+unfolding numberOf isGranted
+granted-told number z bytes buffer s t = record {
+  is = sym z;
+  grant = λ i. refl;
+  kept = λ n. absurd (n z);
+  past = λ n e. let same : length bytes ≡ n = cc in rw (← same) (drop-overlay bytes buffer);
+}
 
-  request-is : numberOf (requested m buffer s .answer .outcome) ≡ requestNumber s m buffer
-  unfolding requested refused numberOf
-  request-is = go (eqb (requestNumber s m buffer) 0) refl
-    where
-      go : (t : Bool) → eqb (requestNumber s m buffer) 0 ≡ t
-          → numberOf (cond t (granted (headerOf m) (stringOf m) buffer s) (refused (requestNumber s m buffer) (headerOf m) buffer s) .answer .outcome) ≡ requestNumber s m buffer
-      go true e = granted-outcome ∙ sym (eqb-true _ 0 e)
-      go false e = refl
+refused-told : (number : ℕ) → eqb number 0 ≡ false → (bytes buffer : List ℕ) (s : State)
+    → Told number buffer s (record { answer = record { outcome = Refused number; buffer = overlay bytes buffer }; after = s })
+unfolding numberOf isGranted
+refused-told number e bytes buffer s = record {
+  is = refl;
+  grant = λ z. absurd (true≢false (sym (eq-eqb number 0 z) ∙ e));
+  kept = λ n. refl;
+  past = λ n i. absurd (let z : _≡_ {A = ℕ} 0 1 = cc in omega arith);
+}
 
-  numbers-listed : every (λ (t : Test). leb (t .number) 13) (requestTests s m buffer) ≡ true
-  unfolding askedTests
-  numbers-listed =
-      by-test Low (names (headerOf m .cmd)) (λ e. refl) (λ e. by-test Low (creates (headerOf m .cmd)) (λ i. refl) (λ i. refl))
-    where
-      Low : List Test → Type 0
-      Low ts = every (λ (t : Test). leb (t .number) 13) ts ≡ true
+place-told : (place : Place) (buffer : List ℕ) (s : State) → Told (placeNumber place s) buffer s (reached place buffer s)
+unfolding placeNumber reached
+place-told (nowhere bytes) buffer s = granted-told 0 refl bytes buffer s s
+place-told (atProcess p a) buffer s =
+    by-test (Told (numberAt a (localOf s p)) buffer s) (eqb (numberAt a (localOf s p)) 0)
+    (λ e. granted-told (numberAt a (localOf s p)) (eqb-true _ 0 e) (a .reply (localOf s p)) buffer s (put p (a .effect (localOf s p)) s))
+    (λ e. refused-told (numberAt a (localOf s p)) e (a .refusal (localOf s p) (numberAt a (localOf s p))) buffer s)
 
-  request-listed : numberOf (requested m buffer s .answer .outcome) ≤ 13
-  unfolding requestNumber
-  request-listed = rw request-is (leb-true _ _ (listed (λ (n : ℕ). leb n 13) (requestTests s m buffer) refl numbers-listed))
-
-  granted-is : isGranted (granted (headerOf m) (stringOf m) buffer s .answer .outcome) ≡ true
-  unfolding granted grantedNamed grantedCreate isGranted
-  granted-is =
-      by-test (λ (x : Stepped). isGranted (x .answer .outcome) ≡ true) (names (headerOf m .cmd)) (λ e. refl)
-      (λ e. by-test (λ (x : Stepped). isGranted (x .answer .outcome) ≡ true) (creates (headerOf m .cmd)) (λ i. refl) (λ i. refl))
-
-  -- a refusal is the one of the definition
-  request-refusal : (n : ℕ) → requested m buffer s .answer .outcome ≡ Refused n → requested m buffer s ≡ refused n (headerOf m) buffer s
-  unfolding requested refused isGranted
-  request-refusal n e = go (eqb (requestNumber s m buffer) 0) refl
-    where
-      go : (t : Bool) → eqb (requestNumber s m buffer) 0 ≡ t → requested m buffer s ≡ refused n (headerOf m) buffer s
-      go true i = absurd (true≢false (sym granted-is ∙ ap isGranted (rw i at e)))
-      go false i =
-          let same : Refused (requestNumber s m buffer) ≡ Refused n = rw i at e in
-          let number : requestNumber s m buffer ≡ n = cc in
-          rw (i, number)
-
-  request-kept : (numberOf (requested m buffer s .answer .outcome) ≡ 0 → ⊥) → requested m buffer s .after ≡ s
-  unfolding requested refused
-  request-kept n = go (eqb (requestNumber s m buffer) 0) refl
-    where
-      go : (t : Bool) → eqb (requestNumber s m buffer) 0 ≡ t → requested m buffer s .after ≡ s
-      go true e = absurd (n (request-is ∙ eqb-true _ 0 e))
-      go false e = rw e
-
-  request-silent : (n : ℕ) → requested m buffer s .answer .outcome ≡ Refused n → requested m buffer s .answer .buffer ≡ cond (ltb n 7) buffer (cantOver m buffer)
-  unfolding refused
-  request-silent n e = ap (λ (x : Stepped). x .answer .buffer) (request-refusal n e)
-
--- 0 is granted
-request-granted : (s : State) (m buffer : List ℕ) → numberOf (requested m buffer s .answer .outcome) ≡ 0 → isGranted (requested m buffer s .answer .outcome) ≡ true
-unfolding requested
-request-granted s m buffer z = go (eqb (requestNumber s m buffer) 0) refl
+turn-told : (t : Turn) (buffer : List ℕ) (s : State) → Told (turnNumber t s) buffer s (taken t buffer s)
+unfolding turnNumber taken
+turn-told t buffer s = go (eqb (firstFailing (t .tests)) 0) refl
   where
-    go : (t : Bool) → eqb (requestNumber s m buffer) 0 ≡ t → isGranted (requested m buffer s .answer .outcome) ≡ true
-    go true e = rw e (granted-is s m buffer)
-    go false e = absurd (true≢false (sym (eq-eqb _ 0 (sym (request-is s m buffer) ∙ z)) ∙ e))
+    go : (b : Bool) → eqb (firstFailing (t .tests)) 0 ≡ b → Told (turnNumber t s) buffer s (taken t buffer s)
+    go true e = rw e (place-told (t .place) buffer s)
+    go false e = rw e (refused-told (firstFailing (t .tests)) e (t .refusal (firstFailing (t .tests))) buffer s)
 
-replied-past : (h : Header) (string buffer : List ℕ) (s : State) (n : ℕ) → replied h string buffer s .answer .outcome ≡ Granted n
-    → drop n (replied h string buffer s .answer .buffer) ≡ drop n buffer
-replied-past h string buffer s n e =
-    let same : 10 + length string ≡ n = cc in
-    let long : length (written h string) ≡ n = length-written h string ∙ same in
-    rw (← long) (drop-overlay (written h string) buffer)
+-- any call
+told : (s : State) (c : Call) → Told (firstFailing (testsOf s c)) (bufferOf c) s (step s c)
+told s c = rw (lawful c .turn s, ← lawful c .number s) (turn-told (turnOf s c) (bufferOf c) s)
 
-request-past : (s : State) (m buffer : List ℕ) (n : ℕ) → requested m buffer s .answer .outcome ≡ Granted n
-    → drop n (requested m buffer s .answer .buffer) ≡ drop n buffer
-unfolding requested granted grantedNamed grantedCreate refused isGranted
-request-past s m buffer n =
-    by-test Past (eqb (requestNumber s m buffer) 0)
-    (λ e. by-test Past (names (headerOf m .cmd))
-    (λ i. replied-past (headerOf m) _ buffer s n)
-    (λ i. by-test Past (creates (headerOf m .cmd)) (λ j. replied-past _ [] buffer s n) (λ j. replied-past (headerOf m) [] buffer s n)))
-    (λ e i. absurd (true≢false (sym (ap isGranted i))))
+-- ---- the column 'Written'
+
+request-silent : (s : State) (m buffer : List ℕ) (n : ℕ) → requested m buffer s .answer .outcome ≡ Refused n
+    → requested m buffer s .answer .buffer ≡ cond (ltb n 7) buffer (cantOver m buffer)
+unfolding step testsOf requestNumber requested refused isGranted
+request-silent s m buffer n e = go (eqb (requestNumber s m buffer) 0) refl
   where
-    Past : Stepped → Type 0
-    Past x = x .answer .outcome ≡ Granted n → drop n (x .answer .buffer) ≡ drop n buffer
+    go : (t : Bool) → eqb (requestNumber s m buffer) 0 ≡ t → requested m buffer s .answer .buffer ≡ cond (ltb n 7) buffer (cantOver m buffer)
+    go true i = absurd (true≢false (sym (told s (request m buffer) .grant (eqb-true _ 0 i)) ∙ ap isGranted e))
+    go false i =
+        let same : Refused (requestNumber s m buffer) ≡ Refused n = rw i at e in
+        let number : requestNumber s m buffer ≡ n = cc in
+        rw (i, number)
 
--- ---- reports
-
-module _ (s : State) (p kind reason : ℕ) (words buffer : List ℕ) where
-  notified-is : (l : Local) (t : State) → isGranted (notified p kind reason words buffer l t .answer .outcome) ≡ true
-  unfolding notified noticeTo isGranted
-  notified-is l t = by-test (λ (x : Answer). isGranted (x .outcome) ≡ true) (told kind words l) (λ e. refl) (λ e. refl)
-
-  notified-zero : (l : Local) (t : State) → numberOf (notified p kind reason words buffer l t .answer .outcome) ≡ 0
-  unfolding notified noticeTo numberOf
-  notified-zero l t = by-test (λ (x : Answer). numberOf (x .outcome) ≡ 0) (told kind words l) (λ e. refl) (λ e. refl)
-
-  report-is : numberOf (noted p kind reason words buffer s .answer .outcome) ≡ reportNumber s p kind reason buffer
-  unfolding noted numberOf
-  report-is =
-      by-test (λ (x : Stepped). numberOf (x .answer .outcome) ≡ reportNumber s p kind reason buffer) (eqb (reportNumber s p kind reason buffer) 0)
-      (λ e. notified-zero _ _ ∙ sym (eqb-true _ 0 e)) (λ e. refl)
-
-  report-listed : reportNumbers (numberOf (noted p kind reason words buffer s .answer .outcome)) ≡ true
-  unfolding reportNumber
-  report-listed = rw report-is (listed reportNumbers (reportTests s p kind reason buffer) refl refl)
-
-  report-kept : (numberOf (noted p kind reason words buffer s .answer .outcome) ≡ 0 → ⊥) → noted p kind reason words buffer s .after ≡ s
-  unfolding noted
-  report-kept n = go (eqb (reportNumber s p kind reason buffer) 0) refl
-    where
-      go : (t : Bool) → eqb (reportNumber s p kind reason buffer) 0 ≡ t → noted p kind reason words buffer s .after ≡ s
-      go true e = absurd (n (report-is ∙ eqb-true _ 0 e))
-      go false e = rw e
-
-  report-silent : (n : ℕ) → noted p kind reason words buffer s .answer .outcome ≡ Refused n → noted p kind reason words buffer s .answer .buffer ≡ buffer
-  unfolding noted isGranted
-  report-silent n =
-      by-test (λ (x : Stepped). x .answer .outcome ≡ Refused n → x .answer .buffer ≡ buffer) (eqb (reportNumber s p kind reason buffer) 0)
-      (λ e i. absurd (true≢false (sym (notified-is _ _) ∙ ap isGranted i))) (λ e i. refl)
-
-  report-past : (n : ℕ) → noted p kind reason words buffer s .answer .outcome ≡ Granted n → drop n (noted p kind reason words buffer s .answer .buffer) ≡ drop n buffer
-  unfolding noted notified noticeTo isGranted
-  report-past n =
-      by-test Past (eqb (reportNumber s p kind reason buffer) 0)
-      (λ e. by-test PastAnswer (told kind words (localOf s p)) (λ i. replied-past _ (lowFirst words) buffer s n) (λ i j. refl))
-      (λ e i. absurd (true≢false (sym (ap isGranted i))))
-    where
-      PastAnswer : Answer → Type 0
-      PastAnswer x = x .outcome ≡ Granted n → drop n (x .buffer) ≡ drop n buffer
-
-      Past : Stepped → Type 0
-      Past x = PastAnswer (x .answer)
-
-report-granted : (s : State) (p kind reason : ℕ) (words buffer : List ℕ) → numberOf (noted p kind reason words buffer s .answer .outcome) ≡ 0
-    → isGranted (noted p kind reason words buffer s .answer .outcome) ≡ true
-unfolding noted
-report-granted s p kind reason words buffer z = go (eqb (reportNumber s p kind reason buffer) 0) refl
+report-silent : (s : State) (p kind reason : ℕ) (words buffer : List ℕ) (n : ℕ) → noted p kind reason words buffer s .answer .outcome ≡ Refused n
+    → noted p kind reason words buffer s .answer .buffer ≡ buffer
+unfolding step testsOf reportNumber noted isGranted
+report-silent s p kind reason words buffer n e = go (eqb (reportNumber s p kind reason buffer) 0) refl
   where
-    go : (t : Bool) → eqb (reportNumber s p kind reason buffer) 0 ≡ t → isGranted (noted p kind reason words buffer s .answer .outcome) ≡ true
-    go true e = rw e (notified-is s p kind reason words buffer _ _)
-    go false e = absurd (true≢false (sym (eq-eqb _ 0 (sym (report-is s p kind reason words buffer) ∙ z)) ∙ e))
+    go : (t : Bool) → eqb (reportNumber s p kind reason buffer) 0 ≡ t → noted p kind reason words buffer s .answer .buffer ≡ buffer
+    go true i = absurd (true≢false (sym (told s (report p kind reason words buffer) .grant (eqb-true _ 0 i)) ∙ ap isGranted e))
+    go false i = rw i
 
 pub total : Total
-unfolding requestNumber reportNumber
+unfolding step bufferOf
 total = record {
-  request-number = λ s m buffer. subst (First (requestTests s m buffer)) (sym (request-is s m buffer)) (first-is (requestTests s m buffer));
-  report-number = λ s p kind reason words buffer.
-      subst (First (reportTests s p kind reason buffer)) (sym (report-is s p kind reason words buffer)) (first-is (reportTests s p kind reason buffer));
-  request-listed = request-listed;
-  report-listed = report-listed;
-  request-refused = request-kept;
-  report-refused = report-kept;
+  number = λ s c. subst (First (testsOf s c)) (sym (told s c .is)) (first-is (testsOf s c));
+  listed = λ s c. rw (told s c .is) (lawful c .listed s);
+  granted = λ s c z. told s c .grant (sym (told s c .is) ∙ z);
+  refused = λ s c n. told s c .kept (λ z. n (told s c .is ∙ z));
+  past = λ s c. told s c .past;
   request-silent = request-silent;
   cant-ten = λ m. length-written (cantOf (headerOf m)) [];
   report-silent = report-silent;
-  request-granted = request-granted;
-  report-granted = report-granted;
-  request-past = request-past;
-  report-past = report-past;
+  request-past = λ s m buffer. told s (request m buffer) .past;
+  report-past = λ s p kind reason words buffer. told s (report p kind reason words buffer) .past;
   sound-stays = step-ready;
 }

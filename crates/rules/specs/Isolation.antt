@@ -5,13 +5,14 @@ use mathlib.Core.List.{List, [], _∷_, _++_}
 use Prim.Native.Nat.{ℕ, _<_}
 use lib.ListN.{length, take, getD}
 use lib.Dec.{leb, ltb, eqb}
+use Rattle.format.specs.declared.header.Header.{Header}
 use Rattle.format.specs.declared.outcome.Outcome.{Outcome}
 use Rattle.format.specs.declared.outcome.Outcome.the-variants.{Granted, Refused}
 use Rattle.format.specs.Layout.{headerOf}
-use Rattle.state.specs.Slot.{slot}
 use Rattle.rules.specs.Rule.{Public, public, names, creates}
 use Rattle.rules.specs.Tests.{State, recordOf}
-use Rattle.rules.specs.Step.{Answer, Call, request, report, store, step}
+use Rattle.rules.specs.Access.{Asker, nobody, by, insider}
+use Rattle.rules.specs.Step.{Answer, Call, request, report, store, step, localOf}
 use Rattle.rules.specs.Ready.{Ready}
 use Rattle.rules.specs.Run.{Entry, run, final, leave}
 
@@ -45,6 +46,47 @@ namesOne P m = leb 10 (length m) && (names (cmdOf m) && P (pidOf m))
 abbrev pub deposits : ℕ → Bool
 deposits cmd = eqb cmd 4 || eqb cmd 7
 
+-- ---- calls
+
+-- 'A request is his if its second byte, HOST, is his number.' Nobody asks a report or a store
+unfoldable pub asker : Call → Asker
+asker (request m buffer) = by (hostOf m)
+asker (report p kind reason words buffer) = nobody
+asker (store p x v) = nobody
+
+-- the call names one of these processes, or is about it
+unfoldable pub subject : Processes → Call → Bool
+subject P (request m buffer) = namesOne P m
+subject P (report p kind reason words buffer) = P p
+subject P (store p x v) = P p
+
+-- 'reports .. and stores'
+unfoldable pub event : Call → Bool
+event (request m buffer) = false
+event (report p kind reason words buffer) = true
+event (store p x v) = true
+
+-- the call without 'the strings in .. DEPOSIT and DEPOSIT STATE VECTOR requests'
+unfoldable pub passedOver : Call → Call
+passedOver (request m buffer) = request (cond (deposits (cmdOf m)) (take 10 m) m) buffer
+passedOver (report p kind reason words buffer) = report p kind reason words buffer
+passedOver (store p x v) = store p x v
+
+-- the fields of a NOP
+abbrev pub nop : Header
+nop = record { host = 0; cmd = 0; pid = 0; arg1 = 0; arg2 = 0 }
+
+-- the fields of a request; any other call changes the right to debug no more than a NOP does
+unfoldable pub fieldsOf : Call → Header
+fieldsOf (request m buffer) = headerOf m
+fieldsOf (report p kind reason words buffer) = nop
+fieldsOf (store p x v) = nop
+
+-- asked by one of these hosts
+unfoldable pub isOne : Hosts → Asker → Bool
+isOne H nobody = false
+isOne H (by host) = H host
+
 -- ---- who debugs, as the calls and their answers tell it
 
 -- the call was granted
@@ -60,13 +102,11 @@ publicThen cmd asker u =
 
 -- 'from a granted .. CREATE the asker', of the process whose number the reply carries; 'Nothing else changes it.'
 unfoldable pub toldOf : (ℕ → Public) → Call → Answer → ℕ → Public
-toldOf d (request m buffer) a p =
+toldOf d c a p =
     cond (isGranted (a .outcome))
-    (cond (names (cmdOf m) && eqb p (pidOf m)) (publicThen (cmdOf m) (hostOf m) (d p))
-    (cond (creates (cmdOf m) && eqb p (getD (a .buffer) 5 0)) (record { there = true; host = hostOf m }) (d p)))
+    (cond (names (fieldsOf c .cmd) && eqb p (fieldsOf c .pid)) (publicThen (fieldsOf c .cmd) (fieldsOf c .host) (d p))
+    (cond (creates (fieldsOf c .cmd) && eqb p (getD (a .buffer) 5 0)) (record { there = true; host = fieldsOf c .host }) (d p)))
     (d p)
-toldOf d (report q kind reason words buffer) a p = d p
-toldOf d (store q x v) a p = d p
 
 -- the public part of a process in a state
 abbrev pub publicOf : State → ℕ → Public
@@ -84,10 +124,13 @@ noticed H (Granted n) buffer = ltb 0 n && H (getD buffer 1 0)
 noticed H (Refused n) buffer = false
 
 -- 'To him go the answers to his requests and to the reports that send him something.'
-unfoldable pub toThem : Hosts → Call → Answer → Bool
-toThem H (request m buffer) a = H (hostOf m)
-toThem H (report p kind reason words buffer) a = noticed H (a .outcome) (a .buffer)
-toThem H (store p x v) a = false
+unfoldable pub sentTo : Hosts → Asker → Answer → Bool
+sentTo H nobody a = noticed H (a .outcome) (a .buffer)
+sentTo H (by host) a = H host
+
+-- the same of a call and its answer
+abbrev pub toThem : Hosts → Call → Answer → Bool
+toThem H c a = sentTo H (asker c) a
 
 -- the answer to a call, if it goes to them
 unfoldable pub part : Hosts → Entry → List Answer
@@ -102,15 +145,11 @@ heard H (e ∷ es) = part H e ++ heard H es
 
 -- 'reports about P and stores into P, however many, are struck'
 unfoldable pub struck : Processes → Call → Bool
-struck P (request m buffer) = false
-struck P (report p kind reason words buffer) = P p
-struck P (store p x v) = P p
+struck P c = event c && subject P c
 
 -- 'the strings in other hosts' DEPOSIT and DEPOSIT STATE VECTOR requests to P, of any length, are passed over'
 unfoldable pub blank : Hosts → Processes → Call → Call
-blank H P (request m buffer) = request (cond (not (H (hostOf m)) && (deposits (cmdOf m) && namesOne P m)) (take 10 m) m) buffer
-blank H P (report p kind reason words buffer) = report p kind reason words buffer
-blank H P (store p x v) = store p x v
+blank H P c = cond (not (isOne H (asker c)) && subject P c) (passedOver c) c
 
 -- a list of calls, struck and passed over in this way
 unfoldable pub strike : Hosts → Processes → List Call → List Call
@@ -126,12 +165,11 @@ Alike H P l₁ l₂ = strike H P l₁ ≡ strike H P l₂
 -- 'The start states differ only in P's memory and P's record, and agree on whether P is there, on its host'
 pub record Apart (P : Processes) (s₁ s₂ : State) : Type 0 where
   pub shown : (p : ℕ) → p < 8 → publicOf s₁ p ≡ publicOf s₂ p
-  pub whole : (p : ℕ) → p < 8 → P p ≡ false → recordOf s₁ p ≡ recordOf s₂ p
-  pub bytes : (p : ℕ) → p < 8 → P p ≡ false → slot p (s₁ .memory) ≡ slot p (s₂ .memory)
+  pub others : (p : ℕ) → p < 8 → P p ≡ false → localOf s₁ p ≡ localOf s₂ p
 
 -- none of these hosts debugs one of these processes
 abbrev pub Free : Hosts → Processes → State → Type 0
-Free H P s = (p : ℕ) → p < 8 → P p ≡ true → H (publicOf s p .host) ≡ false
+Free H P s = (p : ℕ) → p < 8 → P p ≡ true → (host : ℕ) → H host ≡ true → insider (publicOf s p) host ≡ false
 
 -- neither at the start nor after any call
 unfoldable pub Away : Hosts → Processes → State → List Call → Type 0
@@ -140,9 +178,7 @@ Away H P s (c ∷ cs) = Free H P s × Away H P (step s c .after) cs
 
 -- their requests that name one of these processes
 unfoldable pub theirs : Hosts → Processes → Call → Bool
-theirs H P (request m buffer) = H (hostOf m) && namesOne P m
-theirs H P (report p kind reason words buffer) = false
-theirs H P (store p x v) = false
+theirs H P c = isOne H (asker c) && subject P c
 
 -- ---- the claim, for a set of hosts and a set of processes
 
@@ -153,7 +189,7 @@ pub record Claim (H : Hosts) (P : Processes) : Type 0 where
       → heard H (run s₁ l₁) ≡ heard H (run s₂ l₂)
   -- and so is the next answer to one of them, also the one that makes him debug such a process
   pub same-next : (s₁ s₂ : State) → Ready s₁ → Ready s₂ → Apart P s₁ s₂ → (l₁ l₂ : List Call) → Alike H P l₁ l₂ → Away H P s₁ l₁
-      → (m buffer : List ℕ) → H (hostOf m) ≡ true → step (final s₁ l₁) (request m buffer) .answer ≡ step (final s₂ l₂) (request m buffer) .answer
+      → (c : Call) → isOne H (asker c) ≡ true → step (final s₁ l₁) c .answer ≡ step (final s₂ l₂) c .answer
   pub both-away : (s₁ s₂ : State) → Ready s₁ → Ready s₂ → Apart P s₁ s₂ → (l₁ l₂ : List Call) → Alike H P l₁ l₂ → Away H P s₁ l₁
       → Away H P s₂ l₂
   -- part two: some or all of their requests that name one of the processes are left out, and every other call has the same answer and

@@ -1,7 +1,10 @@
 -- The rules of the gateway. Words in quotation marks are document 01's.
 pub mod Rule
 pub mod Tests
+pub mod Window
+pub mod Access
 pub mod Step
+pub mod Turn
 pub mod Ready
 pub mod Run
 pub mod Isolation

@@ -1,15 +1,16 @@
 -- Isolation of one host from one process, in document 01's own words. It follows from the claim for sets.
 use mathlib.Core.Path.{_≡_}
-use mathlib.Core.Bool.{Bool}
+use mathlib.Core.Bool.{Bool, false}
 use mathlib.Core.List.{List, [], _∷_}
 use Prim.Native.Nat.{ℕ, _<_}
 use lib.Dec.{eqb}
 use Rattle.rules.specs.Rule.{Public}
 use Rattle.rules.specs.Tests.{State, recordOf}
-use Rattle.rules.specs.Step.{Call, request, step, localOf}
+use Rattle.rules.specs.Access.{by, insider}
+use Rattle.rules.specs.Step.{Call, step, localOf}
 use Rattle.rules.specs.Ready.{Ready}
 use Rattle.rules.specs.Run.{Entry, run, final, leave}
-use Rattle.rules.specs.Isolation.{hostOf, heard, Alike, theirs, toldOf, publicOf}
+use Rattle.rules.specs.Isolation.{asker, heard, Alike, theirs, toldOf, publicOf}
 
 -- one host, or one process
 abbrev pub only : ℕ → ℕ → Bool
@@ -23,8 +24,8 @@ pub record Differ (p : ℕ) (s₁ s₂ : State) : Type 0 where
 
 -- 'Who debugs a process: at the start the host in its record'; then by what each call is answered: not this host, at any time
 unfoldable pub Never : ℕ → ℕ → (ℕ → Public) → List Entry → Type 0
-Never host p who [] = who p .host ≡ host → ⊥
-Never host p who (e ∷ es) = (who p .host ≡ host → ⊥) × Never host p (toldOf who (e .call) (e .answer)) es
+Never host p who [] = insider (who p) host ≡ false
+Never host p who (e ∷ es) = (insider (who p) host ≡ false) × Never host p (toldOf who (e .call) (e .answer)) es
 
 -- the host debugs the process neither at the start nor after any call
 abbrev pub Outside : ℕ → ℕ → State → List Call → Type 0
@@ -40,8 +41,7 @@ pub record Outsider (host p : ℕ) : Type 0 where
       → Outside host p s₁ l₁ → heard (only host) (run s₁ l₁) ≡ heard (only host) (run s₂ l₂)
   -- and so is the answer to his next request, also to the DEBUG or CREATE by which he debugs P
   pub same-next : (s₁ s₂ : State) → Ready s₁ → Ready s₂ → Differ p s₁ s₂ → (l₁ l₂ : List Call) → Alike (only host) (only p) l₁ l₂
-      → Outside host p s₁ l₁ → (m buffer : List ℕ) → hostOf m ≡ host
-      → step (final s₁ l₁) (request m buffer) .answer ≡ step (final s₂ l₂) (request m buffer) .answer
+      → Outside host p s₁ l₁ → (c : Call) → asker c ≡ by host → step (final s₁ l₁) c .answer ≡ step (final s₂ l₂) c .answer
   -- part two: without some or all of his requests that name P, every other call has the same answer and the same state after it
   pub unnoticed : (s : State) → Ready s → (l : List Call) → Outside host p s l → (marks : List Bool)
       → run s (leave (theirs (only host) (only p)) marks l) ≡ leave (λ (e : Entry). theirs (only host) (only p) (e .call)) marks (run s l)

@@ -5,48 +5,45 @@ use mathlib.Core.List.{List, [], _∷_}
 use mathlib.Core.Logic.{_⊎_}
 use Prim.Native.Nat.{ℕ, _<_}
 use Rattle.rules.specs.Tests.{State}
-use Rattle.rules.specs.Step.{Call, request, report, store, step, requested, localOf}
+use Rattle.rules.specs.Rule.{Public}
+use Rattle.rules.specs.Access.{Asker, nobody, by, insider}
+use Rattle.rules.specs.Step.{Call, step, localOf}
 use Rattle.rules.specs.Ready.{Ready}
 use Rattle.rules.specs.Run.{final}
-use Rattle.rules.specs.Isolation.{hostOf, cmdOf, pidOf, isGranted, publicOf}
+use Rattle.rules.specs.Isolation.{asker, subject, fieldsOf, isGranted, publicOf}
+use Rattle.rules.specs.Outsider.{only}
 
 -- the host that debugs a process, or 0
 abbrev pub holder : State → ℕ → ℕ
 holder s p = publicOf s p .host
 
+-- asked by a host that debugs the process before the call or after it; nobody asks a report or a store
+unfoldable pub Allowed : Asker → Public → Public → Type 0
+Allowed nobody before after = Unit {0}
+Allowed (by host) before after = (insider before host ≡ true) ⊎ (insider after host ≡ true)
+
+-- a call that names the process or is about it, or a CREATE
+abbrev pub Reaches : ℕ → Call → Type 0
+Reaches p c = (subject (only p) c ≡ true) ⊎ (fieldsOf c .cmd ≡ 12)
+
 -- a request that names it, or a CREATE, of the host that debugs it or does then; a report about it; a store into it
-unfoldable pub MayChange : ℕ → State → Call → Type 0
-MayChange p s (request m buffer) =
-    ((holder s p ≡ hostOf m) ⊎ (holder (requested m buffer s .after) p ≡ hostOf m)) × ((pidOf m ≡ p) ⊎ (cmdOf m ≡ 12))
-MayChange p s (report q kind reason words buffer) = q ≡ p
-MayChange p s (store q x v) = q ≡ p
+abbrev pub MayChange : ℕ → State → Call → Type 0
+MayChange p s c = Reaches p c × Allowed (asker c) (publicOf s p) (publicOf (step s c .after) p)
 
--- a granted DEBUG of a process that nobody debugs, or the granted CREATE of it: the asker debugs it then
-pub record Began (p : ℕ) (s : State) (m buffer : List ℕ) : Type 0 where
-  pub granted : isGranted (requested m buffer s .answer .outcome) ≡ true
-  pub op : ((cmdOf m ≡ 1) × (pidOf m ≡ p)) ⊎ (cmdOf m ≡ 12)
+-- by a granted DEBUG of a process that nobody debugs, or the granted CREATE of it, the asker debugs it
+pub record Begins (p : ℕ) (s : State) (c : Call) : Type 0 where
+  pub granted : isGranted (step s c .answer .outcome) ≡ true
+  pub op : ((fieldsOf c .cmd ≡ 1) × (fieldsOf c .pid ≡ p)) ⊎ (fieldsOf c .cmd ≡ 12)
   pub before : holder s p ≡ 0
-  pub after : holder (requested m buffer s .after) p ≡ hostOf m
+  pub after : asker c ≡ by (holder (step s c .after) p)
 
--- a granted END DEBUG or DESTROY of it by the host that debugs it: nobody does then
-pub record Ended (p : ℕ) (s : State) (m buffer : List ℕ) : Type 0 where
-  pub granted : isGranted (requested m buffer s .answer .outcome) ≡ true
-  pub op : (cmdOf m ≡ 2) ⊎ (cmdOf m ≡ 13)
-  pub named : pidOf m ≡ p
-  pub before : holder s p ≡ hostOf m
-  pub after : holder (requested m buffer s .after) p ≡ 0
-
--- a call by which the right to debug a process begins
-unfoldable pub Begins : ℕ → State → Call → Type 0
-Begins p s (request m buffer) = Began p s m buffer
-Begins p s (report q kind reason words buffer) = ⊥
-Begins p s (store q x v) = ⊥
-
--- a call by which it ends
-unfoldable pub Ends : ℕ → State → Call → Type 0
-Ends p s (request m buffer) = Ended p s m buffer
-Ends p s (report q kind reason words buffer) = ⊥
-Ends p s (store q x v) = ⊥
+-- by a granted END DEBUG or DESTROY of the host that debugs it, nobody debugs it
+pub record Ends (p : ℕ) (s : State) (c : Call) : Type 0 where
+  pub granted : isGranted (step s c .answer .outcome) ≡ true
+  pub op : (fieldsOf c .cmd ≡ 2) ⊎ (fieldsOf c .cmd ≡ 13)
+  pub named : fieldsOf c .pid ≡ p
+  pub before : asker c ≡ by (holder s p)
+  pub after : holder (step s c .after) p ≡ 0
 
 -- no call of a list ends the right to debug this process
 unfoldable pub NoneEnds : ℕ → State → List Call → Type 0

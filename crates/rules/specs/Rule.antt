@@ -10,6 +10,7 @@ use Rattle.run_state.specs.declared.Run.{Run}
 use Rattle.process.specs.declared.record.Process.{Process}
 use Rattle.breakpoints.specs.Entry.{validBreakAddress}
 use Rattle.process.specs.Local.{Local}
+use Rattle.state.specs.Slot.{extent}
 use Rattle.run_state.specs.RunState.{stoppedOrAtBreak, atBreak}
 use Rattle.process.specs.Request.{hasBreak, hasRoom, debugged, endDebugged, stopped, resumed, stepped, proceeded, examined, deposited, vectorDeposited, breakSet, breakRemoved, destroyed}
 
@@ -108,7 +109,7 @@ abbrev pub examineRule : Rule
 examineRule = record {
   right = holds;
   runs = λ r. true;
-  range = λ h. upTo 4096 h && leb (h .arg2) 256;
+  range = λ h. upTo (extent (h .pid)) h && leb (h .arg2) 256;
   room = λ a p. true;
   found = λ a p. true;
   effect = λ h s l. l;
@@ -150,7 +151,7 @@ rules =
     ∷ debugRule  -- 1 DEBUG
     ∷ endDebugRule  -- 2 END DEBUG
     ∷ plain (λ h s. stopped)  -- 3 STOP
-    ∷ within (upTo 4096) (λ h s. deposited (h .arg1) s)  -- 4 DEPOSIT
+    ∷ within (λ h. upTo (extent (h .pid)) h) (λ h s. deposited (h .arg1) s)  -- 4 DEPOSIT
     ∷ whileRun stoppedOrAtBreak (λ h s. resumed)  -- 5 RESUME
     ∷ examineRule  -- 6 EXAMINE
     ∷ within (upTo 18) (λ h s. vectorDeposited (h .arg1) s)  -- 7 DEPOSIT STATE VECTOR

@@ -1,5 +1,5 @@
 -- One call: what is answered, and state, memory and output buffer after it.
-use mathlib.Core.Bool.{Bool, not, cond}
+use mathlib.Core.Bool.{Bool, not, cond, _&&_}
 use mathlib.Core.List.{List, []}
 use Prim.Native.Nat.{ℕ, _+_}
 use lib.ListN.{length, set}
@@ -14,33 +14,16 @@ use Rattle.format.specs.Answer.{cantOf, createdOf, noticeOf}
 use Rattle.process.specs.Local.{Local, local}
 use Rattle.process.specs.Request.{created}
 use Rattle.process.specs.Report.{reported, recipientOf}
-use Rattle.state.specs.Gateway.{withProcess}
-use Rattle.state.specs.Slot.{slot, withSlot}
+use Rattle.state.specs.Slot.{slot}
 use Rattle.rules.specs.Rule.{ruleOf, names, creates}
 use Rattle.state.specs.Gateway.{lowestAbsent}
 use Rattle.rules.specs.Tests.{State, recordOf, requestNumber, reportNumber}
-
--- 'An answer is all that a call returns but the state .., and every byte of its output buffers after it.'
-pub record Answer : Type 0 where
-  pub outcome : Outcome
-  pub buffer : List ℕ
-
--- an answer, and the state after it
-pub record Stepped : Type 0 where
-  pub answer : Answer
-  pub after : State
+pub use Rattle.rules.specs.Window.{Answer, Stepped, localOf}
+unfoldable pub use Rattle.rules.specs.Window.{put}
 
 -- an answer that leaves this state
 abbrev pub answers : Outcome → List ℕ → State → Stepped
 answers o buffer s = record { answer = record { outcome = o; buffer = buffer }; after = s }
-
--- a process with its bytes
-abbrev pub localOf : State → ℕ → Local
-localOf s p = local (recordOf s p) (slot p (s .memory))
-
--- the state with another process p
-unfoldable pub put : ℕ → Local → State → State
-put p l s = record { gateway = withProcess p (l .process) (s .gateway); memory = withSlot p (l .bytes) (s .memory) }
 
 -- a reply is laid over the start of the reply buffer
 abbrev pub replyOf : Header → List ℕ → List ℕ → Answer

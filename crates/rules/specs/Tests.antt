@@ -14,7 +14,8 @@ use Rattle.run_state.specs.ReportKind.{TRAP, TTRAP}
 use Rattle.run_state.specs.RunState.{accepts}
 use Rattle.state.specs.declared.gateway.Gateway.{Gateway}
 use Rattle.state.specs.Gateway.{processAt, lowestAbsent, soundTest}
-use Rattle.rules.specs.Rule.{Rule, public, ruleOf, names, creates}
+use Rattle.state.specs.Slot.{capacity}
+use Rattle.rules.specs.Rule.{Rule, Public, public, ruleOf, names, creates}
 
 -- the gateway's eight records and the lent memory
 pub record State : Type 0 where
@@ -27,7 +28,7 @@ lent g memory = record { gateway = g; memory = memory }
 
 -- 1: 'memory not 32,768 bytes, or reply or notice buffer under 266'
 abbrev pub noRoom : List ℕ → List ℕ → Bool
-noRoom memory buffer = not (eqb (length memory) 32768) || ltb (length buffer) 266
+noRoom memory buffer = not (eqb (length memory) capacity) || ltb (length buffer) 266
 
 -- 2: 'state not sound'
 abbrev pub unsound : State → Bool
@@ -41,15 +42,22 @@ recordOf s p = processAt (s .gateway) p
 abbrev pub absent : State → ℕ → Bool
 absent s p = not (ltb p 8 && recordOf s p .there)
 
--- the tests of a process by the rule of the op code, 8 to 12
-abbrev pub ruleTests : Rule → Header → Process → List Test
-ruleTests r h p =
-    test 8 (not (r .right (public p) (h .host)))
-    ∷ test 9 (not (r .runs (p .run)))
+-- the tests by the public part alone
+abbrev pub outerTests : Rule → Header → Public → List Test
+outerTests r h u = test 8 (not (r .right u (h .host))) ∷ []
+
+-- the tests by the process
+abbrev pub innerTests : Rule → Header → Process → List Test
+innerTests r h p =
+    test 9 (not (r .runs (p .run)))
     ∷ test 10 (not (r .range h))
     ∷ test 11 (not (r .room (h .arg1) p))
     ∷ test 12 (not (r .found (h .arg1) p))
     ∷ []
+
+-- the tests of a process by the rule of the op code, 8 to 12
+abbrev pub ruleTests : Rule → Header → Process → List Test
+ruleTests r h p = outerTests r h (public p) ++ innerTests r h p
 
 -- the tests 7 to 12 of a request that names a process, and 13 of CREATE: 'all eight processes are there'
 unfoldable pub askedTests : Header → State → List Test

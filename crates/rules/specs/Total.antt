@@ -3,7 +3,7 @@ use mathlib.Core.Path.{_≡_}
 use mathlib.Core.Bool.{Bool, true, false, cond, _||_}
 use mathlib.Core.List.{List, [], _∷_}
 use mathlib.Core.Logic.{_⊎_}
-use Prim.Native.Nat.{ℕ, _≤_}
+use Prim.Native.Nat.{ℕ}
 use lib.ListN.{length, drop}
 use lib.Dec.{ltb, eqb}
 use Rattle.lists.specs.Buffer.{overlay}
@@ -12,13 +12,27 @@ use Rattle.format.specs.Outcome.{Test, numberOf}
 use Rattle.format.specs.Layout.{written, headerOf}
 use Rattle.format.specs.Answer.{cantOf}
 use Rattle.rules.specs.Tests.{State, requestTests, reportTests}
-use Rattle.rules.specs.Step.{Call, requested, noted, step}
+use Rattle.rules.specs.Step.{Call, request, report, store, requested, noted, step}
+use Rattle.rules.specs.Turn.{bufferOf}
 use Rattle.rules.specs.Ready.{Ready}
 use Rattle.rules.specs.Isolation.{isGranted}
 
--- the numbers of a report
-abbrev pub reportNumbers : ℕ → Bool
-reportNumbers n = eqb n 0 || (eqb n 1 || (eqb n 2 || (eqb n 14 || (eqb n 7 || eqb n 9))))
+-- the tests of a call, in their order; a store has none
+unfoldable pub testsOf : State → Call → List Test
+testsOf s (request m buffer) = requestTests s m buffer
+testsOf s (report p kind reason words buffer) = reportTests s p kind reason buffer
+testsOf s (store p x v) = []
+
+-- 'Numbers returned': those of each call
+unfoldable pub numbersOf : Call → List ℕ
+numbersOf (request m buffer) = 0 ∷ 1 ∷ 2 ∷ 3 ∷ 4 ∷ 5 ∷ 6 ∷ 7 ∷ 8 ∷ 9 ∷ 10 ∷ 11 ∷ 12 ∷ 13 ∷ []
+numbersOf (report p kind reason words buffer) = 0 ∷ 1 ∷ 2 ∷ 14 ∷ 7 ∷ 9 ∷ []
+numbersOf (store p x v) = 0 ∷ []
+
+-- the number is one of a list
+abbrev pub oneOf : List ℕ → ℕ → Bool
+oneOf [] n = false
+oneOf (k ∷ ks) n = eqb n k || oneOf ks n
 
 -- the number of the first test of a list that fails, or 0 where none does
 unfoldable pub First : List Test → ℕ → Type 0
@@ -32,21 +46,15 @@ cantOver m buffer = overlay (written (cantOf (headerOf m)) []) buffer
 -- demand 1
 pub record Total : Type 0 where
   -- 'The lowest-numbered test that fails gives the answer; none is given otherwise.'
-  pub request-number : (s : State) (m buffer : List ℕ) → First (requestTests s m buffer) (numberOf (requested m buffer s .answer .outcome))
-  pub report-number : (s : State) (p kind reason : ℕ) (words buffer : List ℕ)
-      → First (reportTests s p kind reason buffer) (numberOf (noted p kind reason words buffer s .answer .outcome))
+  pub number : (s : State) (c : Call) → First (testsOf s c) (numberOf (step s c .answer .outcome))
   -- 'Numbers returned': every number is one of the list
-  pub request-listed : (s : State) (m buffer : List ℕ) → numberOf (requested m buffer s .answer .outcome) ≤ 13
-  pub report-listed : (s : State) (p kind reason : ℕ) (words buffer : List ℕ) → reportNumbers (numberOf (noted p kind reason words buffer s .answer .outcome)) ≡ true
+  pub listed : (s : State) (c : Call) → oneOf (numbersOf c) (numberOf (step s c .answer .outcome)) ≡ true
   -- '0 is granted.'
-  pub request-granted : (s : State) (m buffer : List ℕ) → numberOf (requested m buffer s .answer .outcome) ≡ 0
-      → isGranted (requested m buffer s .answer .outcome) ≡ true
-  pub report-granted : (s : State) (p kind reason : ℕ) (words buffer : List ℕ) → numberOf (noted p kind reason words buffer s .answer .outcome) ≡ 0
-      → isGranted (noted p kind reason words buffer s .answer .outcome) ≡ true
+  pub granted : (s : State) (c : Call) → numberOf (step s c .answer .outcome) ≡ 0 → isGranted (step s c .answer .outcome) ≡ true
   -- 'State and memory are unchanged by a refusal'
-  pub request-refused : (s : State) (m buffer : List ℕ) → (numberOf (requested m buffer s .answer .outcome) ≡ 0 → ⊥) → requested m buffer s .after ≡ s
-  pub report-refused : (s : State) (p kind reason : ℕ) (words buffer : List ℕ)
-      → (numberOf (noted p kind reason words buffer s .answer .outcome) ≡ 0 → ⊥) → noted p kind reason words buffer s .after ≡ s
+  pub refused : (s : State) (c : Call) → (numberOf (step s c .answer .outcome) ≡ 0 → ⊥) → step s c .after ≡ s
+  -- 'buffer bytes past those written are never touched'
+  pub past : (s : State) (c : Call) (n : ℕ) → step s c .answer .outcome ≡ Granted n → drop n (step s c .answer .buffer) ≡ drop n (bufferOf c)
   -- the column 'Written': nothing under 7, and the ten bytes of the CAN'T from 7 on
   pub request-silent : (s : State) (m buffer : List ℕ) (n : ℕ) → requested m buffer s .answer .outcome ≡ Refused n
       → requested m buffer s .answer .buffer ≡ cond (ltb n 7) buffer (cantOver m buffer)
@@ -54,7 +62,7 @@ pub record Total : Type 0 where
   -- 'a refused one writes nothing at all'
   pub report-silent : (s : State) (p kind reason : ℕ) (words buffer : List ℕ) (n : ℕ) → noted p kind reason words buffer s .answer .outcome ≡ Refused n
       → noted p kind reason words buffer s .answer .buffer ≡ buffer
-  -- 'buffer bytes past those written are never touched'
+  -- so of a request and of a report
   pub request-past : (s : State) (m buffer : List ℕ) (n : ℕ) → requested m buffer s .answer .outcome ≡ Granted n
       → drop n (requested m buffer s .answer .buffer) ≡ drop n buffer
   pub report-past : (s : State) (p kind reason : ℕ) (words buffer : List ℕ) (n : ℕ) → noted p kind reason words buffer s .answer .outcome ≡ Granted n

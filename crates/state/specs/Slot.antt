@@ -3,6 +3,14 @@ use mathlib.Core.List.{List, [], _∷_, _++_}
 use Prim.Native.Nat.{ℕ}
 use lib.ListN.{take, drop, getD}
 
+-- 'lent as one buffer of 32,768 bytes'
+abbrev pub capacity : ℕ
+capacity = 32768
+
+-- '4,096 bytes each': the number of bytes of process p
+abbrev pub extent : ℕ → ℕ
+extent p = 4096
+
 -- '4,096 bytes each, lent as one buffer of 32,768 bytes, process p from byte 4,096 × p'
 abbrev pub starts : List ℕ
 starts = 0 ∷ 4096 ∷ 8192 ∷ 12288 ∷ 16384 ∷ 20480 ∷ 24576 ∷ 28672 ∷ []
