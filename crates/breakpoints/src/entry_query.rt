@@ -1,6 +1,8 @@
 // What is looked for among the entries of a process.
 use crate::entry::Breakpoint;
 ghost use mathlib.Core.Path.{_≡_};
+ghost use mathlib.Core.Bool.{_||_};
+ghost use Rattle.breakpoints.specs.declared.entry_query.EntryQuery.the-variants.{Lifted};
 ghost use Rattle.breakpoints.specs.EntryQuery.{matches};
 
 // An entry that is free, that is lifted, or that is a breakpoint at this address.
@@ -19,5 +21,12 @@ impl Breakpoint {
             EntryQuery::Lifted => if self.used { self.lifted } else { false },
             EntryQuery::At(a) => if self.used { self.address == a } else { false },
         }
+    }
+
+    // Whether it is lifted, or another is.
+    pub fn lifted_or(self, another: bool) -> bool
+        ensures { λ r. ⌜ r ≡ another || matches Lifted self ⌝ }
+    {
+        another || self.matches(EntryQuery::Lifted)
     }
 }

@@ -1,11 +1,11 @@
 -- Laws of the search among the entries of a process. Assumes nothing.
 use mathlib.Core.Path.{_≡_, refl, sym, _∙_}
-use mathlib.Core.Bool.{Bool, true, false, cond, _&&_, true≢false}
+use mathlib.Core.Bool.{Bool, true, false, cond, _&&_, _||_, true≢false}
 use mathlib.Core.Logic.{⊎-elim}
-use Prim.Native.Nat.{ℕ, _≤_, _<_}
+use Prim.Native.Nat.{ℕ, _+_, _≤_, _<_}
 use native.Mathlib.Nat.{eq-or-lt-of-le}
 use native.Mathlib.Omega.{arith}
-use borrow.Author.Tests.{eqb-true, eq-eqb, not-true, ltb-true, ltb-false}
+use borrow.Author.Tests.{eqb-true, eq-eqb, not-true, ltb-true, ltb-false, lt-ltb, le-ltb}
 use lib.ListN.{length}
 use lib.Dec.{eqb, ltb}
 use Rattle.lists.proofs.Bool.{&&-left, &&-right, &&-both}
@@ -78,6 +78,19 @@ module _ (want : EntryQuery) (p : Process) where
       where
         here : j ≡ find want p → ⊥
         here q = let m : matches want (entry p j) ≡ true = rw q (find-matches (omega (arith, q, h))) in true≢false (sym m ∙ e)
+
+-- an entry before the next one matches, where one before this does or this one does
+pub find-next : (want : EntryQuery) (p : Process) → length (p .breaks) ≡ 8 → (k : ℕ) → k < 8 → (earlier : Bool) → earlier ≡ ltb (find want p) k
+    → earlier || matches want (entry p k) ≡ ltb (find want p) (k + 1)
+find-next want p eight k low true e = sym (lt-ltb (find want p) (k + 1) (omega (arith, ltb-true (find want p) k (sym e))))
+find-next want p eight k low false e = go (matches want (entry p k)) refl
+  where
+    far : k ≤ find want p
+    far = ltb-false (find want p) k (sym e)
+
+    go : (t : Bool) → matches want (entry p k) ≡ t → t ≡ ltb (find want p) (k + 1)
+    go true m = sym (lt-ltb (find want p) (k + 1) (omega (arith, find-here want p eight k low far m)))
+    go false m = sym (le-ltb (find want p) (k + 1) (omega (arith, find-past want p eight k low far m)))
 
 -- ---- what a search answers
 

@@ -1,5 +1,4 @@
 // Whether a process record is sound.
-use crate::find::FoundEntry;
 use crate::record::ENTRIES;
 use crate::record::Process;
 use breakpoints::Breakpoint;
@@ -8,6 +7,9 @@ use breakpoints::valid_break_address;
 ghost use mathlib.Core.Path.{_≡_};
 ghost use mathlib.Core.Bool.{true};
 ghost use Prim.Native.Nat.{_<_};
+ghost use lib.Dec.{ltb};
+ghost use Rattle.breakpoints.specs.declared.entry_query.EntryQuery.the-variants.{Lifted};
+ghost use Rattle.process.specs.Find.{find};
 ghost use Rattle.process.specs.Sizes.{entryCount};
 ghost use Rattle.process.specs.Record.{entry};
 ghost use Rattle.process.specs.Sound.{absentHasNoHost, addressIsUnique, liftSound, entrySound, soundTest};
@@ -19,24 +21,19 @@ impl Process {
         if self.there { true } else { self.host == 0 }
     }
 
-    // Entry k is not lifted, or the process moves and no earlier entry is lifted.
-    fn lift_sound(self, k: usize, lifted: bool) -> bool
-        requires { ⌜ k < entryCount ⌝ }
-        requires { ⌜ lifted ≡ entry self k .lifted ⌝ }
+    // Entry k, which is in use, is not lifted, or the process moves and no earlier entry is lifted.
+    fn lift_sound(self, k: usize, lifted: bool, earlier: bool) -> bool
+        requires { ⌜ (k < entryCount) × (entry self k .used ≡ true) × (lifted ≡ entry self k .lifted) × (earlier ≡ ltb (find Lifted self) k) ⌝ }
         ensures { λ r. ⌜ r ≡ liftSound self k ⌝ }
     {
         if !lifted {
             return true;
         }
-        let run = self.run;
-        if !run.moving() {
+        if earlier {
             return false;
         }
-        let first = self.find(EntryQuery::Lifted);
-        match first {
-            FoundEntry::Index(j) => j == k,
-            FoundEntry::Nowhere => false,
-        }
+        let run = self.run;
+        run.moving()
     }
 
     // No entry before k, which is in use, has its address.
@@ -58,10 +55,11 @@ impl Process {
         true
     }
 
-    // Entry k, which is b, is free, or keeps the rules.
-    fn entry_sound(self, k: usize, b: Breakpoint) -> bool
+    // Entry k, which is b, is free, or keeps the rules. `earlier` says that an earlier entry is lifted.
+    fn entry_sound(self, k: usize, b: Breakpoint, earlier: bool) -> bool
         requires { ⌜ k < entryCount ⌝ }
         requires { ⌜ b ≡ entry self k ⌝ }
+        requires { ⌜ earlier ≡ ltb (find Lifted self) k ⌝ }
         ensures { λ r. ⌜ r ≡ entrySound self k ⌝ }
     {
         if !b.used {
@@ -76,10 +74,10 @@ impl Process {
         if !self.address_is_unique(k, b.address) {
             return false;
         }
-        self.lift_sound(k, b.lifted)
+        self.lift_sound(k, b.lifted, earlier)
     }
 
-    // Every entry is read once, and what is asked of it is handed on: an entry read anew costs a copy of all eight.
+    // Every entry is read once, and what is asked of it is handed on, also that one was lifted: an entry read anew costs a copy of all eight.
     pub fn sound(self) -> bool
         ensures { λ r. ⌜ r ≡ soundTest self ⌝ }
     {
@@ -87,12 +85,14 @@ impl Process {
             return false;
         }
         let breaks = self.breaks;
+        let mut earlier = false;
         let mut k = 0;
         while k < ENTRIES {
             let b = breaks[k];
-            if !self.entry_sound(k, b) {
+            if !self.entry_sound(k, b, earlier) {
                 return false;
             }
+            earlier = b.lifted_or(earlier);
             k += 1;
         }
         true

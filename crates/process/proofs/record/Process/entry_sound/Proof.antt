@@ -26,7 +26,7 @@ unfolding entrySound usedSound
 returns c =
     let s = c .before .before in
     let a = s .args in
-    rw (used (a .b) (entry (a .self) (a .k)) (s .pre .1) _ (not-true (a .b .used) (c .if1 .taken)))
+    rw (used (a .b) (entry (a .self) (a .k)) (s .pre .1 .0) _ (not-true (a .b .used) (c .if1 .taken)))
 
 returns-2 : tie.Need-returns-2
 unfolding entrySound usedSound
@@ -34,7 +34,7 @@ returns-2 c =
     let i = c .before .before in
     let s = i .before .before in
     let a = s .args in
-    rw (used (a .b) (entry (a .self) (a .k)) (s .pre .1) _ (not-false (a .b .used) (i .if1 .left)), eq-eqb _ _ (c .if2 .taken))
+    rw (used (a .b) (entry (a .self) (a .k)) (s .pre .1 .0) _ (not-false (a .b .used) (i .if1 .left)), eq-eqb _ _ (c .if2 .taken))
 
 valid-break-address-requires : tie.Need-valid-break-address-requires
 valid-break-address-requires c κs = search needs
@@ -48,9 +48,9 @@ returns-3 c =
     let s = i .before .before in
     let a = s .args in
     rw (
-      used (a .b) (entry (a .self) (a .k)) (s .pre .1) _ (not-false (a .b .used) (i .if1 .left)),
+      used (a .b) (entry (a .self) (a .k)) (s .pre .1 .0) _ (not-false (a .b .used) (i .if1 .left)),
       ne-eqb _ _ (h .if2 .left),
-      ← address (a .b) (entry (a .self) (a .k)) (s .pre .1),
+      ← address (a .b) (entry (a .self) (a .k)) (s .pre .1 .0),
       ← p .valid-break-address .ensures,
       not-true (p .valid-break-address .result) (c .if3 .taken),
     )
@@ -61,7 +61,7 @@ address-is-unique-requires c κs =
     let s = i .before .before in
     let a = s .args in
     let e = entry (a .self) (a .k) in
-    (s .pre .0, (used (a .b) e (s .pre .1) _ (not-false (a .b .used) (i .if1 .left)), address (a .b) e (s .pre .1)))
+    (s .pre .0, (used (a .b) e (s .pre .1 .0) _ (not-false (a .b .used) (i .if1 .left)), address (a .b) e (s .pre .1 .0)))
 
 returns-4 : tie.Need-returns-4
 unfolding entrySound usedSound
@@ -75,17 +75,20 @@ returns-4 c =
     let a = s .args in
     let e = entry (a .self) (a .k) in
     rw (
-      used (a .b) e (s .pre .1) _ (not-false (a .b .used) (i .if1 .left)),
+      used (a .b) e (s .pre .1 .0) _ (not-false (a .b .used) (i .if1 .left)),
       ne-eqb _ _ (h .if2 .left),
-      ap validBreakAddress (sym (address (a .b) e (s .pre .1))) ∙ sym (p .valid-break-address .ensures) ∙ not-false (p .valid-break-address .result) (j .if3 .left),
+      ap validBreakAddress (sym (address (a .b) e (s .pre .1 .0))) ∙ sym (p .valid-break-address .ensures) ∙ not-false (p .valid-break-address .result) (j .if3 .left),
       ← f .address-is-unique .ensures,
       not-true (f .address-is-unique .result) (c .if4 .taken),
     )
 
 lift-sound-requires : tie.Need-lift-sound-requires
 lift-sound-requires c κs =
-    let s = c .before .before .before .before .before .before .before .before in
-    (s .pre .0, lifted (s .args .b) (entry (s .args .self) (s .args .k)) (s .pre .1))
+    let i = c .before .before .before .before .before .before in
+    let s = i .before .before in
+    let a = s .args in
+    let e = entry (a .self) (a .k) in
+    (s .pre .0, used (a .b) e (s .pre .1 .0) _ (not-false (a .b .used) (i .if1 .left)), lifted (a .b) e (s .pre .1 .0), s .pre .1 .1)
 
 returns-5 : tie.Need-returns-5
 unfolding entrySound usedSound
@@ -100,9 +103,9 @@ returns-5 c =
     let a = s .args in
     let e = entry (a .self) (a .k) in
     rw (
-      used (a .b) e (s .pre .1) _ (not-false (a .b .used) (i .if1 .left)),
+      used (a .b) e (s .pre .1 .0) _ (not-false (a .b .used) (i .if1 .left)),
       ne-eqb _ _ (h .if2 .left),
-      ap validBreakAddress (sym (address (a .b) e (s .pre .1))) ∙ sym (p .valid-break-address .ensures) ∙ not-false (p .valid-break-address .result) (j .if3 .left),
+      ap validBreakAddress (sym (address (a .b) e (s .pre .1 .0))) ∙ sym (p .valid-break-address .ensures) ∙ not-false (p .valid-break-address .result) (j .if3 .left),
       ← f .address-is-unique .ensures,
       not-false (f .address-is-unique .result) (g .if4 .left),
     )

@@ -1,78 +1,57 @@
 -- `process::record::Process::lift_sound` meets its contract: at each `return` the tests that led there say its value. Assumes nothing.
-use mathlib.Core.Path.{sym, _∙_}
+use mathlib.Core.Path.{_≡_, refl, sym, _∙_}
+use mathlib.Core.Bool.{Bool, true, false, _&&_}
+use Rattle.run_state.specs.RunState.{moving}
 use native.Mathlib.Omega.{arith}
-use borrow.Author.Tests.{not-true, not-false, ne-eqb}
+use borrow.Author.Tests.{not-true, not-false, eq-eqb, ne-eqb, ltb-true, ltb-false}
+use lib.ListN.{length-map}
 use Rattle.breakpoints.specs.declared.entry_query.EntryQuery.the-variants.{Lifted}
+use Rattle.process.specs.Record.{entry}
 use Rattle.process.specs.Find.{find}
 use Rattle.process.specs.Sound.{liftSound}
-use Rattle.process.proofs.FindLaws.{found-index, found-nowhere}
+use Rattle.process.proofs.FindLaws.{lifted-matches, find-here}
 use borrow.Author.Needs.{needs}
 use Rattle.process.proofs.record.Process.lift_sound.Statement.{statement}
 use Rattle.process.proofs.record.Process.lift_sound.Tie as tie
+
+and-false : (t : Bool) → false ≡ t && false
+and-false true = refl
+and-false false = refl
+
+and-true : (t : Bool) → t ≡ t && true
+and-true true = refl
+and-true false = refl
 
 returns : tie.Need-returns
 unfolding liftSound
 returns c =
     let s = c .before in
-    rw (sym (s .pre .1) ∙ not-true (s .args .lifted) (c .if1 .taken))
-
-moving-requires : tie.Need-moving-requires
-moving-requires c κs = search needs
+    rw (sym (s .pre .2) ∙ not-true (s .args .lifted) (c .if1 .taken))
 
 returns-2 : tie.Need-returns-2
 unfolding liftSound
 returns-2 c =
-    let m = c .before in
-    let i = m .before in
-    let s = i .before in
-    rw (sym (s .pre .1) ∙ not-false (s .args .lifted) (i .if1 .left), ← m .moving .ensures, not-true (m .moving .result) (c .if2 .taken))
+    let i = c .before in
+    let s = c .before .before in
+    let a = s .args in
+    let before = ltb-true (find Lifted (a .self)) (a .k) (sym (s .pre .3) ∙ c .if2 .taken) in
+    rw (sym (s .pre .2) ∙ not-false (a .lifted) (i .if1 .left), ne-eqb (find Lifted (a .self)) (a .k) (λ q. omega (arith, before, q)))
+    (and-false (moving (a .self .run)))
 
-find-requires : tie.Need-find-requires
-find-requires c κs = search needs
-
-enum-known-first : tie.Need-enum-known-first
-enum-known-first c = search needs
-
-enum-told : tie.Need-enum-told
-enum-told c = search needs
+moving-requires : tie.Need-moving-requires
+moving-requires c κs = search needs
 
 returns-3 : tie.Need-returns-3
 unfolding liftSound
 returns-3 c =
-    let g = c .before in
-    let f = g .before .before in
-    let j = f .before in
-    let m = j .before in
-    let i = m .before in
-    let s = i .before in
-    let at = found-index (find Lifted (s .args .self)) _ (sym (f .find .ensures) ∙ g .first .given .1) in
-    rw (sym (s .pre .1) ∙ not-false (s .args .lifted) (i .if1 .left), ← m .moving .ensures, not-false (m .moving .result) (j .if2 .left), at .same)
-
-returns-4 : tie.Need-returns-4
-unfolding liftSound
-returns-4 c =
-    let f = c .before .before in
-    let j = f .before in
-    let m = j .before in
-    let i = m .before in
-    let s = i .before in
-    let none = found-nowhere (find Lifted (s .args .self)) (sym (f .find .ensures) ∙ c .enum-told .given .1) in
-    rw (
-      sym (s .pre .1) ∙ not-false (s .args .lifted) (i .if1 .left),
-      ← m .moving .ensures,
-      not-false (m .moving .result) (j .if2 .left),
-      ne-eqb (find Lifted (s .args .self)) (s .args .k) (λ q. omega (arith, none, q, s .pre .0)),
-    )
+    let i = c .before .before in
+    let s = c .before .before .before in
+    let a = s .args in
+    let lifted = sym (s .pre .2) ∙ not-false (a .lifted) (i .if1 .left) in
+    let eight = simp length-map at (s .good .0 .1 .1 .1 .1 .1 .1 .0 .1 .0 .1) in
+    let none = ltb-false (find Lifted (a .self)) (a .k) (sym (s .pre .3) ∙ c .before .if2 .left) in
+    let here = find-here Lifted (a .self) eight (a .k) (s .pre .0) none (lifted-matches (entry (a .self) (a .k)) (s .pre .1) lifted) in
+    rw (lifted, eq-eqb (find Lifted (a .self)) (a .k) here) (c .moving .ensures ∙ and-true (moving (a .self .run)))
 
 pub lift-sound-spec : {M : Type 1} → statement M
-lift-sound-spec =
-    tie.close
-    (tie.spec
-    returns
-    moving-requires
-    returns-2
-    find-requires
-    enum-known-first
-    enum-told
-    returns-3
-    returns-4)
+lift-sound-spec = tie.close (tie.spec returns returns-2 moving-requires returns-3)
