@@ -2,10 +2,13 @@
 use mathlib.Core.Path.{_≡_, refl, sym, _∙_}
 use mathlib.Core.Bool.{Bool, true, false, not, cond, _&&_, true≢false}
 use mathlib.Core.List.{List}
-use Prim.Native.Nat.{ℕ, _<_}
+use Prim.Native.Nat.{ℕ, _-_, _<_}
 use native.Mathlib.Omega.{arith}
 use borrow.Author.Tests.{ltb-true}
 use lib.ListN.{length, length-set}
+use lib.Seq.{getD-set-same, set-set}
+use Rattle.breakpoints.specs.Entry.{free, withCount, withLifted}
+use Rattle.breakpoints.specs.Seen.{restored}
 use lib.Dec.{eqb, ltb}
 use Rattle.lists.proofs.Bool.{&&-left, &&-right}
 use Rattle.run_state.specs.ReportKind.{BPT}
@@ -13,9 +16,9 @@ use Rattle.process.specs.declared.record.Process.{Process}
 use Rattle.process.specs.declared.report.Verdict.{Verdict}
 use Rattle.process.specs.declared.report.Verdict.the-variants.{Stops, CountsDown}
 use Rattle.breakpoints.specs.declared.entry_query.EntryQuery.the-variants.{At}
-use Rattle.process.specs.Record.{entry, withVector}
+use Rattle.process.specs.Record.{entry, withEntry, withVector}
 use Rattle.process.specs.Find.{find}
-use Rattle.process.specs.Local.{Local}
+use Rattle.process.specs.Local.{Local, local}
 use Rattle.process.specs.Planting.{liftedIn}
 use Rattle.process.specs.Request.{pc, onRecord, hasBreak}
 use Rattle.process.specs.Report.{storeVectorAndReplant, passes, verdictOf, passed, carriedOut, reported, toldBy, recipientOf}
@@ -85,3 +88,11 @@ eight-reported kind words l = go (verdictOf kind (storeVectorAndReplant words l 
     go : (v : Verdict) → length (carriedOut v kind (storeVectorAndReplant words l) .process .breaks) ≡ length (l .process .breaks)
     go Stops = eight-replanted (onRecord (withVector words) l)
     go (CountsDown k) = simp length-set (eight-replanted (onRecord (withVector words) l))
+
+-- the entry that is passed is written once, with its count and its mark
+pub passed-once : (k : ℕ) (l : Local) → k < length (l .process .breaks)
+    → passed k l ≡ local (withEntry k (withLifted (withCount (entry (l .process) k .count - 1) (entry (l .process) k))) (l .process)) (restored (entry (l .process) k) (l .bytes))
+unfolding passed liftedIn restored
+passed-once k l low =
+    let b = withCount (entry (l .process) k .count - 1) (entry (l .process) k) in
+    rw (getD-set-same (l .process .breaks) k b free low, set-set (l .process .breaks) k b (withLifted b))

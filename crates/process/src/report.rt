@@ -61,8 +61,8 @@ impl Process {
         ensures { λ _. ⌜ now (bytes .exit) ≡ passed k (local self (now (bytes .entry))) .bytes ⌝ }
     {
         let b = self.breaks[k];
-        let p = self.with_entry(k, b.with_count(b.count - 1));
-        p.lift_in(k, bytes)
+        b.restore(bytes);
+        self.with_entry(k, b.with_count(b.count - 1).with_lifted())
     }
 
     // A report of this kind about a process that accepts it.
