@@ -5,7 +5,7 @@ mod scan;
 mod text;
 pub mod theorems;
 
-pub use count::within;
+pub use count::at_most;
 pub use print::line_end;
 pub use print::put_bytes;
 pub use print::put_pairs;
