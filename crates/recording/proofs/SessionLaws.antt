@@ -1,14 +1,14 @@
 -- Laws of a block of text: one character more of a line, a line that ends, and a turn of the loop over a block. Assumes nothing.
 use mathlib.Core.Path.{_≡_, refl, sym, ap, _∙_}
-use mathlib.Core.Bool.{true, false, _&&_}
+use mathlib.Core.Bool.{Bool, true, false, cond, _&&_, true≢false}
 use mathlib.Core.List.{List, [], _∷_, _++_}
-use Prim.Native.Nat.{ℕ, _+_, _-_, _≤_, _<_}
+use Prim.Native.Nat.{ℕ, suc, _+_, _-_, _≤_, _<_}
 use native.Mathlib.Numerals.{add-one}
 use native.Mathlib.Omega.{arith}
 use borrow.Author.Tests.{ltb-false, le-ltb, eq-eqb}
 use lib.ListN.{length, take, drop, getD, set, length-append, length-take, length-drop, take-append-drop, drop-of-length-le}
-use lib.Seq.{take-all, take-append-seam, take-suc-set, length-take-le, drop-cons, drop-drop}
-use lib.Dec.{ltb}
+use lib.Seq.{take-all, take-append-seam, take-suc-set, length-take-le, drop-append-seam, drop-cons, drop-drop}
+use lib.Dec.{eqb}
 use Rattle.lists.specs.Buffer.{overlay}
 use Rattle.lists.proofs.Buffer.{take-overlay, drop-overlay, length-overlay, laid-part}
 use Rattle.lines.specs.declared.scan.Phase.{Phase}
@@ -19,7 +19,7 @@ use Rattle.recording.specs.declared.partial.Partial.{Partial}
 use Rattle.recording.specs.declared.session.Step as code-step
 use Rattle.recording.specs.declared.session.Fed as code
 use Rattle.recording.specs.Line.{pairsAt}
-use Rattle.recording.specs.Session.{Reading, reading, nothingRead, phaseAfter, typed, Session, session, lineEnded, stepped, waits, Fed, fedTo, fed, Steps, Feeds}
+use Rattle.recording.specs.Session.{Reading, reading, nothingRead, phaseAfter, typed, Session, session, lineEnded, stepped, waits, Fed, fedTo, fed, through, Steps, Feeds}
 
 pub pairs-within : (l : Language) → pairsAt l ≤ 8
 unfolding pairsAt
@@ -73,21 +73,21 @@ module _ (len n : ℕ) (text out last : List ℕ) (h : len ≤ length out) (L : 
       let same : out ≡ take len out ++ drop (length (take len out)) out = sym (ap (λ (k : ℕ). take len out ++ drop k out) front ∙ take-append-drop len out) in
       laid-part (take len out) text out out last len (sym front) same T
 
-  size : len + n ≡ length (take len out ++ text)
-  size = omega (arith, length-take-le len out h, L, length-append (take len out) text)
+  both-size : len + n ≡ length (take len out ++ text)
+  both-size = omega (arith, length-take-le len out h, L, length-append (take len out) text)
 
   text-after : take (len + n) (take len out ++ (last ++ drop (length out - len) (drop len out))) ≡ take len out ++ text
-  text-after = ap (take (len + n)) whole ∙ ap (λ (k : ℕ). take k (overlay (take len out ++ text) out)) size ∙ take-overlay (take len out ++ text) out
+  text-after = ap (take (len + n)) whole ∙ ap (λ (k : ℕ). take k (overlay (take len out ++ text) out)) both-size ∙ take-overlay (take len out ++ text) out
 
   rest-after : drop (len + n) (take len out ++ (last ++ drop (length out - len) (drop len out))) ≡ drop (len + n) out
   rest-after =
       ap (drop (len + n)) whole
-      ∙ ap (λ (k : ℕ). drop k (overlay (take len out ++ text) out)) size
+      ∙ ap (λ (k : ℕ). drop k (overlay (take len out ++ text) out)) both-size
       ∙ drop-overlay (take len out ++ text) out
-      ∙ ap (λ (k : ℕ). drop k out) (sym size)
+      ∙ ap (λ (k : ℕ). drop k out) (sym both-size)
 
   length-after : len + n ≤ length out → length (take len out ++ (last ++ drop (length out - len) (drop len out))) ≡ length out
-  length-after fits = ap (λ (l : List ℕ). length l) whole ∙ length-overlay (take len out ++ text) out (omega (arith, size, fits))
+  length-after fits = ap (λ (l : List ℕ). length l) whole ∙ length-overlay (take len out ++ text) out (omega (arith, both-size, fits))
 
 -- a buffer that begins with a text and goes on as before has that text laid over it
 pub laid-so-far : (len : ℕ) (out out₀ : List ℕ) → len ≤ length out → length out ≡ length out₀ → drop len out ≡ drop len out₀ → Prints (take len out) len out₀ out
@@ -147,3 +147,72 @@ module _ (l : Language) (block : List ℕ) (at len : ℕ) (x : Session) (out out
       let none : drop at block ≡ [] = drop-of-length-le block {i = at} (omega (arith, b)) in
       let stop : fedTo x (take len out) [] ≡ start = rw none at G in
       rw (← stop) (record { session = sym X; used = omega (arith, b); text = laid-so-far len out out₀ h S D })
+
+-- ---- blocks one after another
+
+-- what was fed and what is left lead where the block leads
+fed-through : (l : Language) (size : ℕ) (x : Session) (text block : List ℕ) → through l (fed l size x text block .session) (fed l size x text block .rest) ≡ through l x block
+unfolding fed through
+fed-through l size x text [] = refl
+fed-through l size x text (c ∷ cs) = go (waits c (size - length text)) (fed-through l size (stepped l c x .session) (text ++ stepped l c x .text) cs)
+  where
+    go : (t : Bool) → through l (fed l size (stepped l c x .session) (text ++ stepped l c x .text) cs .session) (fed l size (stepped l c x .session) (text ++ stepped l c x .text) cs .rest) ≡ through l (stepped l c x .session) cs
+        → through l (cond t (fedTo x text (c ∷ cs)) (fed l size (stepped l c x .session) (text ++ stepped l c x .text) cs) .session) (cond t (fedTo x text (c ∷ cs)) (fed l size (stepped l c x .session) (text ++ stepped l c x .text) cs) .rest) ≡ through l (stepped l c x .session) cs
+    go true e = refl
+    go false e = e
+
+-- some first bytes were used, and the rest is left
+record Ends (block rest : List ℕ) : Type 0 where
+  used : List ℕ
+  whole : used ++ rest ≡ block
+
+ends : (l : Language) (size : ℕ) (x : Session) (text block : List ℕ) → Ends block (fed l size x text block .rest)
+unfolding fed
+ends l size x text [] = record { used = []; whole = refl }
+ends l size x text (c ∷ cs) = go (waits c (size - length text)) (ends l size (stepped l c x .session) (text ++ stepped l c x .text) cs)
+  where
+    go : (t : Bool) → Ends cs (fed l size (stepped l c x .session) (text ++ stepped l c x .text) cs .rest)
+        → Ends (c ∷ cs) (cond t (fedTo x text (c ∷ cs)) (fed l size (stepped l c x .session) (text ++ stepped l c x .text) cs) .rest)
+    go true e = record { used = []; whole = refl }
+    go false e = record { used = c ∷ e .used; whole = ap (λ (l : List ℕ). c ∷ l) (e .whole) }
+
+-- what is left is an end of the block
+fed-end : (l : Language) (size : ℕ) (x : Session) (text block : List ℕ) → drop (length block - length (fed l size x text block .rest)) block ≡ fed l size x text block .rest
+fed-end l size x text block =
+    let e = ends l size x text block in
+    let rest : List ℕ = fed l size x text block .rest in
+    let same : length block - length rest ≡ length (e .used) = omega (arith, ap (λ (l : List ℕ). length l) (e .whole), length-append (e .used) rest) in
+    ap (λ (k : ℕ). drop k block) same ∙ ap (drop (length (e .used))) (sym (e .whole)) ∙ drop-append-seam (e .used) rest
+
+&&-false : (t : Bool) → t && false ≡ false
+&&-false true = refl
+&&-false false = refl
+
+no-wait : (c n : ℕ) → 16384 ≤ n → waits c n ≡ false
+unfolding waits
+no-wait c n h = rw (le-ltb n 16384 h) (&&-false (eqb c 10))
+
+-- with room for a line, something is used of every block
+pub fed-moves : (l : Language) (size : ℕ) (x : Session) (block : List ℕ) → 16384 ≤ size → 0 < length block → length (fed l size x [] block .rest) < length block
+unfolding fed
+fed-moves l size x [] room some = absurd (omega (arith, some))
+fed-moves l size x (c ∷ cs) room some = go (waits c (size - length {A = ℕ} [])) (no-wait c (size - length {A = ℕ} []) (omega (arith, room))) (ends l size (stepped l c x .session) (stepped l c x .text) cs)
+  where
+    go : (t : Bool) → t ≡ false → Ends cs (fed l size (stepped l c x .session) (stepped l c x .text) cs .rest)
+        → length (cond t (fedTo x [] (c ∷ cs)) (fed l size (stepped l c x .session) (stepped l c x .text) cs) .rest) < suc (length cs)
+    go true e n = absurd (true≢false e)
+    go false e n = omega (arith, ap (λ (l : List ℕ). length l) (n .whole), length-append (n .used) (fed l size (stepped l c x .session) (stepped l c x .text) cs .rest))
+
+-- a turn of a loop that feeds a block until it is used up
+pub through-turn : (l : Language) (size : ℕ) (x y : Session) (at used : ℕ) (block : List ℕ) (goal : Session) → at ≤ length block
+    → y ≡ fed l size x [] (take (length block - at) (drop at block)) .session
+    → used + length (fed l size x [] (take (length block - at) (drop at block)) .rest) ≡ length (take (length block - at) (drop at block))
+    → through l x (drop at block) ≡ goal → through l y (drop (at + used) block) ≡ goal
+through-turn l size x y at used block goal h Y U G =
+    let rest : List ℕ = drop at block in
+    let same : take (length block - at) rest ≡ rest = take-all (length block - at) rest (simp length-drop (omega arith)) in
+    let Z : y ≡ fed l size x [] rest .session = rw same at Y in
+    let K : used + length (fed l size x [] rest .rest) ≡ length rest = rw same at U in
+    let many : used ≡ length rest - length (fed l size x [] rest .rest) = omega (arith, K) in
+    let left : drop (at + used) block ≡ fed l size x [] rest .rest = sym (drop-drop used at block) ∙ ap (λ (k : ℕ). drop k rest) many ∙ fed-end l size x [] rest in
+    rw (Z, left) (fed-through l size x [] rest ∙ G)

@@ -90,6 +90,11 @@ fed l size x text (c ∷ cs) =
     cond (waits c (size - length text)) (fedTo x text (c ∷ cs))
     (fed l size (stepped l c x .session) (text ++ stepped l c x .text) cs)
 
+-- the session that a text leads to, whatever it prints
+unfoldable pub through : Language → Session → List ℕ → Session
+through l x [] = x
+through l x (c ∷ cs) = through l (stepped l c x .session) cs
+
 -- a function did one step: the line's buffer, state and memory after it, and the text at the start of a buffer
 pub record Steps (e : Step) (r : code-step.Step) (line s m before after : List ℕ) : Type 0 where
   pub session : session (reading (r .partial) line) s m ≡ e .session
