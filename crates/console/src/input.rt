@@ -80,7 +80,15 @@ fn run(language: Language) {
     begin(language, &mut state);
     let last = play_input(language, &mut state, &mut memory, &mut line, &mut out);
     if last.len != 0 {
-        play(language, last, &mut state, &mut memory, &mut line, b"\n", &mut out);
+        play(
+            language,
+            last,
+            &mut state,
+            &mut memory,
+            &mut line,
+            b"\n",
+            &mut out,
+        );
     }
 }
 
