@@ -6,7 +6,6 @@ mod text;
 pub mod theorems;
 
 pub use count::at_most;
-pub use print::line_end;
 pub use print::put_bytes;
 pub use print::put_pairs;
 pub use scan::Phase;
