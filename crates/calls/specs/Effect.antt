@@ -5,9 +5,9 @@ use Prim.Native.Nat.{ℕ, _≤_}
 use lib.ListN.{length}
 use Rattle.lists.specs.Buffer.{overlay}
 
--- the bytes of a state
-abbrev pub stateSize : ℕ
-stateSize = 680
+-- the bytes of the lent memory
+abbrev pub memorySize : ℕ
+memorySize = 32768
 
 -- the bytes of a buffer for a reply or a notice, and of the longest message
 abbrev pub messageSize : ℕ

@@ -23,7 +23,7 @@ ghost use Prim.Native.Nat.{_+_, _*_, _≤_, _<_};
 ghost use lib.ListN.{length, replicate};
 ghost use Rattle.lines.specs.declared.scan.Phase.the-variants.{Open};
 ghost use Rattle.lines.specs.Scan.{bytesOf};
-ghost use Rattle.calls.specs.Effect.{Does};
+ghost use Rattle.calls.specs.Effect.{longestText, memorySize, Does};
 ghost use Rattle.calls.specs.Meaning.{zeroBuffer, requestMade, requestEffect, reportMade, reportEffect, startEffect, storeEffect};
 
 // The buffer that is lent to a call.
@@ -40,7 +40,7 @@ fn make_request(
     message: &[u8],
     out: &mut [u8],
 ) -> usize
-    requires { ⌜ 16384 ≤ length (now out) ⌝ }
+    requires { ⌜ longestText ≤ length (now out) ⌝ }
     ensures { λ r. ⌜ Does (requestMade (now (message .entry)) (now (state .entry)) (now (memory .entry))) r (now (state .exit)) (now (memory .exit)) (now (out .entry)) (now (out .exit)) ⌝ }
 {
     let mut reply = zero_buffer();
@@ -57,7 +57,7 @@ pub fn answer_request(
     pairs: &[u8],
     out: &mut [u8],
 ) -> usize
-    requires { ⌜ 16384 ≤ length (now out) ⌝ }
+    requires { ⌜ longestText ≤ length (now out) ⌝ }
     ensures { λ r. ⌜ Does (requestEffect phase (bytesOf Open (now (pairs .entry))) (now (state .entry)) (now (memory .entry))) r (now (state .exit)) (now (memory .exit)) (now (out .entry)) (now (out .exit)) ⌝ }
 {
     if !phase.is_full() {
@@ -79,7 +79,7 @@ fn make_report(
     words: [u16; 9],
     out: &mut [u8],
 ) -> usize
-    requires { ⌜ 16384 ≤ length (now out) ⌝ }
+    requires { ⌜ longestText ≤ length (now out) ⌝ }
     ensures { λ r. ⌜ Does (reportMade pid kind reason words (now (state .entry)) (now (memory .entry))) r (now (state .exit)) (now (memory .exit)) (now (out .entry)) (now (out .exit)) ⌝ }
 {
     let mut notice = zero_buffer();
@@ -95,7 +95,7 @@ pub fn answer_report(
     line: &[u8],
     out: &mut [u8],
 ) -> usize
-    requires { ⌜ 16384 ≤ length (now out) ⌝ }
+    requires { ⌜ longestText ≤ length (now out) ⌝ }
     ensures { λ r. ⌜ Does (reportEffect (now (line .entry)) (now (state .entry)) (now (memory .entry))) r (now (state .exit)) (now (memory .exit)) (now (out .entry)) (now (out .exit)) ⌝ }
 {
     let read = read_report(line);
@@ -132,7 +132,7 @@ pub fn answer_start(
     line: &[u8],
     out: &mut [u8],
 ) -> usize
-    requires { ⌜ 16384 ≤ length (now out) ⌝ }
+    requires { ⌜ longestText ≤ length (now out) ⌝ }
     ensures { λ r. ⌜ Does (startEffect (now (line .entry)) (now (state .entry)) (now (memory .entry))) r (now (state .exit)) (now (memory .exit)) (now (out .entry)) (now (out .exit)) ⌝ }
 {
     let word = at_most(5, line);
@@ -148,8 +148,8 @@ pub fn answer_start(
 
 // store P ADDRESS BYTE
 pub fn answer_store(state: &[u8], memory: &mut [u8], line: &[u8], out: &mut [u8]) -> usize
-    requires { ⌜ length (now memory) ≡ 32768 ⌝ }
-    requires { ⌜ 16384 ≤ length (now out) ⌝ }
+    requires { ⌜ length (now memory) ≡ memorySize ⌝ }
+    requires { ⌜ longestText ≤ length (now out) ⌝ }
     ensures { λ r. ⌜ Does (storeEffect (now (line .entry)) (now (state .entry)) (now (memory .entry))) r (now (state .entry)) (now (memory .exit)) (now (out .entry)) (now (out .exit)) ⌝ }
 {
     let process = Number::start(5).then(line, 7);

@@ -9,12 +9,12 @@ use state::start;
 ghost use mathlib.Core.Path.{_≡_};
 ghost use Prim.Native.Nat.{_+_, _*_, _≤_, _<_};
 ghost use lib.ListN.{length};
-ghost use Rattle.calls.specs.Effect.{Does};
+ghost use Rattle.calls.specs.Effect.{longestText, memorySize, Does};
 ghost use Rattle.calls.specs.Meaning.{unknownEffect, memoryEffect, processEffect};
 
 // A line that is no call.
 pub fn answer_unknown(state: &[u8], memory: &[u8], out: &mut [u8]) -> usize
-    requires { ⌜ 16384 ≤ length (now out) ⌝ }
+    requires { ⌜ longestText ≤ length (now out) ⌝ }
     ensures { λ r. ⌜ Does (unknownEffect (now (state .entry)) (now (memory .entry))) r (now (state .entry)) (now (memory .entry)) (now (out .entry)) (now (out .exit)) ⌝ }
 {
     put(b"?\n", 0, out)
@@ -31,8 +31,8 @@ pub(crate) fn place(p: usize, address: usize) -> usize
 
 // memory P ADDRESS COUNT
 pub fn answer_memory(state: &[u8], memory: &[u8], line: &[u8], out: &mut [u8]) -> usize
-    requires { ⌜ length (now memory) ≡ 32768 ⌝ }
-    requires { ⌜ 16384 ≤ length (now out) ⌝ }
+    requires { ⌜ length (now memory) ≡ memorySize ⌝ }
+    requires { ⌜ longestText ≤ length (now out) ⌝ }
     ensures { λ r. ⌜ Does (memoryEffect (now (line .entry)) (now (state .entry)) (now (memory .entry))) r (now (state .entry)) (now (memory .entry)) (now (out .entry)) (now (out .exit)) ⌝ }
 {
     let process = Number::start(6).then(line, 7);
@@ -48,7 +48,7 @@ pub fn answer_memory(state: &[u8], memory: &[u8], line: &[u8], out: &mut [u8]) -
 
 // process P
 pub fn answer_process(state: &[u8; STATE], memory: &[u8], line: &[u8], out: &mut [u8]) -> usize
-    requires { ⌜ 16384 ≤ length (now out) ⌝ }
+    requires { ⌜ longestText ≤ length (now out) ⌝ }
     ensures { λ r. ⌜ Does (processEffect (now (line .entry)) (now (state .entry)) (now (memory .entry))) r (now (state .entry)) (now (memory .entry)) (now (out .entry)) (now (out .exit)) ⌝ }
 {
     let process = Number::start(7).then(line, 7);

@@ -12,6 +12,7 @@ ghost use mathlib.Core.Path.{_≡_};
 ghost use Prim.Native.Nat.{_≤_};
 ghost use lib.ListN.{length};
 ghost use Rattle.io.specs.Counts.{Counts};
+ghost use Rattle.calls.specs.Effect.{longestText};
 ghost use Rattle.recording.specs.Session.{reading, session, through};
 
 // Some of standard input: how many bytes, and none at its end.
@@ -32,7 +33,7 @@ fn play(
     block: &[u8],
     out: &mut [u8],
 ) -> Partial
-    requires { ⌜ 16384 ≤ length (now out) ⌝ }
+    requires { ⌜ longestText ≤ length (now out) ⌝ }
     ensures { λ r. ⌜ session (reading r (now (line .exit))) (now (state .exit)) (now (memory .exit)) ≡ through language (session (reading partial (now (line .entry))) (now (state .entry)) (now (memory .entry))) (now (block .entry)) ⌝ }
 {
     let mut now = partial;
@@ -55,7 +56,7 @@ fn play_input(
     line: &mut [u8; KEPT],
     out: &mut [u8],
 ) -> Partial
-    requires { ⌜ 16384 ≤ length (now out) ⌝ }
+    requires { ⌜ longestText ≤ length (now out) ⌝ }
 {
     let mut block = io::large_buffer();
     let mut partial = Partial::new();

@@ -15,7 +15,7 @@ use lines::Phase;
 use lines::at_most;
 ghost use Prim.Native.Nat.{_≤_};
 ghost use lib.ListN.{length};
-ghost use Rattle.calls.specs.Effect.{Does};
+ghost use Rattle.calls.specs.Effect.{longestText, Does};
 ghost use Rattle.recording.specs.Line.{commandEffect, lineEffect};
 
 // Carries out a line of a recording by its word.
@@ -27,7 +27,7 @@ fn answer_command(
     line: &[u8],
     out: &mut [u8],
 ) -> usize
-    requires { ⌜ 16384 ≤ length (now out) ⌝ }
+    requires { ⌜ longestText ≤ length (now out) ⌝ }
     ensures { λ r. ⌜ Does (commandEffect phase (now (line .entry)) (now (state .entry)) (now (memory .entry)) command) r (now (state .exit)) (now (memory .exit)) (now (out .entry)) (now (out .exit)) ⌝ }
 {
     let word = at_most(8, line);
@@ -51,7 +51,7 @@ pub(crate) fn answer_line(
     line: &[u8],
     out: &mut [u8],
 ) -> usize
-    requires { ⌜ 16384 ≤ length (now out) ⌝ }
+    requires { ⌜ longestText ≤ length (now out) ⌝ }
     ensures { λ r. ⌜ Does (lineEffect language phase (now (line .entry)) (now (state .entry)) (now (memory .entry))) r (now (state .exit)) (now (memory .exit)) (now (out .entry)) (now (out .exit)) ⌝ }
 {
     match language {

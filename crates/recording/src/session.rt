@@ -12,7 +12,7 @@ ghost use mathlib.Core.Bool.{false};
 ghost use mathlib.Core.List.{[]};
 ghost use Prim.Native.Nat.{_≤_};
 ghost use lib.ListN.{length};
-ghost use Rattle.calls.specs.Effect.{Does};
+ghost use Rattle.calls.specs.Effect.{longestText, Does};
 ghost use Rattle.recording.specs.Line.{pairsAt, lineEffect};
 ghost use Rattle.recording.specs.Session.{reading, session, waits, stepped, fed, Steps, Feeds};
 
@@ -38,7 +38,7 @@ fn end_line(
     line: &[u8],
     out: &mut [u8],
 ) -> usize
-    requires { ⌜ 16384 ≤ length (now out) ⌝ }
+    requires { ⌜ longestText ≤ length (now out) ⌝ }
     ensures { λ r. ⌜ Does (lineEffect language (partial .phase) (reading partial (now (line .entry)) .line) (now (state .entry)) (now (memory .entry))) r (now (state .exit)) (now (memory .exit)) (now (out .entry)) (now (out .exit)) ⌝ }
 {
     let phase = partial.phase;
