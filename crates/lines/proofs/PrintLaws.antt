@@ -7,11 +7,8 @@ use native.Mathlib.Omega.{arith}
 use lib.ListN.{length, take, drop, getD, length-append, length-drop}
 use lib.Seq.{length-take-le, take-suc, take-all}
 use Rattle.lists.specs.Buffer.{overlay}
-use Rattle.lists.specs.First.{first}
-use Rattle.lists.proofs.First.{first-≤}
 use Rattle.lists.proofs.Buffer.{overlay-snoc}
 use Rattle.lines.specs.Hex.{digit, pair, pairAt, spaced, spacedOrDash}
-use Rattle.lines.specs.Scan.{isNewline}
 
 pub length-spaced : (bs : List ℕ) → length (spaced bs) ≡ 3 * length bs
 unfolding spaced
@@ -67,10 +64,3 @@ pub some-spaced : (bs : List ℕ) → (length bs ≡ 0 → ⊥) → spacedOrDash
 unfolding spacedOrDash
 some-spaced [] n = absurd (n refl)
 some-spaced (b ∷ bs) n = refl
-
--- ---- the ends of lines
-
-pub end-within : (text : List ℕ) (from : ℕ) → from ≤ length text → from + first isNewline (drop from text) ≤ length text
-end-within text from h =
-    let short = first-≤ isNewline (drop from text) in
-    omega (arith, short, length-drop from text, h)

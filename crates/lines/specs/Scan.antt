@@ -1,6 +1,6 @@
 -- Reading a line of hex pairs, character by character, so that a line may come in parts and be of any length.
 use mathlib.Core.Path.{_≡_}
-use mathlib.Core.Bool.{Bool, cond}
+use mathlib.Core.Bool.{Bool, true, false, cond}
 use mathlib.Core.List.{List, [], _∷_, _++_}
 use Prim.Native.Nat.{ℕ, _+_, _*_, _%_}
 use lib.ListN.{length, set}
@@ -19,6 +19,13 @@ next Open c = opened (value c)
 next (Half h) c = cond (ltb (value c) 16) Full Bad
 next Full c = cond (eqb c 32) Open Bad
 next Bad c = Bad
+
+-- a line of pairs may end here
+unfoldable pub full : Phase → Bool
+full Open = false
+full (Half h) = false
+full Full = true
+full Bad = false
 
 -- the byte that a character completes
 unfoldable pub made : Phase → ℕ → List ℕ

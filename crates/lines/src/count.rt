@@ -1,9 +1,9 @@
 // A count of bytes that are there.
-ghost use Rattle.lines.specs.Count.{Within};
+ghost use Rattle.lines.specs.Count.{AtMost};
 
 // So many of the bytes, or all where there are fewer.
-pub fn within(n: usize, bytes: &[u8]) -> usize
-    ensures { λ r. ⌜ Within r n (now (bytes .entry)) ⌝ }
+pub fn at_most(n: usize, bytes: &[u8]) -> usize
+    ensures { λ r. ⌜ AtMost r n (now (bytes .entry)) ⌝ }
 {
     if n < bytes.len() {
         return n;

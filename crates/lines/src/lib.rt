@@ -5,8 +5,7 @@ mod scan;
 mod text;
 pub mod theorems;
 
-pub use count::within;
-pub use print::line_end;
+pub use count::at_most;
 pub use print::put_bytes;
 pub use print::put_pairs;
 pub use scan::Phase;

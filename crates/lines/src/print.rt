@@ -1,25 +1,9 @@
-// Bytes as text, and the ends of lines.
+// Bytes as text.
 ghost use mathlib.Core.Path.{_≡_};
 ghost use Prim.Native.Nat.{_+_, _*_, _≤_, _<_};
-ghost use lib.ListN.{length, drop};
+ghost use lib.ListN.{length};
 ghost use Rattle.lists.specs.Buffer.{overlay};
-ghost use Rattle.lists.specs.First.{first};
 ghost use Rattle.lines.specs.Hex.{digit, pair, pairAt, pairs, spaced, spacedOrDash, pairsLine};
-ghost use Rattle.lines.specs.Scan.{isNewline};
-
-// The index of the first newline from this one on, or where the text ends.
-pub fn line_end(text: &[u8], from: usize) -> usize
-    ensures { λ r. ⌜ r ≡ from + first isNewline (drop from (now (text .entry))) ⌝ }
-{
-    let mut i = from;
-    while i < text.len() {
-        if text[i] == 10 {
-            return i;
-        }
-        i += 1;
-    }
-    i
-}
 
 // The digit of a number under 16.
 fn digit(v: u8) -> u8

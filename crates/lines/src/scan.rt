@@ -1,8 +1,9 @@
 // Reading a line of lower-case hex pairs parted by single blanks, in parts of any length.
 ghost use mathlib.Core.Path.{_≡_};
+ghost use Prim.Native.Nat.{ℕ};
 ghost use lib.ListN.{length};
 ghost use Rattle.lines.specs.Hex.{value};
-ghost use Rattle.lines.specs.Scan.{opened, next, made, after, bytesOf, kept, filled};
+ghost use Rattle.lines.specs.Scan.{opened, next, full, made, after, bytesOf, kept, filled};
 
 // Where in a line the reading stands.
 pub enum Phase {
@@ -76,6 +77,40 @@ impl Phase {
             return Phase::Open;
         }
         Phase::Bad
+    }
+
+    // The second digit of a pair, or the line is none.
+    fn closed(c: u8) -> Phase
+        ensures { λ r. ⌜ ((h : ℕ) → r ≡ next (Phase.Half h) c) ⌝ }
+    {
+        if value(c) < 16 {
+            return Phase::Full;
+        }
+        Phase::Bad
+    }
+
+    // One character more.
+    pub fn next(self, c: u8) -> Phase
+        ensures { λ r. ⌜ r ≡ next self c ⌝ }
+    {
+        match self {
+            Phase::Open => Phase::opened(value(c)),
+            Phase::Half(_) => Phase::closed(c),
+            Phase::Full => Phase::parted(c),
+            Phase::Bad => self,
+        }
+    }
+
+    // Whether a line may end here.
+    pub fn is_full(self) -> bool
+        ensures { λ r. ⌜ r ≡ full self ⌝ }
+    {
+        match self {
+            Phase::Open => false,
+            Phase::Half(_) => false,
+            Phase::Full => true,
+            Phase::Bad => false,
+        }
     }
 }
 

@@ -9,7 +9,7 @@ use borrow.Author.Tests.{eq-eqb, ne-eqb}
 use lib.ListN.{length, take, drop, getD, drop-of-length-le}
 use lib.Seq.{drop-cons}
 use lib.Dec.{eqb}
-use Rattle.recording.specs.Command.{begins, startWord, requestWord, reportWord, storeWord, memoryWord, processWord, commandOf}
+use Rattle.recording.specs.Command.{begins}
 
 pub begins-short : (text line : List ℕ) → length line < length text → false ≡ begins text line
 unfolding begins
@@ -41,14 +41,9 @@ unfolding begins
 begins-end text line i h = rw (drop-of-length-le text h)
 
 -- a word is found in the front of a line that is long enough for it
-begins-take : (text line : List ℕ) (n : ℕ) → length text ≤ n → begins text (take n line) ≡ begins text line
+pub begins-take : (text line : List ℕ) (n : ℕ) → length text ≤ n → begins text (take n line) ≡ begins text line
 unfolding begins
 begins-take [] line n h = refl
 begins-take (c ∷ text) line zero h = absurd (omega (arith, h))
 begins-take (c ∷ text) [] (suc n) h = refl
 begins-take (c ∷ text) (d ∷ line) (suc n) h = ap (λ (t : Bool). eqb d c && t) (begins-take text line n (omega (arith, h)))
-
-pub command-take : (line : List ℕ) (n : ℕ) → 8 ≤ n → commandOf (take n line) ≡ commandOf line
-unfolding commandOf
-command-take line n h =
-    rw (begins-take startWord line n (omega (arith, h)), begins-take requestWord line n (omega (arith, h)), begins-take reportWord line n (omega (arith, h)), begins-take storeWord line n (omega (arith, h)), begins-take memoryWord line n (omega (arith, h)), begins-take processWord line n (omega (arith, h)))

@@ -2,7 +2,8 @@
 use mathlib.Core.Bool.{Bool, true, false, cond, _&&_}
 use mathlib.Core.List.{List, [], _∷_}
 use Prim.Native.Nat.{ℕ}
-use lib.Dec.{eqb}
+use lib.ListN.{length}
+use lib.Dec.{eqb, ltb}
 use Rattle.recording.specs.declared.command.Command.{Command}
 use Rattle.recording.specs.declared.command.Command.the-variants.{Start, Request, Report, Store, Memory, Process, Unknown}
 
@@ -36,12 +37,19 @@ memoryWord = 109 ∷ 101 ∷ 109 ∷ 111 ∷ 114 ∷ 121 ∷ []
 abbrev pub processWord : List ℕ
 processWord = 112 ∷ 114 ∷ 111 ∷ 99 ∷ 101 ∷ 115 ∷ 115 ∷ []
 
--- the call that a line begins with
-unfoldable pub commandOf : List ℕ → Command
-commandOf line =
+-- a line but a request is no longer
+abbrev pub longestLine : ℕ
+longestLine = 1024
+
+-- the call that a line of the right length begins with
+unfoldable pub shortCommand : List ℕ → Command
+shortCommand line =
     cond (begins startWord line) Start
-    (cond (begins requestWord line) Request
     (cond (begins reportWord line) Report
     (cond (begins storeWord line) Store
     (cond (begins memoryWord line) Memory
-    (cond (begins processWord line) Process Unknown)))))
+    (cond (begins processWord line) Process Unknown))))
+
+-- which call a line is: a request may be of any length
+unfoldable pub commandOf : List ℕ → Command
+commandOf line = cond (begins requestWord line) Request (cond (ltb longestLine (length line)) Unknown (shortCommand line))

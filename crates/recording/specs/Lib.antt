@@ -1,7 +1,5 @@
 -- The definitions that the contracts of this crate, and of those above it, cite.
-pub mod Words
-pub mod Listing
-pub mod Meaning
 pub mod Command
 pub mod Line
-pub mod Partial
+pub mod Session
+pub mod Transcript

@@ -1,6 +1,7 @@
 // Which call a line is.
+use crate::LONGEST_LINE;
 ghost use mathlib.Core.Path.{_≡_};
-ghost use Rattle.recording.specs.Command.{begins, commandOf};
+ghost use Rattle.recording.specs.Command.{begins, shortCommand, commandOf};
 
 // The first word of a line.
 pub enum Command {
@@ -30,15 +31,12 @@ fn begins(line: &[u8], text: &[u8]) -> bool
     true
 }
 
-// The call that a line begins with. What stands behind the word is not looked at.
-pub(crate) fn command_of(line: &[u8]) -> Command
-    ensures { λ r. ⌜ r ≡ commandOf (now (line .entry)) ⌝ }
+// The call that a line of the right length begins with. What stands after the word is not looked at.
+fn short_command(line: &[u8]) -> Command
+    ensures { λ r. ⌜ r ≡ shortCommand (now (line .entry)) ⌝ }
 {
     if begins(line, b"start") {
         return Command::Start;
-    }
-    if begins(line, b"request ") {
-        return Command::Request;
     }
     if begins(line, b"report") {
         return Command::Report;
@@ -53,4 +51,17 @@ pub(crate) fn command_of(line: &[u8]) -> Command
         return Command::Process;
     }
     Command::Unknown
+}
+
+// Which call a line is: a request may be of any length, and another call has at most 1,024 bytes.
+pub(crate) fn command_of(line: &[u8]) -> Command
+    ensures { λ r. ⌜ r ≡ commandOf (now (line .entry)) ⌝ }
+{
+    if begins(line, b"request ") {
+        return Command::Request;
+    }
+    if LONGEST_LINE < line.len() {
+        return Command::Unknown;
+    }
+    short_command(line)
 }

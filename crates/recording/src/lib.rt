@@ -1,13 +1,20 @@
-// The lines of a recording, one call a line: each is made, and what came of it printed. A line that is no call prints a question
-// mark and changes nothing.
-mod call;
+// A gateway driven by text, in one of two languages: that of the bench, where each line is a request, and that of recordings, where each
+// line is a call. What a line does is carried out, and what came of it printed; a line that is none prints a question mark and changes
+// nothing. A text may come in blocks of any length. Nothing here reads or writes: see `feed`.
 mod command;
+mod language;
 mod line;
-mod listing;
-mod number;
 mod partial;
+mod session;
+pub mod theorems;
 
-pub use call::Response;
-pub use line::answer_line;
-pub use line::answer_pairs;
+pub use language::Language;
+pub use language::begin;
 pub use partial::Partial;
+pub use session::Fed;
+pub use session::feed;
+
+// A line but a request is no longer.
+pub const LONGEST_LINE: usize = 1024;
+// How much is kept of a line: one byte more, which tells that it is longer.
+pub const KEPT: usize = 1025;

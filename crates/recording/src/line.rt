@@ -1,84 +1,61 @@
 // The answer to one line.
-use crate::call::Response;
-use crate::call::answer_memory;
-use crate::call::answer_process;
-use crate::call::answer_report;
-use crate::call::answer_request;
-use crate::call::answer_start;
-use crate::call::answer_store;
-use crate::call::unknown;
 use crate::command::Command;
 use crate::command::command_of;
-use crate::partial::Partial;
-use lines::within;
-use state::Gateway;
-ghost use mathlib.Core.Path.{_≡_};
-ghost use mathlib.Core.List.{List};
-ghost use Prim.Native.Nat.{ℕ, _≤_};
-ghost use lib.ListN.{length, take};
-ghost use Rattle.recording.specs.Partial.{Kept};
-ghost use Rattle.recording.specs.Line.{Does, effectOf, lineEffect, benchEffect};
+use crate::language::Language;
+use calls::MEMORY;
+use calls::STATE;
+use calls::answer_memory;
+use calls::answer_process;
+use calls::answer_report;
+use calls::answer_request;
+use calls::answer_start;
+use calls::answer_store;
+use calls::answer_unknown;
+use lines::Phase;
+use lines::at_most;
+ghost use Prim.Native.Nat.{_≤_};
+ghost use lib.ListN.{length};
+ghost use Rattle.calls.specs.Effect.{longestText, Does};
+ghost use Rattle.recording.specs.Line.{commandEffect, lineEffect};
 
-// A line by its word.
+// Carries out a line of a recording by its word.
 fn answer_command(
     command: Command,
-    partial: Partial,
-    state: Gateway,
-    memory: &mut [u8],
+    phase: Phase,
+    state: &mut [u8; STATE],
+    memory: &mut [u8; MEMORY],
     line: &[u8],
-    message: &[u8],
     out: &mut [u8],
-) -> Response
-    requires { ⌜ length (now memory) ≡ 32768 ⌝ }
-    requires { ⌜ 16384 ≤ length (now out) ⌝ }
-    ensures { λ r. ⌜ r .len ≤ length (now (out .entry)) ⌝ }
-    ensures { λ r. ⌜ Does (effectOf (partial .listing) (partial .scan .phase) (take (partial .scan .len) (now (message .entry))) (now (line .entry)) state (now (memory .entry)) command) r (now (memory .exit)) (now (out .entry)) (now (out .exit)) ⌝ }
+) -> usize
+    requires { ⌜ longestText ≤ length (now out) ⌝ }
+    ensures { λ r. ⌜ Does (commandEffect phase (now (line .entry)) (now (state .entry)) (now (memory .entry)) command) r (now (state .exit)) (now (memory .exit)) (now (out .entry)) (now (out .exit)) ⌝ }
 {
-    let scan = partial.scan;
-    let listing = partial.listing;
+    let word = at_most(8, line);
     match command {
-        Command::Start => answer_start(state, listing, memory, out),
-        Command::Request => answer_request(state, scan, memory, message, out),
+        Command::Start => answer_start(state, memory, line, out),
+        Command::Request => answer_request(phase, state, memory, &line[word..], out),
         Command::Report => answer_report(state, memory, line, out),
         Command::Store => answer_store(state, memory, line, out),
         Command::Memory => answer_memory(state, memory, line, out),
-        Command::Process => answer_process(state, line, out),
-        Command::Unknown => unknown(state, out),
+        Command::Process => answer_process(state, memory, line, out),
+        Command::Unknown => answer_unknown(state, memory, out),
     }
 }
 
-// A line of a recording that was read to its end. A request or a start may be of any length; any other line that is longer than what is kept
-// is no call, and neither is what is kept of it.
-pub fn answer_line(
-    partial: Partial,
-    state: Gateway,
-    memory: &mut [u8],
+// Carries out a line; phase is where its pairs led, which may go on after what is kept of them.
+pub(crate) fn answer_line(
+    language: Language,
+    phase: Phase,
+    state: &mut [u8; STATE],
+    memory: &mut [u8; MEMORY],
     line: &[u8],
-    message: &[u8],
     out: &mut [u8],
-) -> Response
-    requires { ⌜ length (now memory) ≡ 32768 ⌝ }
-    requires { ⌜ 16384 ≤ length (now out) ⌝ }
-    ensures { λ r. ⌜ r .len ≤ length (now (out .entry)) ⌝ }
-    ensures { λ r. ⌜ ((whole : List ℕ) → Kept 8 whole partial (now (line .entry)) (now (message .entry)) → Does (lineEffect whole state (now (memory .entry))) r (now (memory .exit)) (now (out .entry)) (now (out .exit))) ⌝ }
+) -> usize
+    requires { ⌜ longestText ≤ length (now out) ⌝ }
+    ensures { λ r. ⌜ Does (lineEffect language phase (now (line .entry)) (now (state .entry)) (now (memory .entry))) r (now (state .exit)) (now (memory .exit)) (now (out .entry)) (now (out .exit)) ⌝ }
 {
-    let n = within(partial.len, line);
-    let command = command_of(&line[..n]);
-    answer_command(command, partial, state, memory, &line[..n], message, out)
-}
-
-// A line of the bench that was read to its end: the pairs of a request.
-pub fn answer_pairs(
-    partial: Partial,
-    state: Gateway,
-    memory: &mut [u8],
-    message: &[u8],
-    out: &mut [u8],
-) -> Response
-    requires { ⌜ 16384 ≤ length (now out) ⌝ }
-    ensures { λ r. ⌜ r .len ≤ length (now (out .entry)) ⌝ }
-    ensures { λ r. ⌜ ((whole line : List ℕ) → Kept 0 whole partial line (now (message .entry)) → Does (benchEffect whole state (now (memory .entry))) r (now (memory .exit)) (now (out .entry)) (now (out .exit))) ⌝ }
-{
-    let scan = partial.scan;
-    answer_request(state, scan, memory, message, out)
+    match language {
+        Language::Bench => answer_request(phase, state, memory, line, out),
+        Language::Recording => answer_command(command_of(line), phase, state, memory, line, out),
+    }
 }

@@ -1,70 +1,57 @@
-// A line as it is read, in parts of any length: the line as far as there is room, the pairs of its request, and the processes that it lists.
-use crate::listing::Listing;
-use lines::Scan;
-use lines::put;
-use lines::within;
-ghost use mathlib.Core.List.{List, [], _++_};
-ghost use Prim.Native.Nat.{ℕ, _-_};
-ghost use Rattle.lines.specs.Count.{Within};
-ghost use Rattle.recording.specs.Partial.{Held, Room, Kept};
+// A line as it is read, character by character.
+use lines::Phase;
+ghost use mathlib.Core.Path.{_≡_};
+ghost use mathlib.Core.List.{List};
+ghost use Prim.Native.Nat.{ℕ, _≤_};
+ghost use lib.ListN.{length};
+ghost use Rattle.recording.specs.Session.{reading, nothingRead, phaseAfter, typed};
 
-// What was read of a line so far: how many bytes of it are kept, its pairs, and which processes it lists.
+// What was read of a line: how many bytes of it are kept, and where its pairs led.
 pub struct Partial {
     pub len: usize,
-    pub scan: Scan,
-    pub listing: Listing,
-}
-
-// A part of a line is kept, as far as there is room; how much of the line is kept then.
-fn keep(text: &[u8], len: usize, line: &mut [u8]) -> usize
-    ensures { λ r. ⌜ ((so-far : List ℕ) → Held so-far len (now (line .entry)) → Held (so-far ++ now (text .entry)) r (now (line .exit))) ⌝ }
-{
-    if line.len() < len {
-        return len;
-    }
-    let n = within(line.len() - len, text);
-    put(&text[..n], len, line)
-}
-
-// How many bytes of a part stand among the first so many of the line.
-fn before(text: &[u8], len: usize, first: usize) -> usize
-    ensures { λ r. ⌜ Within r (first - len) (now (text .entry)) ⌝ }
-{
-    if first <= len {
-        return within(0, text);
-    }
-    within(first - len, text)
+    pub phase: Phase,
 }
 
 impl Partial {
     // A line of which nothing was read yet.
     pub fn new() -> Partial
-        ensures { λ r. ⌜ ((first : ℕ) (line message : List ℕ) → Room first line message → Kept first [] r line message) ⌝ }
+        ensures { λ r. ⌜ ((line : List ℕ) → reading r line ≡ nothingRead) ⌝ }
     {
-        let scan = Scan::new();
-        let listing = Listing::new();
+        let phase = Phase::Open;
         Partial {
             len: 0,
-            scan: scan,
-            listing: listing,
+            phase: phase,
         }
     }
 
-    // A part of the line, whose pairs begin behind its first so many bytes.
-    pub fn part(self, first: usize, text: &[u8], line: &mut [u8], message: &mut [u8]) -> Partial
-        ensures { λ r. ⌜ ((so-far : List ℕ) → Kept first so-far self (now (line .entry)) (now (message .entry)) → Kept first (so-far ++ now (text .entry)) r (now (line .exit)) (now (message .exit))) ⌝ }
+    // Where the pairs led after one character more.
+    fn phase_after(self, first: usize, c: u8) -> Phase
+        ensures { λ r. ⌜ r ≡ phaseAfter (self .len) first (self .phase) c ⌝ }
     {
+        let phase = self.phase;
+        if self.len < first {
+            return phase;
+        }
+        phase.next(c)
+    }
+
+    // One character more of a line whose pairs begin after its first so many bytes. It is kept, if there is room.
+    pub(crate) fn push(self, first: usize, c: u8, line: &mut [u8]) -> Partial
+        requires { ⌜ first ≤ length (now line) ⌝ }
+        ensures { λ r. ⌜ reading r (now (line .exit)) ≡ typed first (length (now (line .entry))) c (reading self (now (line .entry))) ⌝ }
+    {
+        let next = self.phase_after(first, c);
         let len = self.len;
-        let scan = self.scan;
-        let listing = self.listing;
-        let skip = before(text, len, first);
-        let pairs = scan.part(&text[skip..], message);
-        let word = before(text, len, 5);
-        let listed = listing.part(&text[word..]);
+        if line.len() <= len {
+            return Partial {
+                len: len,
+                phase: next,
+            };
+        }
+        line[len] = c;
         Partial {
-            len: keep(text, len, line),
-            scan: pairs,
-            listing: listed,
+            len: len + 1,
+            phase: next,
         }
     }
 }

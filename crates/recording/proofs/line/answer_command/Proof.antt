@@ -1,9 +1,15 @@
--- `recording::line::answer_command` meets its contract, call by call. Assumes nothing.
-use mathlib.Core.Path.{refl}
+-- `recording::line::answer_command` meets its contract, by the word of the line. Assumes nothing.
+use mathlib.Core.Path.{_≡_, refl, sym, ap, _∙_}
+use Prim.Native.Nat.{ℕ, _-_}
+use lib.ListN.{length, take, drop}
+use Rattle.recording.specs.Line.{commandEffect}
+use Rattle.recording.proofs.LineLaws.{rest-of-line}
 use borrow.Author.Needs.{needs}
-use Rattle.recording.specs.Line.{effectOf}
 use Rattle.recording.proofs.line.answer_command.Statement.{statement}
 use Rattle.recording.proofs.line.answer_command.Tie as tie
+
+at-most-requires : tie.Need-at-most-requires
+at-most-requires c κs = search needs
 
 enum-told : tie.Need-enum-told
 enum-told c = search needs
@@ -13,6 +19,15 @@ answer-start-requires c κs = search needs
 
 enum-told-2 : tie.Need-enum-told-2
 enum-told-2 c = search needs
+
+sub-answer-request : tie.Need-sub-answer-request
+sub-answer-request c = search needs
+
+part-answer-request-start : tie.Need-part-answer-request-start
+part-answer-request-start c = search needs
+
+part-answer-request-end : tie.Need-part-answer-request-end
+part-answer-request-end c = search needs
 
 answer-request-requires : tie.Need-answer-request-requires
 answer-request-requires c κs = search needs
@@ -44,80 +59,71 @@ answer-process-requires c κs = search needs
 enum-told-7 : tie.Need-enum-told-7
 enum-told-7 c = search needs
 
-unknown-requires : tie.Need-unknown-requires
-unknown-requires c κs = search needs
+answer-unknown-requires : tie.Need-answer-unknown-requires
+answer-unknown-requires c κs = search needs
 
 same-length : tie.Need-same-length
 same-length c = search needs
 
+returns : tie.Need-returns
+unfolding commandEffect
+returns c = rw (c .before .before .before .before .before .before .enum-told .given .1) (c .before .before .answer-start .ensures)
+
 same-length-2 : tie.Need-same-length-2
 same-length-2 c = search needs
 
-returns : tie.Need-returns
-unfolding effectOf
-returns c = let e = c .before .before .before .before .answer-start .ensures in (e .0, rw (c .before .before .before .before .before .before .before .enum-told .given .1) (record { state = e .1 .0; memory = e .1 .1 .0; text = e .1 .1 .1 }))
+returns-2 : tie.Need-returns-2
+unfolding commandEffect
+returns-2 c =
+    let line = c .before .before .before .before .before .before .before .before .before .before .before .before .args .line .now in
+    rw (c .before .before .before .before .before .before .before .enum-told2 .given .1) (rw (ap (λ (j : ℕ). take (length line - j) (drop j line)) (c .before .before .before .before .before .before .before .before .before .at-most .ensures .0) ∙ rest-of-line line) at (c .before .before .answer-request .ensures))
 
 same-length-3 : tie.Need-same-length-3
 same-length-3 c = search needs
 
+returns-3 : tie.Need-returns-3
+unfolding commandEffect
+returns-3 c = rw (c .before .before .before .before .before .before .enum-told3 .given .1) (c .before .before .answer-report .ensures)
+
 same-length-4 : tie.Need-same-length-4
 same-length-4 c = search needs
 
-returns-2 : tie.Need-returns-2
-unfolding effectOf
-returns-2 c = let e = c .before .before .before .before .answer-request .ensures in (e .0, rw (c .before .before .before .before .before .before .before .enum-told2 .given .1) (record { state = e .1 .0; memory = e .1 .1 .0; text = e .1 .1 .1 }))
+returns-4 : tie.Need-returns-4
+unfolding commandEffect
+returns-4 c = rw (c .before .before .before .before .before .before .before .enum-told4 .given .1) (c .before .before .answer-store .ensures)
 
 same-length-5 : tie.Need-same-length-5
 same-length-5 c = search needs
 
+returns-5 : tie.Need-returns-5
+unfolding commandEffect
+returns-5 c = rw (c .before .before .before .before .before .before .before .before .enum-told5 .given .1) (c .before .before .answer-memory .ensures)
+
 same-length-6 : tie.Need-same-length-6
 same-length-6 c = search needs
 
-returns-3 : tie.Need-returns-3
-unfolding effectOf
-returns-3 c = let e = c .before .before .before .before .answer-report .ensures in (e .0, rw (c .before .before .before .before .before .before .before .enum-told3 .given .1) (record { state = e .1 .0; memory = e .1 .1 .0; text = e .1 .1 .1 }))
+returns-6 : tie.Need-returns-6
+unfolding commandEffect
+returns-6 c = rw (c .before .before .before .before .before .before .before .enum-told6 .given .1) (c .before .before .answer-process .ensures)
 
 same-length-7 : tie.Need-same-length-7
 same-length-7 c = search needs
 
-same-length-8 : tie.Need-same-length-8
-same-length-8 c = search needs
-
-returns-4 : tie.Need-returns-4
-unfolding effectOf
-returns-4 c = let e = c .before .before .before .before .answer-store .ensures in (e .0, rw (c .before .before .before .before .before .before .before .enum-told4 .given .1) (record { state = e .1 .0; memory = e .1 .1 .0; text = e .1 .1 .1 }))
-
-same-length-9 : tie.Need-same-length-9
-same-length-9 c = search needs
-
-same-length-10 : tie.Need-same-length-10
-same-length-10 c = search needs
-
-returns-5 : tie.Need-returns-5
-unfolding effectOf
-returns-5 c = let e = c .before .before .answer-memory .ensures in (e .0, rw (c .before .before .before .before .before .enum-told5 .given .1) (record { state = e .1 .0; memory = refl; text = e .1 .1 }))
-
-same-length-11 : tie.Need-same-length-11
-same-length-11 c = search needs
-
-returns-6 : tie.Need-returns-6
-unfolding effectOf
-returns-6 c = let e = c .before .before .answer-process .ensures in (e .0, rw (c .before .before .before .before .enum-told6 .given .1) (record { state = e .1 .0; memory = refl; text = e .1 .1 }))
-
-same-length-12 : tie.Need-same-length-12
-same-length-12 c = search needs
-
 returns-7 : tie.Need-returns-7
-unfolding effectOf
-returns-7 c = let e = c .before .before .unknown .ensures in (e .0, rw (c .before .before .before .before .enum-told7 .given .1) (record { state = e .1 .0; memory = refl; text = e .1 .1 }))
+unfolding commandEffect
+returns-7 c = rw (c .before .before .before .before .before .before .before .before .enum-told7 .given .1) (c .before .before .answer-unknown .ensures)
 
 pub answer-command-spec : {M : Type 1} → statement M
 answer-command-spec =
     tie.close
     (tie.spec
+    at-most-requires
     enum-told
     answer-start-requires
     enum-told-2
+    sub-answer-request
+    part-answer-request-start
+    part-answer-request-end
     answer-request-requires
     enum-told-3
     answer-report-requires
@@ -128,23 +134,18 @@ answer-command-spec =
     enum-told-6
     answer-process-requires
     enum-told-7
-    unknown-requires
+    answer-unknown-requires
     same-length
-    same-length-2
     returns
-    same-length-3
-    same-length-4
+    same-length-2
     returns-2
-    same-length-5
-    same-length-6
+    same-length-3
     returns-3
-    same-length-7
-    same-length-8
+    same-length-4
     returns-4
-    same-length-9
-    same-length-10
+    same-length-5
     returns-5
-    same-length-11
+    same-length-6
     returns-6
-    same-length-12
+    same-length-7
     returns-7)

@@ -1,0 +1,217 @@
+-- Laws of what lines do: an effect by whether its line is right, the text that is put, the bytes of a process, and long messages.
+-- Assumes nothing.
+use mathlib.Core.Path.{_≡_, refl, sym, ap, _∙_}
+use mathlib.Core.Bool.{Bool, true, false, cond}
+use mathlib.Core.List.{List, [], _∷_, _++_}
+use Prim.Native.Nat.{ℕ, _+_, _-_, _*_, _≤_, _<_, min}
+use native.Mathlib.Omega.{arith}
+use borrow.Author.Tests.{lt-ltb, le-ltb, leb-true, leb-false}
+use lib.ListN.{length, take, drop, set, replicate, length-take, length-drop, length-replicate, replicate-append-replicate, take-append-drop, drop-of-length-le}
+use lib.Seq.{take-set-le, drop-set-add, take-set-lt, drop-set-lt, take-add, take-take, take-all, drop-drop, drop-at, length-take-le}
+use lib.Dec.{leb}
+use Rattle.lists.specs.Buffer.{overlay}
+use Rattle.lists.proofs.Buffer.{overlay-snoc, overlay-all}
+use Rattle.format.specs.declared.outcome.Outcome.{Outcome}
+use Rattle.format.specs.declared.outcome.Outcome.the-variants.{Refused}
+use Rattle.format.specs.Outcome.{numberOf, firstFailing}
+use Rattle.format.specs.Refusal.{wrongLength}
+use Rattle.state.specs.Slot.{startOf, slot, withSlot}
+use Rattle.state.proofs.SlotLaws.{startOf-is}
+use Rattle.rules.specs.Tests.{State, lent, noRoom, unsound, requestNumber}
+use Rattle.rules.specs.Step.{answers, refused, requested, step, stored}
+use Rattle.rules.specs.Step.{put as putLocal}
+use Rattle.state_bytes.specs.State.{stateOf}
+use Rattle.gateway.specs.Called.{Called, called, bufferOf, callOn}
+use Rattle.lines.specs.Hex.{pairsLine}
+use Rattle.lines.specs.declared.scan.Phase.{Phase}
+use Rattle.lines.specs.declared.scan.Phase.the-variants.{Open}
+use Rattle.lines.specs.declared.scan.Scan.{Scan}
+use Rattle.lines.specs.Scan.{Put, bytesOf, kept, filled}
+use Rattle.lines.proofs.PairLaws.{reads-pairs}
+use Rattle.lines.proofs.PutLaws.{put-whole}
+use Rattle.display.specs.Answer.{answerLine}
+use Rattle.calls.specs.declared.listing.Listing.{Listing}
+use Rattle.calls.specs.Listing.{empty, listed}
+use Rattle.calls.specs.Effect.{Effect, Prints, Does}
+use Rattle.calls.specs.Meaning.{unknownEffect, ifRight, zeroBuffer, answered, requestMade, startListing}
+
+-- ---- a call by whether its line is right
+
+pub does-as : (e f : Effect) (len : ℕ) (s m before after : List ℕ) → e ≡ f → Does e len s m before after → Does f len s m before after
+does-as e f len s m before after same d = rw same at d
+
+pub does-right : (right : Bool) (e : Effect) (s₀ m₀ : List ℕ) (len : ℕ) (s m before after : List ℕ) → right ≡ true
+    → Does e len s m before after → Does (ifRight right e s₀ m₀) len s m before after
+unfolding ifRight
+does-right right e s₀ m₀ len s m before after t d = rw t d
+
+pub does-wrong : (right : Bool) (e : Effect) (s₀ m₀ : List ℕ) (len : ℕ) (s m before after : List ℕ) → right ≡ false
+    → Does (unknownEffect s₀ m₀) len s m before after → Does (ifRight right e s₀ m₀) len s m before after
+unfolding ifRight
+does-wrong right e s₀ m₀ len s m before after t d = rw t d
+
+-- ---- text
+
+pub prints-put : (text : List ℕ) (len : ℕ) (before after : List ℕ) → length text ≤ length before → Put 0 text before len after → Prints text len before after
+prints-put text len before after h p = let w = put-whole len text before after h p in record { size = w .0; fits = omega (arith, w .0, h); laid = w .1 }
+
+pub prints-as : (xs ys : List ℕ) (len : ℕ) (before after : List ℕ) → xs ≡ ys → Prints xs len before after → Prints ys len before after
+prints-as xs ys len before after e p = rw e at p
+
+-- ---- a process's bytes in memory
+
+module _ (p : ℕ) (m : List ℕ) (low : p < 8) (size : length m ≡ 32768) where
+  at : startOf p ≡ 4096 * p
+  at = startOf-is p low
+
+  rest-long : 4096 ≤ length (drop (startOf p) m)
+  rest-long = omega (arith, length-drop (startOf p) m, at, low, size)
+
+  -- one byte of them
+  set-slot : (a v : ℕ) → a < 4096 → set m (4096 * p + a) v ≡ withSlot p (set (slot p m) a v) m
+  unfolding withSlot slot
+  set-slot a v h =
+      let s = startOf p in
+      let rest : List ℕ = drop s m in
+      let back : 4096 * p + a ≡ s + a = omega (arith, at) in
+      let front : take s (set m (s + a) v) ≡ take s m = take-set-le s m (s + a) v (omega arith) in
+      let behind : drop s (set m (s + a) v) ≡ set rest a v = drop-set-add s m a v in
+      let inner : set rest a v ≡ set (take 4096 rest) a v ++ drop 4096 rest =
+      sym (take-append-drop 4096 (set rest a v)) ∙ ap (λ (l : List ℕ). l ++ drop 4096 (set rest a v)) (take-set-lt 4096 rest a v h) ∙ ap (λ (l : List ℕ). set (take 4096 rest) a v ++ l) (drop-set-lt 4096 rest a v h) in
+      ap (λ (n : ℕ). set m n v) back
+      ∙ sym (take-append-drop s (set m (s + a) v))
+      ∙ ap (λ (l : List ℕ). l ++ drop s (set m (s + a) v)) front
+      ∙ ap (λ (l : List ℕ). take s m ++ l) (behind ∙ inner)
+
+  pub stores : (a v : ℕ) (s : List ℕ) → a < 4096 → set m (4096 * p + a) v ≡ stored p a v (lent (stateOf s) m) .memory
+  unfolding stored putLocal
+  stores a v s h = rw (lt-ltb p 8 low) (set-slot a v h)
+
+  -- some of them
+  part-slot : (a c from : ℕ) → from ≡ 4096 * p + a → a + c ≤ 4096 → take (from + c - from) (drop from m) ≡ take c (drop a (slot p m))
+  unfolding slot
+  part-slot a c from f h =
+      let s = startOf p in
+      let rest : List ℕ = drop s m in
+      let whole : a + (4096 - a) ≡ 4096 = omega (arith, h) in
+      let split : take 4096 rest ≡ take a rest ++ take (4096 - a) (drop a rest) = ap (λ (n : ℕ). take n rest) (sym whole) ∙ take-add a (4096 - a) rest in
+      let front : length (take a rest) ≡ a = length-take-le a rest (omega (arith, rest-long, h)) in
+      let cut : take c (drop a (take 4096 rest)) ≡ take c (drop a rest) =
+      ap (λ (l : List ℕ). take c (drop a l)) split
+      ∙ ap (take c) (drop-at (take a rest) (take (4096 - a) (drop a rest)) a front)
+      ∙ take-take c (4096 - a) (drop a rest) (omega (arith, h)) in
+      let many : from + c - from ≡ c = omega arith in
+      let where-from : s + a ≡ from = omega (arith, at, f) in
+      ap (λ (n : ℕ). take n (drop from m)) many
+      ∙ sym (cut ∙ ap (take c) (drop-drop a s m ∙ ap (λ (n : ℕ). drop n m) where-from))
+
+  pub memory-line : (a c from : ℕ) → from ≡ 4096 * p + a → a + c ≤ 4096 → pairsLine (take (from + c - from) (drop from m)) ≡ pairsLine (take c (drop a (slot p m)))
+  memory-line a c from f h = ap pairsLine (part-slot a c from f h)
+
+-- ---- zeros one after another
+
+abbrev zeros : ℕ → List ℕ
+zeros n = replicate n 0
+
+pub zero-turn : (m : List ℕ) (i : ℕ) → i < length m → set (overlay (zeros i) m) i 0 ≡ overlay (zeros (i + 1)) m
+zero-turn m i h =
+    let size : length (zeros i) ≡ i = length-replicate {A = ℕ} i 0 in
+    ap (λ (n : ℕ). set (overlay (zeros i) m) n 0) (sym size)
+    ∙ overlay-snoc (zeros i) m 0 (omega (arith, size, h))
+    ∙ ap (λ (l : List ℕ). overlay l m) (replicate-append-replicate {A = ℕ} i 1 0)
+
+pub zero-all : (m : List ℕ) (i : ℕ) → i ≡ length m → overlay (zeros i) m ≡ zeros (length m)
+zero-all m i e = overlay-all (zeros i) m (omega (arith, length-replicate {A = ℕ} i 0, e)) ∙ ap zeros e
+
+-- ---- the answer of a call
+
+-- so many, or all where there are fewer
+pub take-at-most : (n : ℕ) (xs : List ℕ) → take (min n (length xs)) xs ≡ take n xs
+take-at-most n xs = go (leb n (length xs)) refl
+  where
+    go : (t : Bool) → leb n (length xs) ≡ t → take (min n (length xs)) xs ≡ take n xs
+    go true e = let k : min n (length xs) ≡ n = omega (arith, leb-true n (length xs) e) in rw k
+    go false e =
+        let few = leb-false n (length xs) e in
+        take-all (min n (length xs)) xs (omega (arith, few)) ∙ sym (take-all n xs (omega (arith, few)))
+
+pub drop-at-most : (n : ℕ) (xs : List ℕ) → drop (min n (length xs)) xs ≡ drop n xs
+drop-at-most n xs = go (leb n (length xs)) refl
+  where
+    go : (t : Bool) → leb n (length xs) ≡ t → drop (min n (length xs)) xs ≡ drop n xs
+    go true e = let k : min n (length xs) ≡ n = omega (arith, leb-true n (length xs) e) in rw k
+    go false e =
+        let few = leb-false n (length xs) e in
+        let left : length xs ≤ min n (length xs) = omega (arith, few) in
+        let right : length xs ≤ n = omega (arith, few) in
+        drop-of-length-le xs left ∙ sym (drop-of-length-le xs right)
+
+-- what is put is the line of the answer
+module _ (count : Outcome → ℕ) (o : Outcome) (s m buffer : List ℕ) (x : Called) (X : called o s m buffer ≡ x) (number k n len : ℕ) (before after : List ℕ) where
+  pub does-answer : number ≡ numberOf o → k ≡ count o → n ≡ min k (length buffer) → Prints (answerLine number (take n buffer)) len before after
+      → Does (answered count x) len s m before after
+  unfolding answered
+  does-answer N K E p =
+      let text : answerLine number (take n buffer) ≡ answerLine (numberOf o) (take (count o) buffer) =
+      ap (λ (j : ℕ). answerLine j (take n buffer)) N ∙ ap (answerLine (numberOf o)) (ap (λ (j : ℕ). take j buffer) E ∙ take-at-most k buffer ∙ ap (λ (j : ℕ). take j buffer) K) in
+      rw (← X) (record { state = refl; memory = refl; text = prints-as _ _ len before after text p })
+
+-- ---- a message over 266 bytes is refused whatever stands after them
+
+module _ (s : State) (buffer : List ℕ) where
+  abbrev lentOr3 : ℕ
+  lentOr3 = cond (noRoom (s .memory) buffer) 1 (cond (unsound s) 2 3)
+
+  too-long : (m : List ℕ) → 266 < length m → wrongLength (length m) ≡ true
+  unfolding wrongLength
+  too-long m h = rw (le-ltb (length m) 10 (omega (arith, h)), lt-ltb 266 (length m) h)
+
+  number-long : (m : List ℕ) → 266 < length m → requestNumber s m buffer ≡ lentOr3
+  unfolding requestNumber firstFailing
+  number-long m h = rw (too-long m h)
+
+  refused-long : (m : List ℕ) → 266 < length m → requested m buffer s ≡ answers (Refused lentOr3) buffer s
+  unfolding requested refused
+  refused-long m h = go (noRoom (s .memory) buffer) (unsound s) (number-long m h)
+    where
+      go : (a b : Bool) → requestNumber s m buffer ≡ cond a 1 (cond b 2 3) → requested m buffer s ≡ answers (Refused (cond a 1 (cond b 2 3))) buffer s
+      go true b e = rw e
+      go false true e = rw e
+      go false false e = rw e
+
+-- two messages over 266 bytes are answered alike
+pub made-long : (x y s m : List ℕ) → 266 < length x → 266 < length y → requestMade x s m ≡ requestMade y s m
+unfolding requestMade callOn bufferOf step
+made-long x y s m h k = rw (refused-long (lent (stateOf s) m) zeroBuffer x h, refused-long (lent (stateOf s) m) zeroBuffer y k)
+
+-- a message is answered like its first bytes, if these are more than 266 or all
+pub made-front : (n : ℕ) (x s m : List ℕ) → 267 ≤ n → requestMade (take n x) s m ≡ requestMade x s m
+made-front n x s m h = go (leb (length x) n) refl
+  where
+    go : (t : Bool) → leb (length x) n ≡ t → requestMade (take n x) s m ≡ requestMade x s m
+    go true e = ap (λ (l : List ℕ). requestMade l s m) (take-all n x (leb-true (length x) n e))
+    go false e =
+        let long = leb-false (length x) n e in
+        made-long (take n x) x s m (omega (arith, length-take n x, long, h)) (omega (arith, long, h))
+
+-- ---- a line's pairs, and a line's listing
+
+-- pairs that were read into a buffer with more room than the longest message are a request of their bytes
+pub pairs-made : (new scan : Scan) (n : ℕ) (pairs buffer last s m : List ℕ) → new .phase ≡ Open → new .len ≡ 0
+    → scan .len ≡ filled (length buffer) (new .len) (bytesOf (new .phase) pairs) → last ≡ kept (new .len) (bytesOf (new .phase) pairs) buffer
+    → n ≡ min (scan .len) (length last) → 267 ≤ length buffer → requestMade (take n last) s m ≡ requestMade (bytesOf Open pairs) s m
+pairs-made new scan n pairs buffer last s m P Z L K N room =
+    let len : scan .len ≡ filled (length buffer) 0 (bytesOf Open pairs) = L ∙ ap (λ (j : ℕ). filled (length buffer) j (bytesOf (new .phase) pairs)) Z ∙ ap (λ (p : Phase). filled (length buffer) 0 (bytesOf p pairs)) P in
+    let bytes : last ≡ kept 0 (bytesOf Open pairs) buffer = K ∙ ap (λ (j : ℕ). kept j (bytesOf (new .phase) pairs) buffer) Z ∙ ap (λ (p : Phase). kept 0 (bytesOf p pairs) buffer) P in
+    let front : take n last ≡ take (length buffer) (bytesOf Open pairs) =
+    ap (λ (j : ℕ). take j last) N ∙ take-at-most (scan .len) last ∙ ap (λ (j : ℕ). take j last) len ∙ ap (take (filled (length buffer) 0 (bytesOf Open pairs))) bytes ∙ reads-pairs .kept-start (bytesOf Open pairs) buffer in
+    ap (λ (l : List ℕ). requestMade l s m) front ∙ made-front (length buffer) (bytesOf Open pairs) s m room
+
+-- what is listed after the word `start`
+pub start-listing : (new r : Listing) (word : ℕ) (line : List ℕ) → new ≡ empty → word ≡ min 5 (length line)
+    → r ≡ listed new (take (length line - word) (drop word line)) → r ≡ startListing line
+start-listing new r word line N W R =
+    R
+    ∙ ap (listed new) (take-all (length line - word) (drop word line) (simp length-drop (omega arith)))
+    ∙ ap (λ (x : Listing). listed x (drop word line)) N
+    ∙ ap (listed empty) (ap (λ (j : ℕ). drop j line) W ∙ drop-at-most 5 line)

@@ -1,0 +1,31 @@
+-- `calls::listing::Listing::is_complete` meets its contract, by where the reading stands. Assumes nothing.
+use mathlib.Core.Path.{sym, ap}
+use borrow.Author.Needs.{needs}
+use Rattle.calls.specs.Listing.{complete}
+use Rattle.calls.proofs.listing.Listing.is_complete.Statement.{statement}
+use Rattle.calls.proofs.listing.Listing.is_complete.Tie as tie
+
+enum-told : tie.Need-enum-told
+enum-told c = search needs
+
+enum-told-2 : tie.Need-enum-told-2
+enum-told-2 c = search needs
+
+enum-told-3 : tie.Need-enum-told-3
+enum-told-3 c = search needs
+
+returns : tie.Need-returns
+unfolding complete
+returns c = sym (ap complete (c .enum-told .given .1))
+
+returns-2 : tie.Need-returns-2
+unfolding complete
+returns-2 c = sym (ap complete (c .enum-told2 .given .1))
+
+returns-3 : tie.Need-returns-3
+unfolding complete
+returns-3 c = sym (ap complete (c .enum-told3 .given .1))
+
+pub is-complete-spec : {M : Type 1} → statement M
+is-complete-spec =
+    tie.close (tie.spec enum-told enum-told-2 enum-told-3 returns returns-2 returns-3)

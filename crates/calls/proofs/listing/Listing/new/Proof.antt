@@ -1,0 +1,10 @@
+-- `calls::listing::Listing::new` meets its contract. Assumes nothing.
+use mathlib.Core.Path.{refl}
+use Rattle.calls.proofs.listing.Listing.new.Statement.{statement}
+use Rattle.calls.proofs.listing.Listing.new.Tie as tie
+
+returns : tie.Need-returns
+returns c = refl
+
+pub new-spec : {M : Type 1} → statement M
+new-spec = tie.close (tie.spec returns)

@@ -1,0 +1,117 @@
+-- What each line does to state and memory, and what it prints. The numbers of a line are read by their bounds.
+use mathlib.Core.Bool.{Bool, cond}
+use mathlib.Core.List.{List, [], _∷_}
+use Prim.Native.Nat.{ℕ, _-_}
+use lib.ListN.{length, take, drop, replicate}
+use Rattle.format.specs.declared.outcome.Outcome.{Outcome}
+use Rattle.format.specs.Outcome.{numberOf}
+use Rattle.state.specs.Gateway.{processAt}
+use Rattle.state.specs.Slot.{slot}
+use Rattle.rules.specs.Tests.{lent}
+use Rattle.rules.specs.Step.{request, report, stored}
+use Rattle.state_bytes.specs.State.{stateOf}
+use Rattle.gateway.specs.Called.{Called, callOn, startOn}
+use Rattle.gateway.specs.Lengths.{replyLength, noticeLength}
+use Rattle.lines.specs.declared.scan.Phase.{Phase}
+use Rattle.lines.specs.Hex.{pairsLine}
+use Rattle.lines.specs.Scan.{full}
+use Rattle.decimal.specs.declared.number.Number.{Number}
+use Rattle.decimal.specs.Read.{begun, behind, endsLine}
+use Rattle.display.specs.Answer.{answerLine}
+use Rattle.display.specs.Line.{processLine}
+use Rattle.calls.specs.declared.listing.Listing.{Listing}
+use Rattle.calls.specs.Listing.{empty, listed, complete}
+use Rattle.calls.specs.Words.{processIn, kindIn, reasonIn, wordsOf, reportIn}
+use Rattle.calls.specs.Effect.{Effect, effect, messageSize}
+
+-- any line that is no call prints a question mark and changes nothing
+unfoldable pub unknownEffect : List ℕ → List ℕ → Effect
+unknownEffect s m = effect s m (63 ∷ 10 ∷ [])
+
+-- what a call does if its line is right
+unfoldable pub ifRight : Bool → Effect → List ℕ → List ℕ → Effect
+ifRight right e s m = cond right e (unknownEffect s m)
+
+-- the buffer that is lent to each call: all zero
+unfoldable pub zeroBuffer : List ℕ
+zeroBuffer = replicate messageSize 0
+
+-- a call of the gateway prints its number and the bytes that it wrote, count of its outcome
+unfoldable pub answered : (Outcome → ℕ) → Called → Effect
+answered count x = effect (x .state) (x .memory) (answerLine (numberOf (x .outcome)) (take (count (x .outcome)) (x .buffer)))
+
+-- the call that requests by a message
+unfoldable pub requestMade : List ℕ → List ℕ → List ℕ → Effect
+requestMade message s m = answered replyLength (callOn s m (request message zeroBuffer))
+
+-- request HEX HEX ..: the pairs led to this phase, and the message is their bytes
+unfoldable pub requestEffect : Phase → List ℕ → List ℕ → List ℕ → Effect
+requestEffect phase message s m = ifRight (full phase) (requestMade message s m) s m
+
+-- the call that reports an event of the machine
+unfoldable pub reportMade : ℕ → ℕ → ℕ → List ℕ → List ℕ → List ℕ → Effect
+reportMade p kind reason words s m = answered noticeLength (callOn s m (report p kind reason words zeroBuffer))
+
+-- report P KIND REASON W0 .. W8
+unfoldable pub reportEffect : List ℕ → List ℕ → List ℕ → Effect
+reportEffect line s m =
+    ifRight (reportIn line) (reportMade (processIn line .value) (kindIn line .value) (reasonIn line .value) (wordsOf 9 line (reasonIn line)) s m) s m
+
+-- the processes that a line lists after the word `start`
+abbrev pub startListing : List ℕ → Listing
+startListing line = listed empty (drop 5 line)
+
+-- start P P ..: a fresh start of the processes that are listed, memory all zero; it prints nothing
+unfoldable pub startEffect : List ℕ → List ℕ → List ℕ → Effect
+startEffect line s m =
+    ifRight (complete (startListing line .place)) (effect (startOn (startListing line .there) s .state) (replicate (length m) 0) []) s m
+
+-- store P ADDRESS BYTE: the machine's store
+module _ (line : List ℕ) where
+  -- the process
+  abbrev pub storeP : Number
+  storeP = behind 7 line (begun 5)
+
+  -- the address
+  abbrev pub storeAddress : Number
+  storeAddress = behind 4095 line storeP
+
+  -- the byte to store
+  abbrev pub storeByte : Number
+  storeByte = behind 255 line storeAddress
+
+  -- it prints `ok`
+  unfoldable pub storeEffect : List ℕ → List ℕ → Effect
+  storeEffect s m =
+      ifRight (endsLine line storeByte)
+      (effect s (stored (storeP .value) (storeAddress .value) (storeByte .value) (lent (stateOf s) m) .memory) (111 ∷ 107 ∷ 10 ∷ [])) s m
+
+-- memory P ADDRESS COUNT: no byte after the process's last
+module _ (line : List ℕ) where
+  -- the process
+  abbrev pub memoryP : Number
+  memoryP = behind 7 line (begun 6)
+
+  -- the first address
+  abbrev pub memoryAddress : Number
+  memoryAddress = behind 4096 line memoryP
+
+  -- how many bytes
+  abbrev pub memoryCount : Number
+  memoryCount = behind (4096 - memoryAddress .value) line memoryAddress
+
+  -- it prints the bytes as they stand in memory
+  unfoldable pub memoryEffect : List ℕ → List ℕ → Effect
+  memoryEffect s m =
+      ifRight (endsLine line memoryCount)
+      (effect s m (pairsLine (take (memoryCount .value) (drop (memoryAddress .value) (slot (memoryP .value) m))))) s m
+
+-- process P: it prints the record of the process
+module _ (line : List ℕ) where
+  -- the process
+  abbrev pub shownP : Number
+  shownP = behind 7 line (begun 7)
+
+  -- the record as the bytes of the state have it
+  unfoldable pub processEffect : List ℕ → List ℕ → Effect
+  processEffect s m = ifRight (endsLine line shownP) (effect s m (processLine (processAt (stateOf s) (shownP .value)))) s m

@@ -1,0 +1,164 @@
+// The calls that change state or memory, each with the line that it prints.
+use crate::KEPT;
+use crate::MEMORY;
+use crate::MESSAGE;
+use crate::STATE;
+use crate::listing::Listing;
+use crate::number::read_report;
+use crate::show::answer_unknown;
+use crate::show::place;
+use decimal::Number;
+use display::put_answer;
+use gateway::fresh_start;
+use gateway::notice_length;
+use gateway::reply_length;
+use gateway::report;
+use gateway::request;
+use lines::Phase;
+use lines::Scan;
+use lines::at_most;
+use lines::put;
+ghost use mathlib.Core.Path.{_≡_};
+ghost use Prim.Native.Nat.{_+_, _*_, _≤_, _<_};
+ghost use lib.ListN.{length, replicate};
+ghost use Rattle.lines.specs.declared.scan.Phase.the-variants.{Open};
+ghost use Rattle.lines.specs.Scan.{bytesOf};
+ghost use Rattle.calls.specs.Effect.{longestText, memorySize, Does};
+ghost use Rattle.calls.specs.Meaning.{zeroBuffer, requestMade, requestEffect, reportMade, reportEffect, startEffect, storeEffect};
+
+// The buffer that is lent to a call.
+fn zero_buffer() -> [u8; MESSAGE]
+    ensures { λ r. ⌜ r ≡ zeroBuffer ⌝ }
+{
+    [0u8; MESSAGE]
+}
+
+// Makes a request, and puts its answer as a line.
+fn make_request(
+    state: &mut [u8; STATE],
+    memory: &mut [u8; MEMORY],
+    message: &[u8],
+    out: &mut [u8],
+) -> usize
+    requires { ⌜ longestText ≤ length (now out) ⌝ }
+    ensures { λ r. ⌜ Does (requestMade (now (message .entry)) (now (state .entry)) (now (memory .entry))) r (now (state .exit)) (now (memory .exit)) (now (out .entry)) (now (out .exit)) ⌝ }
+{
+    let mut reply = zero_buffer();
+    let outcome = request(state, memory, message, &mut reply);
+    let n = at_most(reply_length(outcome), &reply);
+    put_answer(outcome.number(), &reply[..n], out)
+}
+
+// request HEX HEX ..: all of its pairs led to this phase, and these are its first ones, more than the longest message has or all.
+pub fn answer_request(
+    phase: Phase,
+    state: &mut [u8; STATE],
+    memory: &mut [u8; MEMORY],
+    pairs: &[u8],
+    out: &mut [u8],
+) -> usize
+    requires { ⌜ longestText ≤ length (now out) ⌝ }
+    ensures { λ r. ⌜ Does (requestEffect phase (bytesOf Open (now (pairs .entry))) (now (state .entry)) (now (memory .entry))) r (now (state .exit)) (now (memory .exit)) (now (out .entry)) (now (out .exit)) ⌝ }
+{
+    if !phase.is_full() {
+        return answer_unknown(state, memory, out);
+    }
+    let mut message = [0u8; KEPT];
+    let scan = Scan::new().part(pairs, &mut message);
+    let n = at_most(scan.len, &message);
+    make_request(state, memory, &message[..n], out)
+}
+
+// Makes a report of the machine, and puts its answer as a line.
+fn make_report(
+    state: &mut [u8; STATE],
+    memory: &mut [u8; MEMORY],
+    pid: u8,
+    kind: u8,
+    reason: u16,
+    words: [u16; 9],
+    out: &mut [u8],
+) -> usize
+    requires { ⌜ longestText ≤ length (now out) ⌝ }
+    ensures { λ r. ⌜ Does (reportMade pid kind reason words (now (state .entry)) (now (memory .entry))) r (now (state .exit)) (now (memory .exit)) (now (out .entry)) (now (out .exit)) ⌝ }
+{
+    let mut notice = zero_buffer();
+    let outcome = report(state, memory, pid, kind, reason, words, &mut notice);
+    let n = at_most(notice_length(outcome), &notice);
+    put_answer(outcome.number(), &notice[..n], out)
+}
+
+// report P KIND REASON W0 .. W8
+pub fn answer_report(
+    state: &mut [u8; STATE],
+    memory: &mut [u8; MEMORY],
+    line: &[u8],
+    out: &mut [u8],
+) -> usize
+    requires { ⌜ longestText ≤ length (now out) ⌝ }
+    ensures { λ r. ⌜ Does (reportEffect (now (line .entry)) (now (state .entry)) (now (memory .entry))) r (now (state .exit)) (now (memory .exit)) (now (out .entry)) (now (out .exit)) ⌝ }
+{
+    let read = read_report(line);
+    let words = read.words;
+    if !read.ok {
+        return answer_unknown(state, memory, out);
+    }
+    make_report(
+        state,
+        memory,
+        read.process,
+        read.kind,
+        read.reason,
+        words,
+        out,
+    )
+}
+
+// Makes all bytes zero.
+fn clear(memory: &mut [u8])
+    ensures { λ _. ⌜ now (memory .exit) ≡ replicate (length (now (memory .entry))) 0 ⌝ }
+{
+    let mut i = 0;
+    while i < memory.len() {
+        memory[i] = 0;
+        i += 1;
+    }
+}
+
+// start P P ..
+pub fn answer_start(
+    state: &mut [u8; STATE],
+    memory: &mut [u8; MEMORY],
+    line: &[u8],
+    out: &mut [u8],
+) -> usize
+    requires { ⌜ longestText ≤ length (now out) ⌝ }
+    ensures { λ r. ⌜ Does (startEffect (now (line .entry)) (now (state .entry)) (now (memory .entry))) r (now (state .exit)) (now (memory .exit)) (now (out .entry)) (now (out .exit)) ⌝ }
+{
+    let word = at_most(5, line);
+    let listing = Listing::new().part(&line[word..]);
+    let there = listing.there;
+    if !listing.is_complete() {
+        return answer_unknown(state, memory, out);
+    }
+    clear(memory);
+    fresh_start(there, state);
+    0
+}
+
+// store P ADDRESS BYTE
+pub fn answer_store(state: &[u8], memory: &mut [u8], line: &[u8], out: &mut [u8]) -> usize
+    requires { ⌜ length (now memory) ≡ memorySize ⌝ }
+    requires { ⌜ longestText ≤ length (now out) ⌝ }
+    ensures { λ r. ⌜ Does (storeEffect (now (line .entry)) (now (state .entry)) (now (memory .entry))) r (now (state .entry)) (now (memory .exit)) (now (out .entry)) (now (out .exit)) ⌝ }
+{
+    let process = Number::start(5).then(line, 7);
+    let address = process.then(line, 4095);
+    let byte = address.then(line, 255);
+    if !byte.ends(line) {
+        return answer_unknown(state, memory, out);
+    }
+    let at = place(process.value, address.value);
+    memory[at] = byte.value as u8;
+    put(b"ok\n", 0, out)
+}

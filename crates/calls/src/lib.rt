@@ -1,0 +1,25 @@
+// The calls of a recording: what each kind of line does to the bytes of a state and to memory, and what it prints. Adding a kind of line
+// takes a definition in specs/Meaning.antt and a function here.
+mod call;
+mod listing;
+mod number;
+mod show;
+
+pub use call::answer_report;
+pub use call::answer_request;
+pub use call::answer_start;
+pub use call::answer_store;
+pub use show::answer_memory;
+pub use show::answer_process;
+pub use show::answer_unknown;
+
+// The bytes of a state.
+pub const STATE: usize = 680;
+// The bytes of the lent memory.
+pub const MEMORY: usize = 32768;
+// The bytes of a buffer for a reply or a notice, and of the longest message.
+pub const MESSAGE: usize = 266;
+// One byte more than the longest message: a longer one is answered like its first so many bytes.
+const KEPT: usize = 267;
+// No line prints more bytes.
+pub const LONGEST_TEXT: usize = 16384;

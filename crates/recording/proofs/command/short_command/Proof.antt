@@ -1,0 +1,63 @@
+-- `recording::command::short_command` meets its contract, by the word that the line begins with. Assumes nothing.
+use mathlib.Core.Path.{sym, _∙_}
+use borrow.Author.Needs.{needs}
+use Rattle.recording.specs.Command.{shortCommand}
+use Rattle.recording.proofs.command.short_command.Statement.{statement}
+use Rattle.recording.proofs.command.short_command.Tie as tie
+
+slice-aggregate-begins : tie.Need-slice-aggregate-begins
+slice-aggregate-begins c = search needs
+
+begins-requires : tie.Need-begins-requires
+begins-requires c κs = search needs
+
+returns : tie.Need-returns
+unfolding shortCommand
+returns c = rw (sym (c .before .begins .ensures) ∙ c .if1 .taken)
+
+slice-aggregate-begins-2 : tie.Need-slice-aggregate-begins-2
+slice-aggregate-begins-2 c = search needs
+
+begins-requires-2 : tie.Need-begins-requires-2
+begins-requires-2 c κs = search needs
+
+returns-2 : tie.Need-returns-2
+unfolding shortCommand
+returns-2 c = rw (sym (c .before .before .before .before .begins .ensures) ∙ c .before .before .before .if1 .left, sym (c .before .begins2 .ensures) ∙ c .if2 .taken)
+
+slice-aggregate-begins-3 : tie.Need-slice-aggregate-begins-3
+slice-aggregate-begins-3 c = search needs
+
+begins-requires-3 : tie.Need-begins-requires-3
+begins-requires-3 c κs = search needs
+
+returns-3 : tie.Need-returns-3
+unfolding shortCommand
+returns-3 c = rw (sym (c .before .before .before .before .before .before .before .begins .ensures) ∙ c .before .before .before .before .before .before .if1 .left, sym (c .before .before .before .before .begins2 .ensures) ∙ c .before .before .before .if2 .left, sym (c .before .begins3 .ensures) ∙ c .if3 .taken)
+
+slice-aggregate-begins-4 : tie.Need-slice-aggregate-begins-4
+slice-aggregate-begins-4 c = search needs
+
+begins-requires-4 : tie.Need-begins-requires-4
+begins-requires-4 c κs = search needs
+
+returns-4 : tie.Need-returns-4
+unfolding shortCommand
+returns-4 c = rw (sym (c .before .before .before .before .before .before .before .before .before .before .begins .ensures) ∙ c .before .before .before .before .before .before .before .before .before .if1 .left, sym (c .before .before .before .before .before .before .before .begins2 .ensures) ∙ c .before .before .before .before .before .before .if2 .left, sym (c .before .before .before .before .begins3 .ensures) ∙ c .before .before .before .if3 .left, sym (c .before .begins4 .ensures) ∙ c .if4 .taken)
+
+slice-aggregate-begins-5 : tie.Need-slice-aggregate-begins-5
+slice-aggregate-begins-5 c = search needs
+
+begins-requires-5 : tie.Need-begins-requires-5
+begins-requires-5 c κs = search needs
+
+returns-5 : tie.Need-returns-5
+unfolding shortCommand
+returns-5 c = rw (sym (c .before .before .before .before .before .before .before .before .before .before .before .before .before .begins .ensures) ∙ c .before .before .before .before .before .before .before .before .before .before .before .before .if1 .left, sym (c .before .before .before .before .before .before .before .before .before .before .begins2 .ensures) ∙ c .before .before .before .before .before .before .before .before .before .if2 .left, sym (c .before .before .before .before .before .before .before .begins3 .ensures) ∙ c .before .before .before .before .before .before .if3 .left, sym (c .before .before .before .before .begins4 .ensures) ∙ c .before .before .before .if4 .left, sym (c .before .begins5 .ensures) ∙ c .if5 .taken)
+
+returns-6 : tie.Need-returns-6
+unfolding shortCommand
+returns-6 c = rw (sym (c .before .before .before .before .before .before .before .before .before .before .before .before .before .begins .ensures) ∙ c .before .before .before .before .before .before .before .before .before .before .before .before .if1 .left, sym (c .before .before .before .before .before .before .before .before .before .before .begins2 .ensures) ∙ c .before .before .before .before .before .before .before .before .before .if2 .left, sym (c .before .before .before .before .before .before .before .begins3 .ensures) ∙ c .before .before .before .before .before .before .if3 .left, sym (c .before .before .before .before .begins4 .ensures) ∙ c .before .before .before .if4 .left, sym (c .before .begins5 .ensures) ∙ c .if5 .left)
+
+pub short-command-spec : {M : Type 1} → statement M
+short-command-spec = tie.close (tie.spec slice-aggregate-begins begins-requires returns slice-aggregate-begins-2 begins-requires-2 returns-2 slice-aggregate-begins-3 begins-requires-3 returns-3 slice-aggregate-begins-4 begins-requires-4 returns-4 slice-aggregate-begins-5 begins-requires-5 returns-5 returns-6)

@@ -1,0 +1,23 @@
+-- `recording::language::Language::there` meets its contract, by the language. Assumes nothing.
+use mathlib.Core.Path.{_≡_, refl, sym, ap, _∙_}
+use Rattle.recording.specs.Line.{thereAt}
+use borrow.Author.Needs.{needs}
+use Rattle.recording.proofs.language.Language.there.Statement.{statement}
+use Rattle.recording.proofs.language.Language.there.Tie as tie
+
+enum-told : tie.Need-enum-told
+enum-told c = search needs
+
+enum-told-2 : tie.Need-enum-told-2
+enum-told-2 c = search needs
+
+returns : tie.Need-returns
+unfolding thereAt
+returns c = sym (ap thereAt (c .enum-told .given .1))
+
+returns-2 : tie.Need-returns-2
+unfolding thereAt
+returns-2 c = sym (ap thereAt (c .enum-told2 .given .1))
+
+pub there-spec : {M : Type 1} → statement M
+there-spec = tie.close (tie.spec enum-told enum-told-2 returns returns-2)

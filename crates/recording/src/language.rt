@@ -1,0 +1,42 @@
+// The two languages.
+use calls::STATE;
+use gateway::fresh_start;
+ghost use mathlib.Core.Path.{_≡_};
+ghost use Rattle.recording.specs.Line.{thereAt, pairsAt, firstState};
+
+// What the lines are.
+pub enum Language {
+    // The pairs of a request each, to a gateway with process 2 alone.
+    Bench,
+    // Calls of a recording, to a gateway with no process before the first start.
+    Recording,
+}
+
+impl Language {
+    // The processes that are there at first.
+    fn there(self) -> [bool; 8]
+        ensures { λ r. ⌜ r ≡ thereAt self ⌝ }
+    {
+        match self {
+            Language::Bench => [false, false, true, false, false, false, false, false],
+            Language::Recording => [false; 8],
+        }
+    }
+
+    // Where in a line the pairs of a request begin: in a recording after the word and a blank.
+    pub(crate) fn pairs_at(self) -> usize
+        ensures { λ r. ⌜ r ≡ pairsAt self ⌝ }
+    {
+        match self {
+            Language::Bench => 0,
+            Language::Recording => 8,
+        }
+    }
+}
+
+// Writes the state before the first line.
+pub fn begin(language: Language, state: &mut [u8; STATE])
+    ensures { λ _. ⌜ now (state .exit) ≡ firstState language (now (state .entry)) ⌝ }
+{
+    fresh_start(language.there(), state);
+}
