@@ -70,7 +70,7 @@ loop-again c =
     let i = c .before .before .before .before .before .before .before .before .before .before .before .before .before .before .before .loop in
     let a = c .before .before .before .before .before .before .before .before .before .before .before .before .before .before .before .before .before .before .args in
     let m = moved f in
-    (m .1, omega (arith, f .feed .kept, i .inv .1), through-turn (a .language) (length (i .out)) _ _ (i .at) (f .feed .result .used) (a .block .now) _ (i .inv .0) (f .feed .ensures .session) (f .feed .ensures .used) (i .inv .2))
+    (m .1, omega (arith, f .feed .kept, i .inv .1), through-turn (a .language) (length (i .out)) (session (reading (i .now) (i .line)) (i .state) (i .memory)) (session (reading (f .feed .result .partial) (f .feed .last .1 .1 .1 .1 .0)) (f .feed .last .1 .1 .0) (f .feed .last .1 .1 .1 .0)) (i .at) (f .feed .result .used) (a .block .now) _ (i .inv .0) (f .feed .ensures .session) (f .feed .ensures .used) (i .inv .2))
 
 same-length : tie.Need-same-length Inv-loop μ-loop
 same-length c = c .before .loop .inv .1

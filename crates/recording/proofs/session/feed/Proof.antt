@@ -38,7 +38,7 @@ returns : tie.Need-returns Inv-loop μ-loop
 returns c =
     let i = c .before .before .before .before .loop in
     let a = c .before .before .before .before .before .before .before .args in
-    feeds-wait (a .language) (a .block .now) (i .at) (i .len) _ (i .out) (a .out .now) (i .inv .1) (i .inv .2) (i .inv .3) (i .now) (i .line) (i .state) (i .memory) _ refl (omega arith) (sym (c .before .must-wait .ensures) ∙ c .if1 .taken) (i .inv .4)
+    feeds-wait (a .language) (a .block .now) (i .at) (i .len) (session (reading (i .now) (i .line)) (i .state) (i .memory)) (i .out) (a .out .now) (i .inv .1) (i .inv .2) (i .inv .3) (i .now) (i .line) (i .state) (i .memory) _ refl (omega arith) (sym (c .before .must-wait .ensures) ∙ c .if1 .taken) (i .inv .4)
 
 shared-slice-read-read-character : tie.Need-shared-slice-read-read-character Inv-loop μ-loop
 shared-slice-read-read-character c = omega arith
@@ -61,9 +61,8 @@ read-character-requires c κs =
 add-len : tie.Need-add-len Inv-loop μ-loop
 add-len c =
     let i = c .before .before .before .before .before .before .before .before .before .before .before .before .before .before .loop in
-    let a = c .before .before .before .before .before .before .before .before .before .before .before .before .before .before .before .before .before .args in
-    let done = turn (a .language) (a .block .now) (i .at) (i .len) _ (i .out) (a .out .now) (i .inv .1) (i .inv .2) (i .inv .3) (c .before .before .before .before .read-character .result) _ _ _ _ (omega arith) (sym (c .before .before .before .before .before .before .before .before .before .before .before .must-wait .ensures) ∙ c .before .before .before .before .before .before .before .before .before .before .if1 .left) (c .before .before .before .before .read-character .ensures) _ (i .inv .4) in
-    omega (arith, done .0, done .1, i .inv .2, c .before .before .before .before .before .before .before .before .before .before .before .before .before .before .before .before .before .good .1 .1 .1 .1 .1 .1)
+    let size : length (take (length (i .out) - i .len) (drop (i .len) (i .out))) ≡ length (i .out) - i .len = length-take-le _ (drop (i .len) (i .out)) (omega (arith, length-drop (i .len) (i .out))) in
+    omega (arith, c .before .before .before .before .read-character .ensures .text .fits, size, i .inv .1, i .inv .2, c .before .before .before .before .before .before .before .before .before .before .before .before .before .before .before .before .before .good .1 .1 .1 .1 .1 .1)
 
 add-at : tie.Need-add-at Inv-loop μ-loop
 add-at c = omega arith
@@ -75,7 +74,7 @@ loop-again : tie.Need-loop-again Inv-loop μ-loop
 loop-again c =
     let i = c .before .before .before .before .before .before .before .before .before .before .before .before .before .before .loop in
     let a = c .before .before .before .before .before .before .before .before .before .before .before .before .before .before .before .before .before .args in
-    let done = turn (a .language) (a .block .now) (i .at) (i .len) _ (i .out) (a .out .now) (i .inv .1) (i .inv .2) (i .inv .3) (c .before .before .before .before .read-character .result) _ _ _ _ (omega arith) (sym (c .before .before .before .before .before .before .before .before .before .before .before .must-wait .ensures) ∙ c .before .before .before .before .before .before .before .before .before .before .if1 .left) (c .before .before .before .before .read-character .ensures) _ (i .inv .4) in
+    let done = turn (a .language) (a .block .now) (i .at) (i .len) (session (reading (i .now) (i .line)) (i .state) (i .memory)) (i .out) (a .out .now) (i .inv .1) (i .inv .2) (i .inv .3) (c .before .before .before .before .read-character .result) _ _ _ _ (omega arith) (sym (c .before .before .before .before .before .before .before .before .before .before .before .must-wait .ensures) ∙ c .before .before .before .before .before .before .before .before .before .before .if1 .left) (c .before .before .before .before .read-character .ensures) _ (i .inv .4) in
     (omega arith, done .0, done .1, done .2, done .3)
 
 same-length-2 : tie.Need-same-length-2 Inv-loop μ-loop
@@ -85,7 +84,7 @@ returns-2 : tie.Need-returns-2 Inv-loop μ-loop
 returns-2 c =
     let i = c .before .loop in
     let a = c .before .before .before .before .args in
-    feeds-all (a .language) (a .block .now) (i .at) (i .len) _ (i .out) (a .out .now) (i .inv .1) (i .inv .2) (i .inv .3) (i .now) (i .line) (i .state) (i .memory) _ refl (omega arith) (i .inv .4)
+    feeds-all (a .language) (a .block .now) (i .at) (i .len) (session (reading (i .now) (i .line)) (i .state) (i .memory)) (i .out) (a .out .now) (i .inv .1) (i .inv .2) (i .inv .3) (i .now) (i .line) (i .state) (i .memory) _ refl (omega arith) (i .inv .4)
 
 pub feed-spec : {M : Type 1} → statement M
 feed-spec =
