@@ -5,7 +5,7 @@ use Prim.Native.Nat.{ℕ, _-_}
 use lib.ListN.{length, take, drop, replicate}
 use Rattle.format.specs.declared.outcome.Outcome.{Outcome}
 use Rattle.format.specs.Outcome.{numberOf}
-use Rattle.state.specs.Gateway.{processAt}
+use Rattle.state.specs.Records.{processAt}
 use Rattle.state.specs.Slot.{slot}
 use Rattle.rules.specs.Tests.{lent}
 use Rattle.rules.specs.Step.{request, report, stored}

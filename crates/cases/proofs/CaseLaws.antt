@@ -18,13 +18,11 @@ use Rattle.breakpoints.specs.Seen.{restored, seen, savedFrom, overlaySavedByte,
 use Rattle.process.specs.Request.{sheltered}
 use Rattle.breakpoints.specs.Entry.{validBreakAddress}
 use Rattle.process.specs.Sound.{absentHasNoHost, liftSound, usedSound, entrySound, soundTest}
-use Rattle.state.specs.Gateway.{freshStart}
-use Rattle.state.specs.Gateway.{soundTest as soundState}
+use Rattle.state.specs.Records.{freshStart, soundTest as soundState, lowestAbsent}
 use Rattle.state.specs.Slot.{startOf, slot, withSlot}
 use Rattle.rules.specs.Rule.{public, ruleOf, names}
 use Rattle.rules.specs.Run.{run}
 use Rattle.rules.specs.Step.{put, grantedNamed, grantedCreate, granted, refused, requested, noticeTo, notified, noted, step}
-use Rattle.state.specs.Gateway.{lowestAbsent}
 use Rattle.rules.specs.Tests.{askedTests, requestNumber, reportNumber}
 use Rattle.cases.specs.Case.{lengthWritten}
 use Rattle.cases.specs.Cases.{CasesHold}

@@ -9,7 +9,7 @@ use lib.ListN.{length, getD}
 use lib.Dec.{eqb}
 use Rattle.lists.specs.Every.{below}
 use Rattle.lists.proofs.Every.{below-at}
-use Rattle.state.specs.Gateway.{processAt}
+use Rattle.state.specs.Records.{processAt, freshStart, soundTest as soundState, lowestAbsent}
 use Rattle.lists.specs.Buffer.{overlay}
 use Rattle.lists.specs.Word.{lowFirst}
 use Rattle.format.specs.Answer.{cantOf, createdOf, noticeOf}
@@ -28,13 +28,10 @@ use Rattle.breakpoints.specs.Seen.{restored, seen, savedFrom, overlaySavedByte,
 use Rattle.process.specs.Request.{sheltered}
 use Rattle.breakpoints.specs.Entry.{validBreakAddress}
 use Rattle.process.specs.Sound.{absentHasNoHost, liftSound, usedSound, entrySound, soundTest}
-use Rattle.state.specs.Gateway.{freshStart}
-use Rattle.state.specs.Gateway.{soundTest as soundState}
 use Rattle.state.specs.Slot.{startOf, slot, withSlot}
 use Rattle.rules.specs.Rule.{public, ruleOf, names}
 use Rattle.rules.specs.Run.{run}
 use Rattle.rules.specs.Step.{put, grantedNamed, grantedCreate, granted, refused, requested, noticeTo, notified, noted, step}
-use Rattle.state.specs.Gateway.{lowestAbsent}
 use Rattle.rules.specs.Tests.{askedTests, requestNumber, reportNumber}
 use Rattle.rules.specs.Tests.{State}
 use Rattle.rules.specs.Step.{Answer, localOf, stored}
@@ -45,10 +42,10 @@ use Rattle.rules.specs.Outsider.{only, Never, Outside}
 use Rattle.cases.specs.Pair.{one, other, oneCalls, otherCalls, PremisesMet}
 
 abbrev eightTest : State → Bool
-eightTest s = below (λ (p : ℕ). eqb (length (processAt (s .gateway) p .breaks)) 8) 8
+eightTest s = below (λ (p : ℕ). eqb (length (processAt (s .records) p .breaks)) 8) 8
 
-eight : (s : State) → eightTest s ≡ true → (p : ℕ) → p < 8 → length (processAt (s .gateway) p .breaks) ≡ 8
-eight s e p h = eqb-true _ 8 (below-at (λ (q : ℕ). eqb (length (processAt (s .gateway) q .breaks)) 8) 8 p h e)
+eight : (s : State) → eightTest s ≡ true → (p : ℕ) → p < 8 → length (processAt (s .records) p .breaks) ≡ 8
+eight s e p h = eqb-true _ 8 (below-at (λ (q : ℕ). eqb (length (processAt (s .records) q .breaks)) 8) 8 p h e)
 
 one-ready : Ready one
 unfolding overlay lowFirst cantOf createdOf noticeOf written headerOf stringOf fixedRight numberOf firstFailing unusedZero carriedLength wrongLength wrongHeader misfits rowOf requestForm matches find plantedIn liftedIn removedFrom replanted liftedAt fresh accepts storeVectorAndReplant passes verdictOf recipientOf passed runAfter reported hasBreak hasRoom examined deposited vectorAfter breakSet breakRemoved created cleared restored seen savedFrom sheltered overlaySavedByte overlaySavedWord validBreakAddress absentHasNoHost liftSound usedSound entrySound soundTest freshStart soundState startOf slot withSlot public ruleOf names run put grantedNamed grantedCreate granted refused requested noticeTo notified noted step lowestAbsent askedTests requestNumber reportNumber

@@ -8,7 +8,7 @@ use Rattle.format.specs.declared.outcome.Outcome.{Outcome}
 use Rattle.format.specs.declared.outcome.Outcome.the-variants.{Granted, Refused}
 use Rattle.format.specs.Outcome.{numberOf}
 use Rattle.format.specs.Layout.{written}
-use Rattle.state.specs.Gateway.{freshStart}
+use Rattle.state.specs.Records.{freshStart}
 use Rattle.rules.specs.Step.{Call, request}
 use Rattle.rules.specs.Run.{Entry, run}
 
@@ -43,7 +43,7 @@ seenOf places e = record {
 
 -- what is seen when the calls of a case are run
 abbrev pub outcomes : Case → List Seen
-outcomes c = map (seenOf (c .places)) (run (record { gateway = freshStart (c .there); memory = c .lent }) (c .calls))
+outcomes c = map (seenOf (c .places)) (run (record { records = freshStart (c .there); memory = c .lent }) (c .calls))
 
 -- ---- calls
 

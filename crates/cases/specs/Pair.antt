@@ -7,7 +7,7 @@ use Prim.Native.Nat.{ℕ}
 use lib.ListN.{set}
 use Rattle.run_state.specs.declared.Run.the-variants.{Running, Stopped}
 use Rattle.process.specs.Record.{fresh}
-use Rattle.state.specs.Gateway.{freshStart, withProcess}
+use Rattle.state.specs.Records.{freshStart, withProcess}
 use Rattle.rules.specs.Tests.{State}
 use Rattle.rules.specs.Step.{Call, report, store}
 use Rattle.rules.specs.Ready.{Ready}
@@ -23,11 +23,11 @@ twoThere = false ∷ false ∷ true ∷ true ∷ false ∷ false ∷ false ∷ f
 
 -- the one gateway: host 6 debugs process 2, which runs in the one and is stopped in the other; its first byte differs
 abbrev pub one : State
-one = record { gateway = withProcess 2 (fresh true 6 Running) (freshStart twoThere); memory = zeros }
+one = record { records = withProcess 2 (fresh true 6 Running) (freshStart twoThere); memory = zeros }
 
 -- the other gateway
 abbrev pub other : State
-other = record { gateway = withProcess 2 (fresh true 6 Stopped) (freshStart twoThere); memory = set zeros 8192 7 }
+other = record { records = withProcess 2 (fresh true 6 Stopped) (freshStart twoThere); memory = set zeros 8192 7 }
 
 -- host 5 asks for process 2, which he does not debug, and examines process 3
 abbrev pub closing : List Call

@@ -22,7 +22,7 @@ use Rattle.message.specs.declared.request.Incoming.{Incoming}
 use Rattle.message.specs.declared.request.Incoming.the-variants.{Request, Refused as IncomingRefused}
 use Rattle.format.proofs.OutcomeLaws.{message-zero, message-header}
 use Rattle.rules.specs.Rule.{names, creates}
-use Rattle.state.specs.Gateway.{lowestAbsent}
+use Rattle.state.specs.Records.{lowestAbsent}
 use Rattle.rules.specs.Tests.{State, recordOf, askedTests}
 use Rattle.rules.specs.Step.{Answer, Stepped, replyOf, localOf, put, grantedNamed, grantedCreate, granted, refused}
 use Rattle.rules.proofs.NumberLaws.{envelope, envelope-sent}
@@ -147,11 +147,11 @@ module _ (h : Header) (string buffer : List ℕ) (s : State) where
   asked-beyond g = rw (g .0, le-ltb (h .pid) 8 (g .1))
 
   module _ (g : Goes h New) where
-    pub asked-new : (p : ℕ) → p ≡ lowestAbsent (s .gateway) → p < 8 → asked h string buffer s ≡ stepped p (createdAt p h buffer) s
+    pub asked-new : (p : ℕ) → p ≡ lowestAbsent (s .records) → p < 8 → asked h string buffer s ≡ stepped p (createdAt p h buffer) s
     unfolding createdAt asked granted grantedCreate askedTests firstFailing
     asked-new p e low = rw (g .0, g .1, ← e, lt-ltb p 8 low)
 
-    pub asked-full : 8 ≤ lowestAbsent (s .gateway) → asked h string buffer s ≡ unmoved (cantBy 13 h buffer) s
+    pub asked-full : 8 ≤ lowestAbsent (s .records) → asked h string buffer s ≡ unmoved (cantBy 13 h buffer) s
     unfolding cantBy asked refused askedTests firstFailing
     asked-full far = rw (g .0, g .1, le-ltb _ _ far)
 

@@ -14,7 +14,7 @@ use Rattle.gateway.specs.Demands.{DidStep, Done, Demands}
 
 did-after : (s : State) (c : Call) (e : Entry) → DidStep s c e → e .after ≡ step s c .after
 did-after s c e d =
-    let same : e .after ≡ record { gateway = step s c .after .gateway; memory = step s c .after .memory } = rw (← d .gateway, ← d .memory) in
+    let same : e .after ≡ record { records = step s c .after .records; memory = step s c .after .memory } = rw (← d .records, ← d .memory) in
     same
 
 did-answer : (s : State) (c : Call) (e : Entry) → DidStep s c e → e .answer ≡ step s c .answer

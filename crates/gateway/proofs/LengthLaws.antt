@@ -15,7 +15,7 @@ use Rattle.format.specs.Layout.{written, headerOf, stringOf}
 use Rattle.format.specs.Answer.{cantOf, createdOf, noticeOf}
 use Rattle.format.proofs.LayoutLaws.{length-written}
 use Rattle.rules.specs.Rule.{ruleOf, names, creates}
-use Rattle.state.specs.Gateway.{lowestAbsent}
+use Rattle.state.specs.Records.{lowestAbsent}
 use Rattle.rules.specs.Tests.{State, requestNumber, reportNumber}
 use Rattle.rules.specs.Step.{localOf, put, replied, replyOf, answers, grantedNamed, grantedCreate, granted, refused, requested, noticeTo, notified, noted}
 use Rattle.rules.specs.Total.{cantOver}
@@ -71,14 +71,14 @@ refused-front n h buffer s = go (ltb n 7)
 granted-bytes : Header → List ℕ → State → List ℕ
 granted-bytes h string s =
     cond (names (h .cmd)) (written h (ruleOf (h .cmd) .shown h (localOf s (h .pid))))
-    (cond (creates (h .cmd)) (written (createdOf h (lowestAbsent (s .gateway))) []) (written h []))
+    (cond (creates (h .cmd)) (written (createdOf h (lowestAbsent (s .records))) []) (written h []))
 
 granted-front : (h : Header) (string buffer : List ℕ) (s : State) → front replyLength (granted h string buffer s .answer) ≡ granted-bytes h string s
 unfolding granted grantedNamed grantedCreate granted-bytes
 granted-front h string buffer s = go (names (h .cmd)) (creates (h .cmd))
   where
     go : (t u : Bool) → front replyLength (cond t (grantedNamed h string buffer s) (cond u (grantedCreate h buffer s) (replied h [] buffer s)) .answer)
-        ≡ cond t (written h (ruleOf (h .cmd) .shown h (localOf s (h .pid)))) (cond u (written (createdOf h (lowestAbsent (s .gateway))) []) (written h []))
+        ≡ cond t (written h (ruleOf (h .cmd) .shown h (localOf s (h .pid)))) (cond u (written (createdOf h (lowestAbsent (s .records))) []) (written h []))
     go true u = written-front h _ buffer
     go false true = written-front _ [] buffer
     go false false = written-front h [] buffer

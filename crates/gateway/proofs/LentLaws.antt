@@ -10,7 +10,7 @@ use lib.Dec.{eqb}
 use Rattle.lists.proofs.Bool.{&&-left}
 use Rattle.format.specs.declared.outcome.Outcome.the-variants.{Refused}
 use Rattle.format.specs.Outcome.{firstFailing}
-use Rattle.state.specs.Gateway.{soundTest}
+use Rattle.state.specs.Records.{soundTest}
 use Rattle.rules.specs.Tests.{State, lent, noRoom}
 use Rattle.rules.specs.Step.{Call, request, report, answers, step, requested, noted}
 use Rattle.rules.specs.Isolation.{isGranted}

@@ -9,10 +9,8 @@ use Rattle.lists.proofs.Every.{below-at}
 use Rattle.process.specs.declared.record.Process.{Process}
 use Rattle.process.specs.Sound.{soundTest}
 use Rattle.process.specs.Local.{local, Tested}
-use Rattle.state.specs.declared.gateway.Gateway.{Gateway}
-use Rattle.state.specs.Gateway.{processAt}
+use Rattle.state.specs.Records.{Records, processAt, soundTest as soundState}
 use Rattle.state.specs.Slot.{startOf, slot, withSlot}
-use Rattle.state.specs.Gateway.{soundTest as soundState}
 use Rattle.state.proofs.SlotLaws.{length-slot}
 use Rattle.rules.specs.Tests.{lent}
 use Rattle.rules.specs.Step.{localOf}
@@ -30,7 +28,7 @@ module _ (p start : ℕ) (memory : List ℕ) (e : start ≡ startOf p) where
   slot-back bytes = rw (size, e)
 
 -- a process of a sound state, with its bytes
-pub tested-part : (g : Gateway) (memory : List ℕ) (p start : ℕ) → p < 8 → start ≡ startOf p → length memory ≡ 32768 → soundState g ≡ true
+pub tested-part : (g : Records) (memory : List ℕ) (p start : ℕ) → p < 8 → start ≡ startOf p → length memory ≡ 32768 → soundState g ≡ true
     → Tested (processAt g p) (take (start + 4096 - start) (drop start memory))
 unfolding soundState
 tested-part g memory p start low e size sound = record {
@@ -38,6 +36,6 @@ tested-part g memory p start low e size sound = record {
   size = rw (slot-part p start memory e) (length-slot p memory low size);
 }
 
-pub local-part : (g : Gateway) (memory : List ℕ) (p start : ℕ) (q : Process) → start ≡ startOf p → q ≡ processAt g p
+pub local-part : (g : Records) (memory : List ℕ) (p start : ℕ) (q : Process) → start ≡ startOf p → q ≡ processAt g p
     → local q (take (start + 4096 - start) (drop start memory)) ≡ localOf (lent g memory) p
 local-part g memory p start q e i = rw (slot-part p start memory e, i)

@@ -19,8 +19,7 @@ use Rattle.message.specs.Exchange.{readNumber, reads}
 use Rattle.format.specs.declared.outcome.Outcome.the-variants.{Refused as OutcomeRefused}
 use Rattle.format.specs.declared.outcome.Reading.the-variants.{Refused as ReadingRefused}
 use Rattle.format.proofs.OutcomeLaws.{message-header, first-passes, rest-passes}
-use Rattle.state.specs.declared.gateway.Gateway.{Gateway}
-use Rattle.state.specs.Gateway.{soundTest}
+use Rattle.state.specs.Records.{Records, soundTest}
 use Rattle.rules.specs.Tests.{State, lent, noRoom, unsound, askedTests, requestNumber}
 use Rattle.rules.specs.Step.{answers, refused, requested}
 use Rattle.rules.proofs.NumberLaws.{orElse}
@@ -105,12 +104,12 @@ module _ (s : State) (m buffer : List ℕ) where
 
 -- ---- what is lent, where the tests 1 and 2 pass
 
-pub record Fit (g : Gateway) (m buffer : List ℕ) : Type 0 where
+pub record Fit (g : Records) (m buffer : List ℕ) : Type 0 where
   pub memory : length m ≡ 32768
   pub room : 266 ≤ length buffer
   pub sound : soundTest g ≡ true
 
-pub lent-fit : (g : Gateway) (memory buffer : List ℕ) → lentNumber (lent g memory) buffer ≡ 0 → Fit g memory buffer
+pub lent-fit : (g : Records) (memory buffer : List ℕ) → lentNumber (lent g memory) buffer ≡ 0 → Fit g memory buffer
 unfolding lentNumber
 lent-fit g memory buffer e =
     let one = first-passes 0 _ _ e in

@@ -7,7 +7,7 @@ use lib.ListN.{length}
 use lib.Dec.{eqb}
 use Rattle.format.specs.declared.outcome.Outcome.{Outcome}
 use Rattle.format.specs.declared.outcome.Outcome.the-variants.{Granted, Refused}
-use Rattle.state.specs.Gateway.{freshStart}
+use Rattle.state.specs.Records.{freshStart}
 use Rattle.rules.specs.Tests.{lent, noRoom}
 use Rattle.rules.specs.Step.{Stepped, Call, request, report, store, step}
 use Rattle.rules.specs.Isolation.{isGranted}
@@ -32,7 +32,7 @@ refusedBy number state memory buffer = called (Refused number) state memory buff
 -- a step of the rules, on the record that the bytes are the form of; a refused one leaves the bytes
 unfoldable pub finished : List ℕ → Stepped → Called
 finished state x =
-    called (x .answer .outcome) (cond (isGranted (x .answer .outcome)) (stateBytes (x .after .gateway)) state) (x .after .memory) (x .answer .buffer)
+    called (x .answer .outcome) (cond (isGranted (x .answer .outcome)) (stateBytes (x .after .records)) state) (x .after .memory) (x .answer .buffer)
 
 -- the tests 1 and 2, which every call makes first
 unfoldable pub lentOn : List ℕ → List ℕ → List ℕ → ℕ

@@ -15,7 +15,7 @@ pub record DidStep (s : State) (c : Call) (e : Entry) : Type 0 where
   pub call : e .call ≡ c
   pub outcome : e .answer .outcome ≡ step s c .answer .outcome
   pub buffer : e .answer .buffer ≡ step s c .answer .buffer
-  pub gateway : e .after .gateway ≡ step s c .after .gateway
+  pub gateway : e .after .records ≡ step s c .after .records
   pub memory : e .after .memory ≡ step s c .after .memory
 
 -- calls one after another, each on the state and memory that the one before it left

@@ -23,9 +23,8 @@ use Rattle.process.specs.declared.record.Process.{Process}
 use Rattle.process.specs.Record.{fresh}
 use Rattle.process.specs.Local.{Local, Proper}
 use Rattle.process.specs.Request.{created}
-use Rattle.state.specs.Gateway.{lowestAbsent}
-use Rattle.state.specs.Gateway.{nobody as noProcess}
-use Rattle.state.proofs.GatewayLaws.{state-sound}
+use Rattle.state.specs.Records.{lowestAbsent, nobody as noProcess}
+use Rattle.state.proofs.RecordsLaws.{state-sound}
 use Rattle.rules.specs.Rule.{Rule, Public, public, ruleOf, names, creates}
 use Rattle.rules.specs.Tests.{State, askedTests, requestTests, requestNumber}
 use Rattle.rules.specs.Access.{by, insider, numberAt}
@@ -121,18 +120,18 @@ create-fair h p asked = record {
 }
 
 -- the record that CREATE takes has no host
-absent-unheld : (s : State) → Ready s → lowestAbsent (s .gateway) < 8 → publicOf s (lowestAbsent (s .gateway)) .host ≡ 0
+absent-unheld : (s : State) → Ready s → lowestAbsent (s .records) < 8 → publicOf s (lowestAbsent (s .records)) .host ≡ 0
 unfolding lowestAbsent public
 absent-unheld s r low =
     let e = r .processes in
-    let gone = first-passes (λ (p : Process). not (p .there)) (s .gateway .processes) noProcess (omega (arith, low, e)) in
-    state-sound (s .gateway) (r .sound) (lowestAbsent (s .gateway)) low .absent (not-true _ gone) .0
+    let gone = first-passes (λ (p : Process). not (p .there)) (s .records .processes) noProcess (omega (arith, low, e)) in
+    state-sound (s .records) (r .sound) (lowestAbsent (s .records)) low .absent (not-true _ gone) .0
 
-same-absent : (s t : State) → Ready s → Ready t → Shown s t → lowestAbsent (s .gateway) ≡ lowestAbsent (t .gateway)
+same-absent : (s t : State) → Ready s → Ready t → Shown s t → lowestAbsent (s .records) ≡ lowestAbsent (t .records)
 unfolding lowestAbsent public
 same-absent s t r q a =
     let e = r .processes in let i = q .processes in
-    first-alike (λ (p : Process). not (p .there)) (s .gateway .processes) (t .gateway .processes) noProcess (e ∙ sym i)
+    first-alike (λ (p : Process). not (p .there)) (s .records .processes) (t .records .processes) noProcess (e ∙ sym i)
     (λ k h. ap (λ (u : Public). not (u .there)) (a k (omega (arith, h, e))))
 
 -- no op code both names a process and creates one
@@ -171,13 +170,13 @@ module _ (m buffer : List ℕ) (s : State) (r : Ready s) (sent : Sent m) where
     turns = λ z. known .turns h refl (publicOf s (h .pid)) (not-false _ (head-passes 7 _ _ (rest-passes 6 _ _ z)));
   }
 
-  place-created : names (headerOf m .cmd) ≡ false → creates (headerOf m .cmd) ≡ true → lowestAbsent (s .gateway) < 8
-      → There s here (lowestAbsent (s .gateway)) (createAccess h (lowestAbsent (s .gateway)))
+  place-created : names (headerOf m .cmd) ≡ false → creates (headerOf m .cmd) ≡ true → lowestAbsent (s .records) < 8
+      → There s here (lowestAbsent (s .records)) (createAccess h (lowestAbsent (s .records)))
   unfolding asker subject namesOne fieldsOf bufferOf toldOf isGranted createAccess overlay written createdOf
   place-created n c low = record {
     low = low;
     then = createdThen h;
-    fair = create-fair h (lowestAbsent (s .gateway)) (sent .asked .hosted);
+    fair = create-fair h (lowestAbsent (s .records)) (sent .asked .hosted);
     named = λ P e. absurd (true≢false (sym (&&-left (names (h .cmd)) (P (h .pid)) (&&-right (leb 10 (length m)) (names (h .cmd) && P (h .pid)) e)) ∙ n));
     reaches = inr (eqb-true (h .cmd) 12 c);
     told = λ d l q. rw (n, c);

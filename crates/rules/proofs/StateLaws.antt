@@ -11,9 +11,9 @@ use lib.Dec.{eqb}
 use Rattle.process.specs.declared.record.Process.{Process}
 use Rattle.process.specs.Sound.{Sound}
 use Rattle.process.specs.Local.{Local, local, Proper}
-use Rattle.state.specs.Gateway.{nobody}
+use Rattle.state.specs.Records.{nobody}
 use Rattle.state.specs.Slot.{slot, withSlot}
-use Rattle.state.proofs.GatewayLaws.{state-sound, state-passes}
+use Rattle.state.proofs.RecordsLaws.{state-sound, state-passes}
 use Rattle.state.proofs.SlotLaws.{length-slot, length-withSlot, withSlot-slot, slot-same, slot-other}
 use Rattle.rules.specs.Rule.{public}
 use Rattle.rules.specs.Tests.{State, recordOf}
@@ -25,7 +25,7 @@ use Rattle.rules.proofs.ProperLaws.{sound-of, proper-of}
 -- each process of a sound state is sound, with its bytes
 pub local-proper : (s : State) → Ready s → (p : ℕ) → p < 8 → Proper (localOf s p)
 local-proper s r p h =
-    proper-of (localOf s p) (state-sound (s .gateway) (r .sound) p h) (r .entries p h) (length-slot p (s .memory) h (r .memory))
+    proper-of (localOf s p) (state-sound (s .records) (r .sound) p h) (r .entries p h) (length-slot p (s .memory) h (r .memory))
 
 -- what is in a state that is s but for process p
 pub record Changed (s t : State) (p : ℕ) (l : Local) : Type 0 where
@@ -37,14 +37,14 @@ unchanged s p = record { here = refl; else = λ q h n. refl }
 
 -- past the eight processes there is none
 pub public-past : (s : State) → Ready s → (p : ℕ) → 8 ≤ p → publicOf s p ≡ public nobody
-public-past s r p h = let e = r .processes in ap public (List·getD-eq-default (s .gateway .processes) nobody (omega arith))
+public-past s r p h = let e = r .processes in ap public (List·getD-eq-default (s .records .processes) nobody (omega arith))
 
 -- a process put back as it is
 pub put-same : (p : ℕ) (s : State) → put p (localOf s p) s ≡ s
 unfolding put
 put-same p s =
-    ap (λ (ps : List Process). record { gateway = record { processes = ps }; memory = withSlot p (slot p (s .memory)) (s .memory) }) (set-getD (s .gateway .processes) p nobody)
-    ∙ ap (λ (m : List ℕ). record { gateway = s .gateway; memory = m }) (withSlot-slot p (s .memory))
+    ap (λ (ps : List Process). record { records = record { processes = ps }; memory = withSlot p (slot p (s .memory)) (s .memory) }) (set-getD (s .records .processes) p nobody)
+    ∙ ap (λ (m : List ℕ). record { records = s .records; memory = m }) (withSlot-slot p (s .memory))
 
 pair : {x y : Process} {bs cs : List ℕ} → x ≡ y → bs ≡ cs → local x bs ≡ local y cs
 pair e q = ap₂ (λ (x : Process) (bs : List ℕ). local x bs) e q
@@ -53,9 +53,9 @@ module _ (s : State) (r : Ready s) (p : ℕ) (h : p < 8) (l : Local) (g : Proper
   pub put-changed : Changed s (put p l s) p l
   unfolding put
   put-changed = let e = r .processes in record {
-    here = pair (getD-set-same (s .gateway .processes) p (l .process) nobody (omega arith)) (slot-same p (l .bytes) (s .memory) h (r .memory) (g .tested .size));
+    here = pair (getD-set-same (s .records .processes) p (l .process) nobody (omega arith)) (slot-same p (l .bytes) (s .memory) h (r .memory) (g .tested .size));
     else = λ q i n.
-        pair (getD-set-other (s .gateway .processes) p q (l .process) nobody n)
+        pair (getD-set-other (s .records .processes) p q (l .process) nobody n)
         (slot-other p q (l .bytes) (s .memory) h i n (r .memory) (g .tested .size));
   }
 
@@ -71,13 +71,13 @@ module _ (s : State) (r : Ready s) (p : ℕ) (h : p < 8) (l : Local) (g : Proper
     where
       go : (t : Bool) → eqb q p ≡ t → Sound (recordOf (put p l s) q)
       go true e = subst (λ (x : Local). Sound (x .process)) (sym (ap (localOf (put p l s)) (eqb-true q p e) ∙ put-changed .here)) (sound-of l g)
-      go false e = subst (λ (x : Local). Sound (x .process)) (sym (put-changed .else q i (eqb-false q p e))) (state-sound (s .gateway) (r .sound) q i)
+      go false e = subst (λ (x : Local). Sound (x .process)) (sym (put-changed .else q i (eqb-false q p e))) (state-sound (s .records) (r .sound) q i)
 
   pub put-ready : Ready (put p l s)
   unfolding put
   put-ready = record {
     memory = length-withSlot p (l .bytes) (s .memory) h (r .memory) (g .tested .size);
-    processes = length-set (s .gateway .processes) p (l .process) ∙ r .processes;
+    processes = length-set (s .records .processes) p (l .process) ∙ r .processes;
     entries = eights;
-    sound = state-passes (put p l s .gateway) eights sounds;
+    sound = state-passes (put p l s .records) eights sounds;
   }

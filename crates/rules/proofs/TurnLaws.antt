@@ -15,7 +15,7 @@ use Rattle.format.proofs.LayoutLaws.{length-written}
 use Rattle.process.specs.Local.{Local}
 use Rattle.process.specs.Report.{recipientOf}
 use Rattle.run_state.specs.RunState.{accepts}
-use Rattle.state.specs.Gateway.{lowestAbsent}
+use Rattle.state.specs.Records.{lowestAbsent}
 use Rattle.rules.specs.Rule.{Rule, public, ruleOf, names, creates}
 use Rattle.rules.specs.Tests.{State, recordOf, noRoom, unsound, outerTests, innerTests, ruleTests, askedTests, requestNumber, badReport, reportNumber}
 use Rattle.rules.specs.Access.{Access, Place, nowhere, atProcess, Turn, numberAt, reached, taken}
@@ -60,7 +60,7 @@ module _ (h : Header) (string : List ℕ) (s : State) where
       go : (t : Bool) → names (h .cmd) ≡ t → (u : Bool) → creates (h .cmd) ≡ u
           → orElse (firstFailing (placeTests h s)) (placeNumber (requestPlace h string s) s) ≡ firstFailing (askedTests h s)
       go true e u i = rw e (named-number (ltb (h .pid) 8) (ruleOf (h .cmd)) h string (localOf s (h .pid)))
-      go false e true i = rw (e, i) (or-none (not (ltb (lowestAbsent (s .gateway)) 8)))
+      go false e true i = rw (e, i) (or-none (not (ltb (lowestAbsent (s .records)) 8)))
       go false e false i = rw (e, i)
 
 pub request-number : (m buffer : List ℕ) (s : State) → turnNumber (requestTurn m buffer s) s ≡ requestNumber s m buffer
@@ -104,7 +104,7 @@ module _ (m buffer : List ℕ) (s : State) where
           let a = ruleAccess (ruleOf (h .cmd)) h (stringOf m) in
           let here : requestPlace h (stringOf m) s ≡ atProcess (h .pid) a = rw n in
           near a (eqb (numberAt a (localOf s (h .pid))) 0) refl refl n (same ∙ ap (λ (x : Place). placeNumber x s) here) ∙ sym (ap (λ (x : Place). reached x buffer s) here)
-      go false n true c = let zero : requestNumber s m buffer ≡ 0 = rw (n, c) at same in rw (zero, n, c, length-written (createdOf h (lowestAbsent (s .gateway))) [])
+      go false n true c = let zero : requestNumber s m buffer ≡ 0 = rw (n, c) at same in rw (zero, n, c, length-written (createdOf h (lowestAbsent (s .records))) [])
       go false n false c = let zero : requestNumber s m buffer ≡ 0 = rw (n, c) at same in rw (zero, n, c, length-written h [])
 
   pub request-turn : requested m buffer s ≡ taken (requestTurn m buffer s) buffer s

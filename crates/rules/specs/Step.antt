@@ -16,7 +16,7 @@ use Rattle.process.specs.Request.{created}
 use Rattle.process.specs.Report.{reported, recipientOf}
 use Rattle.state.specs.Slot.{slot}
 use Rattle.rules.specs.Rule.{ruleOf, names, creates}
-use Rattle.state.specs.Gateway.{lowestAbsent}
+use Rattle.state.specs.Records.{lowestAbsent}
 use Rattle.rules.specs.Tests.{State, recordOf, requestNumber, reportNumber}
 pub use Rattle.rules.specs.Window.{Answer, Stepped, localOf}
 unfoldable pub use Rattle.rules.specs.Window.{put}
@@ -42,7 +42,7 @@ grantedNamed h string buffer s =
 -- CREATE: 'the lowest absent number'
 unfoldable pub grantedCreate : Header → List ℕ → State → Stepped
 grantedCreate h buffer s =
-    replied (createdOf h (lowestAbsent (s .gateway))) [] buffer (put (lowestAbsent (s .gateway)) (created (h .host)) s)
+    replied (createdOf h (lowestAbsent (s .records))) [] buffer (put (lowestAbsent (s .records)) (created (h .host)) s)
 
 -- a request whose tests all pass; NOP changes nothing
 unfoldable pub granted : Header → List ℕ → List ℕ → State → Stepped

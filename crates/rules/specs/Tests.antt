@@ -12,19 +12,18 @@ use Rattle.format.specs.Refusal.{layoutTests}
 use Rattle.process.specs.declared.record.Process.{Process}
 use Rattle.run_state.specs.ReportKind.{TRAP, TTRAP}
 use Rattle.run_state.specs.RunState.{accepts}
-use Rattle.state.specs.declared.gateway.Gateway.{Gateway}
-use Rattle.state.specs.Gateway.{processAt, lowestAbsent, soundTest}
+use Rattle.state.specs.Records.{Records, processAt, lowestAbsent, soundTest}
 use Rattle.state.specs.Slot.{capacity}
 use Rattle.rules.specs.Rule.{Rule, Public, public, ruleOf, names, creates}
 
 -- the gateway's eight records and the lent memory
 pub record State : Type 0 where
-  pub gateway : Gateway
+  pub records : Records
   pub memory : List ℕ
 
 -- the state that a call is given
-abbrev pub lent : Gateway → List ℕ → State
-lent g memory = record { gateway = g; memory = memory }
+abbrev pub lent : Records → List ℕ → State
+lent g memory = record { records = g; memory = memory }
 
 -- 1: 'memory not 32,768 bytes, or reply or notice buffer under 266'
 abbrev pub noRoom : List ℕ → List ℕ → Bool
@@ -32,11 +31,11 @@ noRoom memory buffer = not (eqb (length memory) capacity) || ltb (length buffer)
 
 -- 2: 'state not sound'
 abbrev pub unsound : State → Bool
-unsound s = not (soundTest (s .gateway))
+unsound s = not (soundTest (s .records))
 
 -- the record of a process
 abbrev pub recordOf : State → ℕ → Process
-recordOf s p = processAt (s .gateway) p
+recordOf s p = processAt (s .records) p
 
 -- 7: 'named process absent, or number over 7'
 abbrev pub absent : State → ℕ → Bool
@@ -63,7 +62,7 @@ ruleTests r h p = outerTests r h (public p) ++ innerTests r h p
 unfoldable pub askedTests : Header → State → List Test
 askedTests h s =
     cond (names (h .cmd)) (test 7 (absent s (h .pid)) ∷ ruleTests (ruleOf (h .cmd)) h (recordOf s (h .pid)))
-    (cond (creates (h .cmd)) (test 13 (not (ltb (lowestAbsent (s .gateway)) 8)) ∷ []) [])
+    (cond (creates (h .cmd)) (test 13 (not (ltb (lowestAbsent (s .records)) 8)) ∷ []) [])
 
 -- the tests of a request, in document 01's order
 abbrev pub requestTests : State → List ℕ → List ℕ → List Test

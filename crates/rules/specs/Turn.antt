@@ -15,7 +15,7 @@ use Rattle.process.specs.Local.{local}
 use Rattle.process.specs.Request.{created}
 use Rattle.run_state.specs.RunState.{accepts}
 use Rattle.process.specs.Report.{reported, recipientOf}
-use Rattle.state.specs.Gateway.{lowestAbsent}
+use Rattle.state.specs.Records.{lowestAbsent}
 use Rattle.rules.specs.Rule.{Rule, ruleOf, names, creates}
 use Rattle.rules.specs.Tests.{State, noRoom, unsound, outerTests, innerTests, badReport}
 use Rattle.rules.specs.Access.{Access, Place, nowhere, atProcess, Turn}
@@ -51,13 +51,13 @@ createAccess h p = record {
 unfoldable pub placeTests : Header → State → List Test
 placeTests h s =
     cond (names (h .cmd)) (test 7 (not (ltb (h .pid) 8)) ∷ [])
-    (cond (creates (h .cmd)) (test 13 (not (ltb (lowestAbsent (s .gateway)) 8)) ∷ []) [])
+    (cond (creates (h .cmd)) (test 13 (not (ltb (lowestAbsent (s .records)) 8)) ∷ []) [])
 
 -- NOP looks at no process
 unfoldable pub requestPlace : Header → List ℕ → State → Place
 requestPlace h string s =
     cond (names (h .cmd)) (atProcess (h .pid) (ruleAccess (ruleOf (h .cmd)) h string))
-    (cond (creates (h .cmd)) (atProcess (lowestAbsent (s .gateway)) (createAccess h (lowestAbsent (s .gateway)))) (nowhere (written h [])))
+    (cond (creates (h .cmd)) (atProcess (lowestAbsent (s .records)) (createAccess h (lowestAbsent (s .records)))) (nowhere (written h [])))
 
 -- the tests 1 to 6 of a request
 abbrev pub messageTests : State → List ℕ → List ℕ → List Test

@@ -3,7 +3,7 @@ use mathlib.Core.List.{List}
 use Prim.Native.Nat.{ℕ}
 use Rattle.format.specs.declared.outcome.Outcome.{Outcome}
 use Rattle.process.specs.Local.{Local, local}
-use Rattle.state.specs.Gateway.{withProcess}
+use Rattle.state.specs.Records.{withProcess}
 use Rattle.state.specs.Slot.{slot, withSlot}
 use Rattle.rules.specs.Tests.{State, recordOf}
 
@@ -23,4 +23,4 @@ localOf s p = local (recordOf s p) (slot p (s .memory))
 
 -- the state with another process p
 unfoldable pub put : ℕ → Local → State → State
-put p l s = record { gateway = withProcess p (l .process) (s .gateway); memory = withSlot p (l .bytes) (s .memory) }
+put p l s = record { records = withProcess p (l .process) (s .records); memory = withSlot p (l .bytes) (s .memory) }

@@ -1,4 +1,4 @@
 -- The definitions that the contracts of this crate, and of those above it, cite. Words in quotation marks are document 01's.
-pub mod Gateway
+pub mod Records
 pub mod Slot
 pub mod Theorems

@@ -4,18 +4,17 @@ use mathlib.Core.Bool.{Bool, true}
 use mathlib.Core.List.{List}
 use Prim.Native.Nat.{ℕ, _*_, _<_}
 use lib.ListN.{length}
-use Rattle.state.specs.declared.gateway.Gateway.{Gateway}
-use Rattle.state.specs.Gateway.{processAt, SoundState, soundTest, freshStart}
+use Rattle.state.specs.Records.{Records, processAt, SoundState, soundTest, freshStart}
 use Rattle.state.specs.Slot.{startOf, slot, withSlot}
 
 -- every record has its eight entries, as every record of the code does
-abbrev pub EightEntries : Gateway → Type 0
+abbrev pub EightEntries : Records → Type 0
 EightEntries g = (p : ℕ) → p < 8 → length (processAt g p .breaks) ≡ 8
 
 -- the test passes exactly the sound states
 pub record TestIsSound : Type 0 where
-  pub passes-sound : (g : Gateway) → soundTest g ≡ true → SoundState g
-  pub sound-passes : (g : Gateway) → EightEntries g → SoundState g → soundTest g ≡ true
+  pub passes-sound : (g : Records) → soundTest g ≡ true → SoundState g
+  pub sound-passes : (g : Records) → EightEntries g → SoundState g → soundTest g ≡ true
 
 -- every fresh start is sound
 unfoldable pub FreshIsSound : Type 0

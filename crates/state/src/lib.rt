@@ -1,7 +1,5 @@
-// The state of the gateway: eight process records, and where in the lent memory each process's bytes lie.
-mod gateway;
+// The state of the gateway as the definitions have it, eight process records, and where in the lent memory each process's bytes lie.
 mod slot;
 pub mod theorems;
 
-pub use gateway::Gateway;
 pub use slot::start;

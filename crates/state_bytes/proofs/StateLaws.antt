@@ -19,8 +19,7 @@ use Rattle.lists.proofs.Short.{take-short}
 use Rattle.lists.proofs.Word.{length-lowFirst}
 use Rattle.process.specs.declared.record.Process.{Process}
 use Rattle.process.specs.Sound.{soundTest as soundProcess}
-use Rattle.state.specs.declared.gateway.Gateway.{Gateway}
-use Rattle.state.specs.Gateway.{nobody, processAt, withProcess, soundTest}
+use Rattle.state.specs.Records.{Records, nobody, processAt, withProcess, soundTest}
 use Rattle.state_bytes.specs.Chunk.{chunks, everyChunk}
 use Rattle.state_bytes.specs.Number.{flagOf}
 use Rattle.state_bytes.specs.Process.{processBytes, processOf, processFormed, processSound}
@@ -94,7 +93,7 @@ each-sound m size =
 
 -- ---- there and back
 
-state-back : (g : Gateway) → Sized g → stateOf (stateBytes g) ≡ g
+state-back : (g : Records) → Sized g → stateOf (stateBytes g) ≡ g
 unfolding stateOf stateBytes
 state-back g s =
     let sizes = s .processes in
@@ -103,10 +102,10 @@ state-back g s =
     (λ k h. process-back _ (s .vectors k (omega (arith, h, sizes))) (s .entries k (omega (arith, h, sizes)))) in
     rw all
   where
-    sized : (g : Gateway) → Sized g → (k : ℕ) → k < processCount → length (processBytes (getD (g .processes) k nobody)) ≡ processWidth
+    sized : (g : Records) → Sized g → (k : ℕ) → k < processCount → length (processBytes (getD (g .processes) k nobody)) ≡ processWidth
     sized g s k h = length-processBytes _ (length-lowFirst _ ∙ omega (arith, s .vectors k h)) (s .entries k h)
 
-state-formed : (g : Gateway) → Sized g → stateFormed (stateBytes g) ≡ true
+state-formed : (g : Records) → Sized g → stateFormed (stateBytes g) ≡ true
 unfolding stateFormed stateBytes
 state-formed g s =
     let sizes = s .processes in

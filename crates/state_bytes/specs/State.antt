@@ -7,18 +7,17 @@ use lib.ListN.{length, take, drop}
 use lib.Dec.{eqb}
 use Rattle.lists.specs.Joined.{joined}
 use Rattle.process.specs.declared.record.Process.{Process}
-use Rattle.state.specs.declared.gateway.Gateway.{Gateway}
-use Rattle.state.specs.Gateway.{soundTest}
+use Rattle.state.specs.Records.{Records, soundTest}
 use Rattle.state_bytes.specs.Chunk.{chunks, everyChunk}
 use Rattle.state_bytes.specs.Process.{processBytes, processOf, processFormed, processSound}
 use Rattle.state_bytes.specs.Widths.{processCount, processWidth, stateWidth}
 
 -- the bytes of a state
-unfoldable pub stateBytes : Gateway → List ℕ
+unfoldable pub stateBytes : Records → List ℕ
 stateBytes g = joined processBytes (g .processes)
 
 -- the state whose bytes these are
-unfoldable pub stateOf : List ℕ → Gateway
+unfoldable pub stateOf : List ℕ → Records
 stateOf m = record { processes = chunks processWidth processOf processCount m }
 
 -- the bytes of a state with those of another record of process p

@@ -6,13 +6,12 @@ use Prim.Native.Nat.{ℕ, _<_}
 use lib.ListN.{length}
 use Rattle.lists.specs.Buffer.{Bytes}
 use Rattle.process.specs.declared.record.Process.{Process}
-use Rattle.state.specs.declared.gateway.Gateway.{Gateway}
-use Rattle.state.specs.Gateway.{processAt, withProcess}
+use Rattle.state.specs.Records.{Records, processAt, withProcess}
 use Rattle.state_bytes.specs.State.{stateBytes, withProcessBytes, stateOf, stateFormed}
 use Rattle.state_bytes.specs.Widths.{entryCount, processCount}
 
 -- the arrays of a state have the sizes of the code's types
-pub record Sized (g : Gateway) : Type 0 where
+pub record Sized (g : Records) : Type 0 where
   pub processes : length (g .processes) ≡ processCount
   pub vectors : (p : ℕ) → p < processCount → length (processAt g p .vector) ≡ 9
   pub entries : (p : ℕ) → p < processCount → length (processAt g p .breaks) ≡ entryCount
@@ -20,8 +19,8 @@ pub record Sized (g : Gateway) : Type 0 where
 -- the byte form and the record are each other's inverse
 pub record Inverse : Type 0 where
   -- the bytes of a state are read as it
-  pub written-is-read : (g : Gateway) → Sized g → stateOf (stateBytes g) ≡ g
-  pub written-is-formed : (g : Gateway) → Sized g → stateFormed (stateBytes g) ≡ true
+  pub written-is-read : (g : Records) → Sized g → stateOf (stateBytes g) ≡ g
+  pub written-is-formed : (g : Records) → Sized g → stateFormed (stateBytes g) ≡ true
   -- and only they are
   pub read-is-written : (m : List ℕ) → Bytes m → stateFormed m ≡ true → stateBytes (stateOf m) ≡ m
   -- a record that is put into the bytes of a state is put into the state

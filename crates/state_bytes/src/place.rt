@@ -8,7 +8,7 @@ use process::Process;
 ghost use mathlib.Core.Path.{_≡_};
 ghost use Prim.Native.Nat.{_≤_, _<_};
 ghost use lib.ListN.{length};
-ghost use Rattle.state.specs.Gateway.{processAt, lowestAbsent};
+ghost use Rattle.state.specs.Records.{processAt, lowestAbsent};
 ghost use Rattle.state_bytes.specs.State.{stateOf, withProcessBytes};
 ghost use Rattle.state_bytes.specs.Widths.{processCount, stateWidth};
 

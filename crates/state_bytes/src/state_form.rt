@@ -6,7 +6,7 @@ use process::Process;
 use run_state::Run;
 ghost use mathlib.Core.Path.{_≡_};
 ghost use lib.ListN.{length};
-ghost use Rattle.state.specs.Gateway.{freshStart};
+ghost use Rattle.state.specs.Records.{freshStart};
 ghost use Rattle.state_bytes.specs.State.{stateBytes};
 ghost use Rattle.state_bytes.specs.Widths.{stateWidth};
 

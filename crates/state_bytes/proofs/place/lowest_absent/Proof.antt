@@ -7,7 +7,7 @@ use lib.ListN.{length, drop, drop-of-length-le}
 use Rattle.lists.specs.First.{first}
 use Rattle.lists.proofs.First.{first-here, first-next}
 use Rattle.process.specs.declared.record.Process.{Process}
-use Rattle.state.specs.Gateway.{nobody, lowestAbsent}
+use Rattle.state.specs.Records.{nobody, lowestAbsent}
 use Rattle.state_bytes.specs.State.{stateOf}
 use Rattle.state_bytes.specs.Widths.{thereAt, processCount, processWidth}
 use Rattle.state_bytes.proofs.StateLaws.{eight-at, absent-at, present-at}

@@ -12,7 +12,7 @@ use Rattle.lists.specs.Joined.{joined}
 use Rattle.lists.proofs.Buffer.{length-overlay, overlay-all}
 use Rattle.run_state.specs.declared.Run.the-variants.{Running}
 use Rattle.process.specs.Record.{fresh}
-use Rattle.state.specs.Gateway.{freshStart}
+use Rattle.state.specs.Records.{freshStart}
 use Rattle.state_bytes.specs.Process.{processBytes}
 use Rattle.state_bytes.specs.State.{stateBytes}
 use Rattle.state_bytes.specs.Widths.{processCount, processWidth, stateWidth}

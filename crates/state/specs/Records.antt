@@ -1,4 +1,4 @@
--- The gateway's state: 'processes 0 to 7, each there or not'.
+-- The process records of the gateway: 'processes 0 to 7, each there or not'. In the code they are the bytes of a state.
 use mathlib.Core.Bool.{Bool, false, not}
 use mathlib.Core.List.{List, [], map}
 use Prim.Native.Nat.{ℕ, _<_}
@@ -10,32 +10,35 @@ use Rattle.run_state.specs.declared.Run.the-variants.{Running}
 use Rattle.process.specs.Record.{fresh}
 use Rattle.process.specs.Sound.{Sound}
 use Rattle.process.specs.Sound.{soundTest as soundProcess}
-use Rattle.state.specs.declared.gateway.Gateway.{Gateway}
+
+-- the record of every process, in the order of their numbers
+pub record Records : Type 0 where
+  pub processes : List Process
 
 -- what is read past the eight records; nothing reads there
 abbrev pub nobody : Process
 nobody = record { there = false; host = 0; run = Running; vector = []; breaks = [] }
 
 -- the record of process p
-abbrev pub processAt : Gateway → ℕ → Process
+abbrev pub processAt : Records → ℕ → Process
 processAt g p = getD (g .processes) p nobody
 
 -- the state with another record of process p
-abbrev pub withProcess : ℕ → Process → Gateway → Gateway
+abbrev pub withProcess : ℕ → Process → Records → Records
 withProcess p q g = record { processes = set (g .processes) p q }
 
 -- 'the lowest absent number', or 8
-unfoldable pub lowestAbsent : Gateway → ℕ
+unfoldable pub lowestAbsent : Records → ℕ
 lowestAbsent g = first (λ (p : Process). not (p .there)) (g .processes)
 
 -- 'A state is sound when': each process's record is
-abbrev pub SoundState : Gateway → Type 0
+abbrev pub SoundState : Records → Type 0
 SoundState g = (p : ℕ) → p < 8 → Sound (processAt g p)
 
 -- the test of soundness
-unfoldable pub soundTest : Gateway → Bool
+unfoldable pub soundTest : Records → Bool
 soundTest g = below (λ (p : ℕ). soundProcess (processAt g p)) 8
 
 -- 'At a fresh start a given set of processes is there, running, with no host and zero vectors; every other record is cleared'
-unfoldable pub freshStart : List Bool → Gateway
+unfoldable pub freshStart : List Bool → Records
 freshStart there = record { processes = map (λ (t : Bool). fresh t 0 Running) there }

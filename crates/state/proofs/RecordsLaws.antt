@@ -13,15 +13,14 @@ use Rattle.process.specs.Sound.{Sound}
 use Rattle.process.specs.Sound.{soundTest as soundProcess}
 use Rattle.process.proofs.SoundTestLaws.{passes-sound, sound-passes}
 use Rattle.process.proofs.SoundLaws.{sound-free}
-use Rattle.state.specs.declared.gateway.Gateway.{Gateway}
-use Rattle.state.specs.Gateway.{nobody, processAt, SoundState, soundTest, freshStart}
+use Rattle.state.specs.Records.{Records, nobody, processAt, SoundState, soundTest, freshStart}
 use Rattle.state.specs.Theorems.{EightEntries, TestIsSound, FreshIsSound}
 
-pub state-sound : (g : Gateway) → soundTest g ≡ true → SoundState g
+pub state-sound : (g : Records) → soundTest g ≡ true → SoundState g
 unfolding soundTest
 state-sound g e p h = passes-sound (processAt g p) (below-at (λ (q : ℕ). soundProcess (processAt g q)) 8 p h e)
 
-pub state-passes : (g : Gateway) → EightEntries g → SoundState g → soundTest g ≡ true
+pub state-passes : (g : Records) → EightEntries g → SoundState g → soundTest g ≡ true
 unfolding soundTest
 state-passes g eight s = below-all (λ (q : ℕ). soundProcess (processAt g q)) 8 (λ p h. sound-passes (processAt g p) (eight p h) (s p h))
 
