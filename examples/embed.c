@@ -12,7 +12,7 @@ enum {
 
 static uint8_t state[PALUSTRODE_STATE_BYTES];
 static uint8_t memory[PALUSTRODE_MEMORY_BYTES];
-static uint8_t out[PALUSTRODE_BUFFER_BYTES];
+static uint8_t out[PALUSTRODE_MESSAGE_BYTES];
 
 static uint8_t *process(int p) { return state + p * PALUSTRODE_PROCESS_BYTES; }
 
@@ -56,12 +56,12 @@ static void ask_on_wrong(const char *what, uint8_t *byte, uint8_t wrong, const u
 }
 
 int main(void) {
-    static const uint8_t debug5[] = {0, 5, 255, 0, 1, 2, 0, 0, 0, 0};
-    static const uint8_t debug6[] = {0, 6, 255, 0, 1, 2, 0, 0, 0, 0};
-    static const uint8_t deposit[] = {0, 5, 255, 0, 4, 2, 1, 0, 0, 2, 18, 52};
-    static const uint8_t set[] = {0, 5, 255, 0, 8, 2, 1, 0, 0, 1};
-    static const uint8_t examine[] = {0, 5, 255, 0, 6, 2, 1, 0, 0, 2};
-    static const uint8_t end[] = {0, 5, 255, 0, 2, 2, 0, 0, 0, 0};
+    static const uint8_t debug5[] = {0, 5, 255, 0, PALUSTRODE_DEBUG, 2, 0, 0, 0, 0};
+    static const uint8_t debug6[] = {0, 6, 255, 0, PALUSTRODE_DEBUG, 2, 0, 0, 0, 0};
+    static const uint8_t deposit[] = {0, 5, 255, 0, PALUSTRODE_DEPOSIT, 2, 1, 0, 0, 2, 18, 52};
+    static const uint8_t set[] = {0, 5, 255, 0, PALUSTRODE_BREAK, 2, 1, 0, 0, 1};
+    static const uint8_t examine[] = {0, 5, 255, 0, PALUSTRODE_EXAMINE, 2, 1, 0, 0, 2};
+    static const uint8_t end[] = {0, 5, 255, 0, PALUSTRODE_END_DEBUG, 2, 0, 0, 0, 0};
 
     show("fresh start, process 2", palustrode_fresh_start(1 << 2, state, sizeof state), 0);
     ask("host 5 debugs it", debug5, sizeof debug5);
@@ -70,8 +70,8 @@ int main(void) {
     ask("breakpoint there, count 1", set, sizeof set);
     show_word("memory holds", 256);
     ask("host 5 examines it", examine, sizeof examine);
-    report("BPT there, passed silently", 2, 256);
-    report("BPT there, and a notice", 2, 256);
+    report("BPT there, passed silently", PALUSTRODE_KIND_BPT, 256);
+    report("BPT there, and a notice", PALUSTRODE_KIND_BPT, 256);
     ask("a message of no bytes", debug5, 0);
     ask_on_wrong("flag of a breakpoint is 7", process(2) + ENTRIES, 7, debug5, sizeof debug5);
     ask_on_wrong("absent process with a host", process(3) + HOST, 6, debug5, sizeof debug5);

@@ -5,7 +5,7 @@ use Prim.Native.Nat.{ℕ}
 use lib.IntN.{ℤ}
 use Rattle.format.specs.declared.outcome.Outcome.{Outcome}
 use Rattle.rules.specs.Step.{Call}
-use Rattle.gateway.specs.Called.{Called, Started, called, started, callOn, Did}
+use Rattle.gateway.specs.Called.{Called, StartResult, called, started, callOn, Did}
 use Rattle.c_api.specs.Called.{signed, Short, Returns, Starts}
 
 module _ (o : Outcome) (state memory buffer before lent : List ℕ) (c : Call) (did : Did before lent c (called o state memory buffer)) where
@@ -24,8 +24,8 @@ module _ (o : Outcome) (state memory buffer before lent : List ℕ) (c : Call) (
     buffer-is = ap (λ (x : Called). x .buffer) same;
   }
 
-pub start-returns : (o : Outcome) (state : List ℕ) (x : Started) → started o state ≡ x → (r : ℤ) → r ≡ signed o → Starts x r state
+pub start-returns : (o : Outcome) (state : List ℕ) (x : StartResult) → started o state ≡ x → (r : ℤ) → r ≡ signed o → Starts x r state
 start-returns o state x same r e = record {
-  result-is = e ∙ ap (λ (y : Started). signed (y .outcome)) same;
-  state-is = ap (λ (y : Started). y .state) same;
+  result-is = e ∙ ap (λ (y : StartResult). signed (y .outcome)) same;
+  state-is = ap (λ (y : StartResult). y .state) same;
 }

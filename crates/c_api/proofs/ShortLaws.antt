@@ -18,7 +18,7 @@ use Rattle.state.specs.Slot.{startOf, slot}
 use Rattle.rules.specs.Rule.{ruleOf, names, creates}
 use Rattle.format.specs.Layout.{headerOf}
 use Rattle.rules.specs.Tests.{State, lent, requestNumber, reportNumber}
-use Rattle.rules.specs.Step.{Answer, Stepped, request, report, step, localOf, grantedNamed, grantedCreate, granted, refused, requested, told, noticeTo, notified, noted}
+use Rattle.rules.specs.Step.{Answer, StepResult, request, report, step, localOf, grantedNamed, grantedCreate, granted, refused, requestStep, told, noticeTo, notified, reportStep}
 use Rattle.rules.proofs.StepLaws.{by-test}
 use Rattle.checks.proofs.OpLaws.{coded}
 use Rattle.state_bytes.specs.State.{stateOf, stateFormed}
@@ -42,21 +42,21 @@ shown-short h s = rw (coded (h .cmd) .shown h (localOf s (h .pid))) (go (eqb (h 
     go true = omega (arith, examined-short (h .arg1) (h .arg2) (localOf s (h .pid)), slot-short (h .pid) (s .memory))
     go false = omega arith
 
-abbrev ShortStep : Stepped → Type 0
+abbrev ShortStep : StepResult → Type 0
 ShortStep x = Short (x .answer .outcome)
 
-requested-short : (m buffer : List ℕ) (s : State) → Short (requested m buffer s .answer .outcome)
-unfolding requested granted grantedNamed grantedCreate refused
-requested-short m buffer s =
+requestStep-short : (m buffer : List ℕ) (s : State) → Short (requestStep m buffer s .answer .outcome)
+unfolding requestStep granted grantedNamed grantedCreate refused
+requestStep-short m buffer s =
     by-test ShortStep (eqb (requestNumber s m buffer) 0)
     (λ e. by-test ShortStep (names (headerOf m .cmd))
     (λ n. omega (arith, shown-short (headerOf m) s))
     (λ n. by-test ShortStep (creates (headerOf m .cmd)) (λ c. omega arith) (λ c. omega arith)))
     (λ e. tt)
 
-noted-short : (p kind reason : ℕ) (words buffer : List ℕ) (s : State) → length words ≡ 9 → Short (noted p kind reason words buffer s .answer .outcome)
-unfolding noted notified noticeTo
-noted-short p kind reason words buffer s nine =
+reportStep-short : (p kind reason : ℕ) (words buffer : List ℕ) (s : State) → length words ≡ 9 → Short (reportStep p kind reason words buffer s .answer .outcome)
+unfolding reportStep notified noticeTo
+reportStep-short p kind reason words buffer s nine =
     by-test ShortStep (eqb (reportNumber s p kind reason buffer) 0)
     (λ e. by-test (λ (x : Answer). Short (x .outcome)) (told kind words (localOf s p))
     (λ t. omega (arith, length-lowFirst words, nine))
@@ -74,9 +74,9 @@ ShortCall x = Short (x .outcome)
 module _ (state memory : List ℕ) where
   pub request-short : (m buffer : List ℕ) → Short (callOn state memory (request m buffer) .outcome)
   unfolding callOn finished step
-  request-short m buffer = by-test ShortCall (stateFormed state) (λ f. requested-short m buffer (lent (stateOf state) memory)) (λ f. tt)
+  request-short m buffer = by-test ShortCall (stateFormed state) (λ f. requestStep-short m buffer (lent (stateOf state) memory)) (λ f. tt)
 
   pub report-short : (p kind reason : ℕ) (words buffer : List ℕ) → length words ≡ 9 → Short (callOn state memory (report p kind reason words buffer) .outcome)
   unfolding callOn finished step
   report-short p kind reason words buffer nine =
-      by-test ShortCall (stateFormed state) (λ f. noted-short p kind reason words buffer (lent (stateOf state) memory) nine) (λ f. tt)
+      by-test ShortCall (stateFormed state) (λ f. reportStep-short p kind reason words buffer (lent (stateOf state) memory) nine) (λ f. tt)

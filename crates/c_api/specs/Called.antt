@@ -10,7 +10,7 @@ use Rattle.lists.specs.Word.{vectorOf}
 use Rattle.format.specs.declared.outcome.Outcome.{Outcome}
 use Rattle.format.specs.declared.outcome.Outcome.the-variants.{Granted, Refused}
 use Rattle.rules.specs.Step.{report}
-use Rattle.gateway.specs.Called.{Called, Started, refusedBy, callOn, startOn}
+use Rattle.gateway.specs.Called.{Called, StartResult, refusedBy, callOn, startOn}
 
 -- minus this number
 abbrev pub minus : ℕ → ℤ
@@ -52,6 +52,6 @@ bitsOf n =
     ∷ []
 
 -- a fresh start returned this number, and left these bytes of the state
-pub record Starts (x : Started) (result : ℤ) (state : List ℕ) : Type 0 where
+pub record Starts (x : StartResult) (result : ℤ) (state : List ℕ) : Type 0 where
   pub result-is : result ≡ signed (x .outcome)
   pub state-is : state ≡ x .state

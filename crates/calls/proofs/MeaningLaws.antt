@@ -18,10 +18,11 @@ use Rattle.format.specs.Refusal.{wrongLength}
 use Rattle.state.specs.Slot.{startOf, slot, withSlot}
 use Rattle.state.proofs.SlotLaws.{startOf-is}
 use Rattle.rules.specs.Tests.{State, lent, noRoom, unsound, requestNumber}
-use Rattle.rules.specs.Step.{answers, refused, requested, step, stored}
+use Rattle.rules.specs.Step.{answers, refused, requestStep, step, stored}
 use Rattle.rules.specs.Step.{put as putLocal}
 use Rattle.state_bytes.specs.State.{stateOf}
-use Rattle.gateway.specs.Called.{Called, called, bufferOf, callOn}
+use Rattle.gateway.specs.Called.{Called, called, callOn}
+use Rattle.rules.specs.Turn.{bufferOf}
 use Rattle.lines.specs.Hex.{pairsLine}
 use Rattle.lines.specs.declared.scan.Phase.{Phase}
 use Rattle.lines.specs.declared.scan.Phase.the-variants.{Open}
@@ -170,11 +171,11 @@ module _ (s : State) (buffer : List ℕ) where
   unfolding requestNumber firstFailing
   number-long m h = rw (too-long m h)
 
-  refused-long : (m : List ℕ) → 266 < length m → requested m buffer s ≡ answers (Refused lentOr3) buffer s
-  unfolding requested refused
+  refused-long : (m : List ℕ) → 266 < length m → requestStep m buffer s ≡ answers (Refused lentOr3) buffer s
+  unfolding requestStep refused
   refused-long m h = go (noRoom (s .memory) buffer) (unsound s) (number-long m h)
     where
-      go : (a b : Bool) → requestNumber s m buffer ≡ cond a 1 (cond b 2 3) → requested m buffer s ≡ answers (Refused (cond a 1 (cond b 2 3))) buffer s
+      go : (a b : Bool) → requestNumber s m buffer ≡ cond a 1 (cond b 2 3) → requestStep m buffer s ≡ answers (Refused (cond a 1 (cond b 2 3))) buffer s
       go true b e = rw e
       go false true e = rw e
       go false false e = rw e

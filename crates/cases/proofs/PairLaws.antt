@@ -31,13 +31,13 @@ use Rattle.process.specs.Sound.{absentHasNoHost, liftSound, usedSound, entrySou
 use Rattle.state.specs.Slot.{startOf, slot, withSlot}
 use Rattle.rules.specs.Rule.{public, ruleOf, names}
 use Rattle.rules.specs.Run.{run}
-use Rattle.rules.specs.Step.{put, grantedNamed, grantedCreate, granted, refused, requested, noticeTo, notified, noted, step}
+use Rattle.rules.specs.Step.{put, grantedNamed, grantedCreate, granted, refused, requestStep, noticeTo, notified, reportStep, step}
 use Rattle.rules.specs.Tests.{askedTests, requestNumber, reportNumber}
 use Rattle.rules.specs.Tests.{State}
 use Rattle.rules.specs.Step.{Answer, localOf, stored}
 use Rattle.rules.specs.Ready.{Ready}
 use Rattle.rules.specs.Access.{insider}
-use Rattle.rules.specs.Isolation.{namesOne, asker, subject, event, passedOver, fieldsOf, isOne, isGranted, publicThen, toldOf, noticed, sentTo, part, heard, struck, blank, strike, Alike}
+use Rattle.rules.specs.Isolation.{namesOne, asker, subject, event, passedOver, fieldsOf, isOne, isGranted, publicThen, toldOf, noticed, sentTo, part, heard, struck, withoutData, strike, Alike}
 use Rattle.rules.specs.Outsider.{only, Never, Outside}
 use Rattle.cases.specs.Pair.{one, other, oneCalls, otherCalls, PremisesMet}
 
@@ -48,15 +48,15 @@ eight : (s : State) → eightTest s ≡ true → (p : ℕ) → p < 8 → length 
 eight s e p h = eqb-true _ 8 (below-at (λ (q : ℕ). eqb (length (processAt (s .records) q .breaks)) 8) 8 p h e)
 
 one-ready : Ready one
-unfolding overlay lowFirst cantOf createdOf noticeOf written headerOf stringOf fixedRight numberOf firstFailing unusedZero carriedLength wrongLength wrongHeader misfits rowOf requestForm matches find plantedIn liftedIn removedFrom replanted liftedAt fresh accepts storeVectorAndReplant passes verdictOf recipientOf passed runAfter reported hasBreak hasRoom examined deposited vectorAfter breakSet breakRemoved created cleared restored seen savedFrom sheltered overlaySavedByte overlaySavedWord validBreakAddress absentHasNoHost liftSound usedSound entrySound soundTest freshStart soundState startOf slot withSlot public ruleOf names run put grantedNamed grantedCreate granted refused requested noticeTo notified noted step lowestAbsent askedTests requestNumber reportNumber
+unfolding overlay lowFirst cantOf createdOf noticeOf written headerOf stringOf fixedRight numberOf firstFailing unusedZero carriedLength wrongLength wrongHeader misfits rowOf requestForm matches find plantedIn liftedIn removedFrom replanted liftedAt fresh accepts storeVectorAndReplant passes verdictOf recipientOf passed runAfter reported hasBreak hasRoom examined deposited vectorAfter breakSet breakRemoved created cleared restored seen savedFrom sheltered overlaySavedByte overlaySavedWord validBreakAddress absentHasNoHost liftSound usedSound entrySound soundTest freshStart soundState startOf slot withSlot public ruleOf names run put grantedNamed grantedCreate granted refused requestStep noticeTo notified reportStep step lowestAbsent askedTests requestNumber reportNumber
 one-ready = record { memory = refl; processes = refl; entries = eight one refl; sound = refl }
 
 other-ready : Ready other
-unfolding overlay lowFirst cantOf createdOf noticeOf written headerOf stringOf fixedRight numberOf firstFailing unusedZero carriedLength wrongLength wrongHeader misfits rowOf requestForm matches find plantedIn liftedIn removedFrom replanted liftedAt fresh accepts storeVectorAndReplant passes verdictOf recipientOf passed runAfter reported hasBreak hasRoom examined deposited vectorAfter breakSet breakRemoved created cleared restored seen savedFrom sheltered overlaySavedByte overlaySavedWord validBreakAddress absentHasNoHost liftSound usedSound entrySound soundTest freshStart soundState startOf slot withSlot public ruleOf names run put grantedNamed grantedCreate granted refused requested noticeTo notified noted step lowestAbsent askedTests requestNumber reportNumber
+unfolding overlay lowFirst cantOf createdOf noticeOf written headerOf stringOf fixedRight numberOf firstFailing unusedZero carriedLength wrongLength wrongHeader misfits rowOf requestForm matches find plantedIn liftedIn removedFrom replanted liftedAt fresh accepts storeVectorAndReplant passes verdictOf recipientOf passed runAfter reported hasBreak hasRoom examined deposited vectorAfter breakSet breakRemoved created cleared restored seen savedFrom sheltered overlaySavedByte overlaySavedWord validBreakAddress absentHasNoHost liftSound usedSound entrySound soundTest freshStart soundState startOf slot withSlot public ruleOf names run put grantedNamed grantedCreate granted refused requestStep noticeTo notified reportStep step lowestAbsent askedTests requestNumber reportNumber
 other-ready = record { memory = refl; processes = refl; entries = eight other refl; sound = refl }
 
 others : (q : ℕ) → q < 8 → (q ≡ 2 → ⊥) → localOf one q ≡ localOf other q
-unfolding overlay lowFirst cantOf createdOf noticeOf written headerOf stringOf fixedRight numberOf firstFailing unusedZero carriedLength wrongLength wrongHeader misfits rowOf requestForm matches find plantedIn liftedIn removedFrom replanted liftedAt fresh accepts storeVectorAndReplant passes verdictOf recipientOf passed runAfter reported hasBreak hasRoom examined deposited vectorAfter breakSet breakRemoved created cleared restored seen savedFrom sheltered overlaySavedByte overlaySavedWord validBreakAddress absentHasNoHost liftSound usedSound entrySound soundTest freshStart soundState startOf slot withSlot public ruleOf names run put grantedNamed grantedCreate granted refused requested noticeTo notified noted step lowestAbsent askedTests requestNumber reportNumber
+unfolding overlay lowFirst cantOf createdOf noticeOf written headerOf stringOf fixedRight numberOf firstFailing unusedZero carriedLength wrongLength wrongHeader misfits rowOf requestForm matches find plantedIn liftedIn removedFrom replanted liftedAt fresh accepts storeVectorAndReplant passes verdictOf recipientOf passed runAfter reported hasBreak hasRoom examined deposited vectorAfter breakSet breakRemoved created cleared restored seen savedFrom sheltered overlaySavedByte overlaySavedWord validBreakAddress absentHasNoHost liftSound usedSound entrySound soundTest freshStart soundState startOf slot withSlot public ruleOf names run put grantedNamed grantedCreate granted refused requestStep noticeTo notified reportStep step lowestAbsent askedTests requestNumber reportNumber
 others zero h n = refl
 others (suc zero) h n = refl
 others (suc (suc zero)) h n = absurd (n refl)
@@ -68,11 +68,11 @@ others (suc (suc (suc (suc (suc (suc (suc zero))))))) h n = refl
 others (suc (suc (suc (suc (suc (suc (suc (suc q)))))))) h n = absurd (omega arith)
 
 alike : Alike (only 5) (only 2) oneCalls otherCalls
-unfolding namesOne asker subject event passedOver isOne struck blank strike overlay lowFirst cantOf createdOf noticeOf written headerOf stringOf fixedRight numberOf firstFailing unusedZero carriedLength wrongLength wrongHeader misfits rowOf requestForm matches find plantedIn liftedIn removedFrom replanted liftedAt fresh accepts storeVectorAndReplant passes verdictOf recipientOf passed runAfter reported hasBreak hasRoom examined deposited vectorAfter breakSet breakRemoved created cleared restored seen savedFrom sheltered overlaySavedByte overlaySavedWord validBreakAddress absentHasNoHost liftSound usedSound entrySound soundTest freshStart soundState startOf slot withSlot public ruleOf names run put grantedNamed grantedCreate granted refused requested noticeTo notified noted step lowestAbsent askedTests requestNumber reportNumber
+unfolding namesOne asker subject event passedOver isOne struck withoutData strike overlay lowFirst cantOf createdOf noticeOf written headerOf stringOf fixedRight numberOf firstFailing unusedZero carriedLength wrongLength wrongHeader misfits rowOf requestForm matches find plantedIn liftedIn removedFrom replanted liftedAt fresh accepts storeVectorAndReplant passes verdictOf recipientOf passed runAfter reported hasBreak hasRoom examined deposited vectorAfter breakSet breakRemoved created cleared restored seen savedFrom sheltered overlaySavedByte overlaySavedWord validBreakAddress absentHasNoHost liftSound usedSound entrySound soundTest freshStart soundState startOf slot withSlot public ruleOf names run put grantedNamed grantedCreate granted refused requestStep noticeTo notified reportStep step lowestAbsent askedTests requestNumber reportNumber
 alike = refl
 
 outside : Outside 5 2 one oneCalls
-unfolding namesOne fieldsOf insider isGranted publicThen toldOf Never stored overlay lowFirst cantOf createdOf noticeOf written headerOf stringOf fixedRight numberOf firstFailing unusedZero carriedLength wrongLength wrongHeader misfits rowOf requestForm matches find plantedIn liftedIn removedFrom replanted liftedAt fresh accepts storeVectorAndReplant passes verdictOf recipientOf passed runAfter reported hasBreak hasRoom examined deposited vectorAfter breakSet breakRemoved created cleared restored seen savedFrom sheltered overlaySavedByte overlaySavedWord validBreakAddress absentHasNoHost liftSound usedSound entrySound soundTest freshStart soundState startOf slot withSlot public ruleOf names run put grantedNamed grantedCreate granted refused requested noticeTo notified noted step lowestAbsent askedTests requestNumber reportNumber
+unfolding namesOne fieldsOf insider isGranted publicThen toldOf Never stored overlay lowFirst cantOf createdOf noticeOf written headerOf stringOf fixedRight numberOf firstFailing unusedZero carriedLength wrongLength wrongHeader misfits rowOf requestForm matches find plantedIn liftedIn removedFrom replanted liftedAt fresh accepts storeVectorAndReplant passes verdictOf recipientOf passed runAfter reported hasBreak hasRoom examined deposited vectorAfter breakSet breakRemoved created cleared restored seen savedFrom sheltered overlaySavedByte overlaySavedWord validBreakAddress absentHasNoHost liftSound usedSound entrySound soundTest freshStart soundState startOf slot withSlot public ruleOf names run put grantedNamed grantedCreate granted refused requestStep noticeTo notified reportStep step lowestAbsent askedTests requestNumber reportNumber
 outside =
     (refl, (refl, (refl, (refl, (refl, (refl, (refl, (refl, (refl, refl)))))))))
 
@@ -82,11 +82,11 @@ firstByte [] = 0
 firstByte (a ∷ rest) = getD (a .buffer) 10 0
 
 unlike : heard (only 6) (run one oneCalls) ≡ heard (only 6) (run other otherCalls) → ⊥
-unfolding heard part asker sentTo noticed stored overlay lowFirst cantOf createdOf noticeOf written headerOf stringOf fixedRight numberOf firstFailing unusedZero carriedLength wrongLength wrongHeader misfits rowOf requestForm matches find plantedIn liftedIn removedFrom replanted liftedAt fresh accepts storeVectorAndReplant passes verdictOf recipientOf passed runAfter reported hasBreak hasRoom examined deposited vectorAfter breakSet breakRemoved created cleared restored seen savedFrom sheltered overlaySavedByte overlaySavedWord validBreakAddress absentHasNoHost liftSound usedSound entrySound soundTest freshStart soundState startOf slot withSlot public ruleOf names run put grantedNamed grantedCreate granted refused requested noticeTo notified noted step lowestAbsent askedTests requestNumber reportNumber
+unfolding heard part asker sentTo noticed stored overlay lowFirst cantOf createdOf noticeOf written headerOf stringOf fixedRight numberOf firstFailing unusedZero carriedLength wrongLength wrongHeader misfits rowOf requestForm matches find plantedIn liftedIn removedFrom replanted liftedAt fresh accepts storeVectorAndReplant passes verdictOf recipientOf passed runAfter reported hasBreak hasRoom examined deposited vectorAfter breakSet breakRemoved created cleared restored seen savedFrom sheltered overlaySavedByte overlaySavedWord validBreakAddress absentHasNoHost liftSound usedSound entrySound soundTest freshStart soundState startOf slot withSlot public ruleOf names run put grantedNamed grantedCreate granted refused requestStep noticeTo notified reportStep step lowestAbsent askedTests requestNumber reportNumber
 unlike e = let z : _≡_ {A = ℕ} 0 7 = ap firstByte e in omega arith
 
 pub premises-met : PremisesMet
-unfolding overlay lowFirst cantOf createdOf noticeOf written headerOf stringOf fixedRight numberOf firstFailing unusedZero carriedLength wrongLength wrongHeader misfits rowOf requestForm matches find plantedIn liftedIn removedFrom replanted liftedAt fresh accepts storeVectorAndReplant passes verdictOf recipientOf passed runAfter reported hasBreak hasRoom examined deposited vectorAfter breakSet breakRemoved created cleared restored seen savedFrom sheltered overlaySavedByte overlaySavedWord validBreakAddress absentHasNoHost liftSound usedSound entrySound soundTest freshStart soundState startOf slot withSlot public ruleOf names run put grantedNamed grantedCreate granted refused requested noticeTo notified noted step lowestAbsent askedTests requestNumber reportNumber
+unfolding overlay lowFirst cantOf createdOf noticeOf written headerOf stringOf fixedRight numberOf firstFailing unusedZero carriedLength wrongLength wrongHeader misfits rowOf requestForm matches find plantedIn liftedIn removedFrom replanted liftedAt fresh accepts storeVectorAndReplant passes verdictOf recipientOf passed runAfter reported hasBreak hasRoom examined deposited vectorAfter breakSet breakRemoved created cleared restored seen savedFrom sheltered overlaySavedByte overlaySavedWord validBreakAddress absentHasNoHost liftSound usedSound entrySound soundTest freshStart soundState startOf slot withSlot public ruleOf names run put grantedNamed grantedCreate granted refused requestStep noticeTo notified reportStep step lowestAbsent askedTests requestNumber reportNumber
 premises-met = record {
   one-ready = one-ready;
   other-ready = other-ready;

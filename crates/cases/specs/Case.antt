@@ -10,7 +10,7 @@ use Rattle.format.specs.Outcome.{numberOf}
 use Rattle.format.specs.Layout.{written}
 use Rattle.state.specs.Records.{freshStart}
 use Rattle.rules.specs.Step.{Call, request}
-use Rattle.rules.specs.Run.{Entry, run}
+use Rattle.rules.specs.Run.{TraceItem, run}
 
 -- what is seen of a call: its number, the bytes that it wrote, and bytes of memory after it
 pub record Seen : Type 0 where
@@ -34,7 +34,7 @@ lengthWritten (Granted n) = n
 lengthWritten (Refused n) = cond (ltb n 7) 0 10
 
 -- what is seen of a call that was made
-abbrev pub seenOf : List ℕ → Entry → Seen
+abbrev pub seenOf : List ℕ → TraceItem → Seen
 seenOf places e = record {
   number = numberOf (e .answer .outcome);
   bytes = take (lengthWritten (e .answer .outcome)) (e .answer .buffer);

@@ -24,13 +24,13 @@ use Rattle.format.proofs.OutcomeLaws.{message-zero, message-header}
 use Rattle.rules.specs.Rule.{names, creates}
 use Rattle.state.specs.Records.{lowestAbsent}
 use Rattle.rules.specs.Tests.{State, recordOf, askedTests}
-use Rattle.rules.specs.Step.{Answer, Stepped, replyOf, localOf, put, grantedNamed, grantedCreate, granted, refused}
+use Rattle.rules.specs.Step.{Answer, StepResult, replyOf, localOf, put, grantedNamed, grantedCreate, granted, refused}
 use Rattle.rules.proofs.NumberLaws.{envelope, envelope-sent}
 use Rattle.rules.proofs.StateLaws.{put-same}
 use Rattle.checks.specs.Decision.{processTests}
 use Rattle.service.specs.declared.target.Target.{Target}
 use Rattle.service.specs.declared.target.Target.the-variants.{Named, OutOfRange, New, Nowhere}
-use Rattle.service.specs.At.{Left, cantBy, targetOf, namedBy, namedAt, createdAt}
+use Rattle.service.specs.At.{ProcessResult, cantBy, targetOf, namedBy, namedAt, createdAt}
 use Rattle.gateway.specs.Stage.{asked}
 
 -- ---- the fields of a message that was read
@@ -110,11 +110,11 @@ target-says h form t f e = subst (Goes h) (sym (e ∙ ap (λ (x : Form). targetO
 -- ---- at that process
 
 -- what a call at process p answers and leaves
-abbrev pub stepped : ℕ → Left → State → Stepped
+abbrev pub stepped : ℕ → ProcessResult → State → StepResult
 stepped p x s = record { answer = x .answer; after = put p (x .left) s }
 
 -- an answer that leaves the state
-abbrev pub unmoved : Answer → State → Stepped
+abbrev pub unmoved : Answer → State → StepResult
 unmoved a s = record { answer = a; after = s }
 
 module _ (h : Header) (string buffer : List ℕ) (s : State) where

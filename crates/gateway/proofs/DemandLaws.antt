@@ -3,7 +3,7 @@ use mathlib.Core.Path.{_≡_, refl, ap}
 use mathlib.Core.List.{List, [], _∷_}
 use Rattle.rules.specs.Tests.{State}
 use Rattle.rules.specs.Step.{Call, step}
-use Rattle.rules.specs.Run.{Entry, entry, run}
+use Rattle.rules.specs.Run.{TraceItem, traceItem, run}
 use Rattle.rules.specs.Outsider.{Outsiders}
 use Rattle.rules.proofs.TotalLaws.{total}
 use Rattle.rules.proofs.RightsLaws.{rights}
@@ -12,26 +12,26 @@ use Rattle.rules.proofs.DebuggerLaws.{debuggers}
 use Rattle.rules.proofs.OutsiderLaws.{outsider}
 use Rattle.gateway.specs.Demands.{DidStep, Done, Demands}
 
-did-after : (s : State) (c : Call) (e : Entry) → DidStep s c e → e .after ≡ step s c .after
+did-after : (s : State) (c : Call) (e : TraceItem) → DidStep s c e → e .after ≡ step s c .after
 did-after s c e d =
     let same : e .after ≡ record { records = step s c .after .records; memory = step s c .after .memory } = rw (← d .records, ← d .memory) in
     same
 
-did-answer : (s : State) (c : Call) (e : Entry) → DidStep s c e → e .answer ≡ step s c .answer
+did-answer : (s : State) (c : Call) (e : TraceItem) → DidStep s c e → e .answer ≡ step s c .answer
 did-answer s c e d =
     let same : e .answer ≡ record { outcome = step s c .answer .outcome; buffer = step s c .answer .buffer } = rw (← d .outcome, ← d .buffer) in
     same
 
-did-entry : (s : State) (c : Call) (e : Entry) → DidStep s c e → e ≡ entry s c
-did-entry s c e d = rw (← did-answer s c e d, ← did-after s c e d, ← d .call)
+did-traceItem : (s : State) (c : Call) (e : TraceItem) → DidStep s c e → e ≡ traceItem s c
+did-traceItem s c e d = rw (← did-answer s c e d, ← did-after s c e d, ← d .call)
 
-done-run : (s : State) (l : List Call) (es : List Entry) → Done s l es → es ≡ run s l
+done-run : (s : State) (l : List Call) (es : List TraceItem) → Done s l es → es ≡ run s l
 unfolding Done run
 done-run s [] [] d = refl
 done-run s [] (e ∷ es) d = absurd d
 done-run s (c ∷ cs) [] d = absurd d
 done-run s (c ∷ cs) (e ∷ es) d =
-    rw (did-entry s c e (d .0)) (ap (λ (xs : List Entry). entry s c ∷ xs) (done-run (step s c .after) cs es (rw (did-after s c e (d .0)) at (d .1))))
+    rw (did-traceItem s c e (d .0)) (ap (λ (xs : List TraceItem). traceItem s c ∷ xs) (done-run (step s c .after) cs es (rw (did-after s c e (d .0)) at (d .1))))
 
 outsiders : Outsiders
 unfolding Outsiders

@@ -17,7 +17,7 @@ use Rattle.format.proofs.LayoutLaws.{length-written}
 use Rattle.rules.specs.Rule.{ruleOf, names, creates}
 use Rattle.state.specs.Records.{lowestAbsent}
 use Rattle.rules.specs.Tests.{State, requestNumber, reportNumber}
-use Rattle.rules.specs.Step.{localOf, put, replied, replyOf, answers, grantedNamed, grantedCreate, granted, refused, requested, noticeTo, notified, noted}
+use Rattle.rules.specs.Step.{localOf, put, replied, replyOf, answers, grantedNamed, grantedCreate, granted, refused, requestStep, noticeTo, notified, reportStep}
 use Rattle.rules.specs.Total.{cantOver}
 use Rattle.rules.proofs.TotalLaws.{total}
 use Rattle.process.specs.Report.{reported, recipientOf}
@@ -33,14 +33,14 @@ module _ (s : State) (m buffer : List ℕ) where
   refusal-behind true = refl
   refusal-behind false = cant-behind
 
-  request-behind : (o : Outcome) → requested m buffer s .answer .outcome ≡ o → drop (replyLength o) (requested m buffer s .answer .buffer) ≡ drop (replyLength o) buffer
+  request-behind : (o : Outcome) → requestStep m buffer s .answer .outcome ≡ o → drop (replyLength o) (requestStep m buffer s .answer .buffer) ≡ drop (replyLength o) buffer
   unfolding replyLength
   request-behind (Granted n) e = total .request-past s m buffer n e
   request-behind (Refused n) e = rw (total .request-silent s m buffer n e) (refusal-behind (ltb n 7))
 
 module _ (s : State) (p kind reason : ℕ) (words buffer : List ℕ) where
-  report-behind : (o : Outcome) → noted p kind reason words buffer s .answer .outcome ≡ o
-      → drop (noticeLength o) (noted p kind reason words buffer s .answer .buffer) ≡ drop (noticeLength o) buffer
+  report-behind : (o : Outcome) → reportStep p kind reason words buffer s .answer .outcome ≡ o
+      → drop (noticeLength o) (reportStep p kind reason words buffer s .answer .buffer) ≡ drop (noticeLength o) buffer
   unfolding noticeLength
   report-behind (Granted n) e = total .report-past s p kind reason words buffer n e
   report-behind (Refused n) e = rw (total .report-silent s p kind reason words buffer n e)
@@ -87,8 +87,8 @@ same-request : (s : State) (m b c : List ℕ) → length b ≡ length c → requ
 unfolding requestNumber
 same-request s m b c e = rw e
 
-request-front : (s : State) (m b c : List ℕ) → length b ≡ length c → front replyLength (requested m b s .answer) ≡ front replyLength (requested m c s .answer)
-unfolding requested
+request-front : (s : State) (m b c : List ℕ) → length b ≡ length c → front replyLength (requestStep m b s .answer) ≡ front replyLength (requestStep m c s .answer)
+unfolding requestStep
 request-front s m b c e = rw (same-request s m b c e) (go (eqb (requestNumber s m c) 0))
   where
     go : (t : Bool) → front replyLength (cond t (granted (headerOf m) (stringOf m) b s) (refused (requestNumber s m c) (headerOf m) b s) .answer)
@@ -111,8 +111,8 @@ unfolding reportNumber
 same-report s p kind reason b c e = rw e
 
 report-front : (s : State) (p kind reason : ℕ) (words b c : List ℕ) → length b ≡ length c
-    → front noticeLength (noted p kind reason words b s .answer) ≡ front noticeLength (noted p kind reason words c s .answer)
-unfolding noted notified noticeLength
+    → front noticeLength (reportStep p kind reason words b s .answer) ≡ front noticeLength (reportStep p kind reason words c s .answer)
+unfolding reportStep notified noticeLength
 report-front s p kind reason words b c e = rw (same-report s p kind reason b c e) (go (eqb (reportNumber s p kind reason c) 0))
   where
     go : (t : Bool) → front noticeLength (cond t (notified p kind reason words b (localOf s p) (put p (reported kind words (localOf s p)) s)) (answers (Refused (reportNumber s p kind reason c)) b s) .answer)
@@ -122,8 +122,8 @@ report-front s p kind reason words b c e = rw (same-report s p kind reason b c e
 
 pub lengths : Lengths
 lengths = record {
-  request-behind = λ s m buffer. request-behind s m buffer (requested m buffer s .answer .outcome) refl;
-  report-behind = λ s p kind reason words buffer. report-behind s p kind reason words buffer (noted p kind reason words buffer s .answer .outcome) refl;
+  request-behind = λ s m buffer. request-behind s m buffer (requestStep m buffer s .answer .outcome) refl;
+  report-behind = λ s p kind reason words buffer. report-behind s p kind reason words buffer (reportStep p kind reason words buffer s .answer .outcome) refl;
   request-front = request-front;
   report-front = report-front;
 }

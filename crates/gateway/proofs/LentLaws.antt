@@ -12,12 +12,13 @@ use Rattle.format.specs.declared.outcome.Outcome.the-variants.{Refused}
 use Rattle.format.specs.Outcome.{firstFailing}
 use Rattle.state.specs.Records.{soundTest}
 use Rattle.rules.specs.Tests.{State, lent, noRoom}
-use Rattle.rules.specs.Step.{Call, request, report, answers, step, requested, noted}
+use Rattle.rules.specs.Step.{Call, request, report, answers, step, requestStep, reportStep}
+use Rattle.rules.specs.Turn.{bufferOf}
 use Rattle.rules.specs.Isolation.{isGranted}
 use Rattle.state_bytes.specs.Widths.{stateWidth}
 use Rattle.state_bytes.specs.State.{stateOf, stateFormed, stateSound}
 use Rattle.gateway.specs.Stage.{lentNumber}
-use Rattle.gateway.specs.Called.{lentOn, finished, refusedBy, bufferOf, callOn}
+use Rattle.gateway.specs.Called.{lentOn, finished, refusedBy, callOn}
 use Rattle.gateway.proofs.StageLaws.{Fit, lent-fit, request-lent}
 use Rattle.gateway.proofs.ReportLaws.{report-lent}
 
@@ -83,11 +84,11 @@ module _ (state memory buffer : List ℕ) where
 
   -- a call that they let pass
   module _ (e : lentOn state memory buffer ≡ 0) where
-    pub request-fit : (m : List ℕ) → callOn state memory (request m buffer) ≡ finished state (requested m buffer (lent (stateOf state) memory))
+    pub request-fit : (m : List ℕ) → callOn state memory (request m buffer) ≡ finished state (requestStep m buffer (lent (stateOf state) memory))
     unfolding callOn step
     request-fit m = rw (lent-formed e)
 
     pub report-fit : (p kind reason : ℕ) (words : List ℕ)
-        → callOn state memory (report p kind reason words buffer) ≡ finished state (noted p kind reason words buffer (lent (stateOf state) memory))
+        → callOn state memory (report p kind reason words buffer) ≡ finished state (reportStep p kind reason words buffer (lent (stateOf state) memory))
     unfolding callOn step
     report-fit p kind reason words = rw (lent-formed e)

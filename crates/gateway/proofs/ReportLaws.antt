@@ -11,7 +11,7 @@ use Rattle.format.specs.Outcome.{firstFailing}
 use Rattle.format.proofs.OutcomeLaws.{first-passes, rest-passes}
 use Rattle.run_state.specs.RunState.{accepts}
 use Rattle.rules.specs.Tests.{State, recordOf, noRoom, unsound, badReport, reportNumber}
-use Rattle.rules.specs.Step.{answers, localOf, put, notified, noted}
+use Rattle.rules.specs.Step.{answers, localOf, put, notified, reportStep}
 use Rattle.rules.proofs.NumberLaws.{orElse}
 use Rattle.rules.proofs.StateLaws.{put-same}
 use Rattle.service.specs.At.{reportAway, reportNumberAt, reportBy, reportAt}
@@ -32,15 +32,15 @@ module _ (s : State) (p kind reason : ℕ) (words buffer : List ℕ) where
   unfolding reportNumber lentNumber reportAway reportNumberAt firstFailing
   stages = staged (noRoom (s .memory) buffer) (unsound s) (badReport kind reason) (ltb p 8) (recordOf s p .there) (not (accepts kind (recordOf s p .run)))
 
-  refused-by : (n : ℕ) → reportNumber s p kind reason buffer ≡ n → (n ≡ 0 → ⊥) → noted p kind reason words buffer s ≡ answers (Refused n) buffer s
-  unfolding noted
+  refused-by : (n : ℕ) → reportNumber s p kind reason buffer ≡ n → (n ≡ 0 → ⊥) → reportStep p kind reason words buffer s ≡ answers (Refused n) buffer s
+  unfolding reportStep
   refused-by n e z = rw (e, ne-eqb n 0 z)
 
-  pub report-lent : (n : ℕ) → n ≡ lentNumber s buffer → (n ≡ 0 → ⊥) → noted p kind reason words buffer s ≡ answers (Refused n) buffer s
+  pub report-lent : (n : ℕ) → n ≡ lentNumber s buffer → (n ≡ 0 → ⊥) → reportStep p kind reason words buffer s ≡ answers (Refused n) buffer s
   report-lent n e z = refused-by n (stages ∙ rw (← e, ne-eqb n 0 z)) z
 
   module _ (fit : lentNumber s buffer ≡ 0) where
-    pub report-away : (n : ℕ) → n ≡ reportAway p kind reason → (n ≡ 0 → ⊥) → noted p kind reason words buffer s ≡ answers (Refused n) buffer s
+    pub report-away : (n : ℕ) → n ≡ reportAway p kind reason → (n ≡ 0 → ⊥) → reportStep p kind reason words buffer s ≡ answers (Refused n) buffer s
     report-away n e z = refused-by n (stages ∙ rw (fit, ← e, ne-eqb n 0 z)) z
 
     module _ (near : reportAway p kind reason ≡ 0) where
@@ -53,11 +53,11 @@ module _ (s : State) (p kind reason : ℕ) (words buffer : List ℕ) where
       report-low = ltb-true p 8 (not-false _ (first-passes 6 _ _ (rest-passes 13 _ _ near)))
 
       by-number : (k : ℕ) → reportNumberAt kind (recordOf s p) ≡ k
-          → noted p kind reason words buffer s ≡ record { answer = reportBy k p kind reason words buffer (localOf s p) .answer; after = put p (reportBy k p kind reason words buffer (localOf s p) .left) s }
-      unfolding noted notified reportBy
+          → reportStep p kind reason words buffer s ≡ record { answer = reportBy k p kind reason words buffer (localOf s p) .answer; after = put p (reportBy k p kind reason words buffer (localOf s p) .left) s }
+      unfolding reportStep notified reportBy
       by-number zero e = rw (stages, fit, near, e)
       by-number (suc k) e = rw (stages, fit, near, e, ne-eqb (suc k) 0 (λ z. omega (arith, z)), put-same p s)
 
-      pub report-heard : noted p kind reason words buffer s ≡ record { answer = reportAt p kind reason words buffer (localOf s p) .answer; after = put p (reportAt p kind reason words buffer (localOf s p) .left) s }
+      pub report-heard : reportStep p kind reason words buffer s ≡ record { answer = reportAt p kind reason words buffer (localOf s p) .answer; after = put p (reportAt p kind reason words buffer (localOf s p) .left) s }
       unfolding reportAt
       report-heard = by-number (reportNumberAt kind (recordOf s p)) refl

@@ -21,7 +21,7 @@ use Rattle.format.specs.declared.outcome.Reading.the-variants.{Refused as Readi
 use Rattle.format.proofs.OutcomeLaws.{message-header, first-passes, rest-passes}
 use Rattle.state.specs.Records.{Records, soundTest}
 use Rattle.rules.specs.Tests.{State, lent, noRoom, unsound, askedTests, requestNumber}
-use Rattle.rules.specs.Step.{answers, refused, requested}
+use Rattle.rules.specs.Step.{answers, refused, requestStep}
 use Rattle.rules.proofs.NumberLaws.{orElse}
 use Rattle.gateway.specs.Stage.{lentNumber, asked}
 
@@ -62,11 +62,11 @@ module _ (s : State) (m buffer : List ℕ) where
   low-layout false false false true = refl
   low-layout false false false false = refl
 
-  silent : (n : ℕ) → requestNumber s m buffer ≡ n → (n ≡ 0 → ⊥) → ltb n 7 ≡ true → requested m buffer s ≡ answers (OutcomeRefused n) buffer s
-  unfolding requested refused
+  silent : (n : ℕ) → requestNumber s m buffer ≡ n → (n ≡ 0 → ⊥) → ltb n 7 ≡ true → requestStep m buffer s ≡ answers (OutcomeRefused n) buffer s
+  unfolding requestStep refused
   silent n e z low = rw (e, ne-eqb n 0 z, low)
 
-  pub request-lent : (n : ℕ) → n ≡ lentNumber s buffer → (n ≡ 0 → ⊥) → requested m buffer s ≡ answers (OutcomeRefused n) buffer s
+  pub request-lent : (n : ℕ) → n ≡ lentNumber s buffer → (n ≡ 0 → ⊥) → requestStep m buffer s ≡ answers (OutcomeRefused n) buffer s
   unfolding lentNumber firstFailing
   request-lent n e z =
       silent n (number-stages ∙ rw (← e, ne-eqb n 0 z)) z (rw e (low-lent (noRoom (s .memory) buffer) (unsound s)))
@@ -85,7 +85,7 @@ module _ (s : State) (m buffer : List ℕ) where
   unfolding reads layout
   read-says r e = subst Read (sym e) (reading-says (readNumber (requestForm (headerOf m .cmd)) m) refl)
 
-  pub request-read : (n : ℕ) → lentNumber s buffer ≡ 0 → ReadingRefused n ≡ reads requestForm m → requested m buffer s ≡ answers (OutcomeRefused n) buffer s
+  pub request-read : (n : ℕ) → lentNumber s buffer ≡ 0 → ReadingRefused n ≡ reads requestForm m → requestStep m buffer s ≡ answers (OutcomeRefused n) buffer s
   unfolding Read layout readNumber firstFailing
   request-read n z e =
       let r = read-says (ReadingRefused n) e in
@@ -95,8 +95,8 @@ module _ (s : State) (m buffer : List ℕ) where
 
   -- ---- a request that was read
 
-  pub request-asked : (h : Header) → lentNumber s buffer ≡ 0 → Message h ≡ reads requestForm m → requested m buffer s ≡ asked h (stringOf m) buffer s
-  unfolding requested asked Read layout reads
+  pub request-asked : (h : Header) → lentNumber s buffer ≡ 0 → Message h ≡ reads requestForm m → requestStep m buffer s ≡ asked h (stringOf m) buffer s
+  unfolding requestStep asked Read layout reads
   request-asked h z e =
       let r = read-says (Message h) e in
       let number : requestNumber s m buffer ≡ firstFailing (askedTests (headerOf m) s) = number-stages ∙ rw (z, r) in

@@ -1,7 +1,7 @@
 -- A call on a state that is kept as bytes: what it answers, and state, memory and output buffer after it.
 use mathlib.Core.Path.{_≡_}
 use mathlib.Core.Bool.{Bool, cond}
-use mathlib.Core.List.{List, []}
+use mathlib.Core.List.{List}
 use Prim.Native.Nat.{ℕ}
 use lib.ListN.{length}
 use lib.Dec.{eqb}
@@ -9,7 +9,8 @@ use Rattle.format.specs.declared.outcome.Outcome.{Outcome}
 use Rattle.format.specs.declared.outcome.Outcome.the-variants.{Granted, Refused}
 use Rattle.state.specs.Records.{freshStart}
 use Rattle.rules.specs.Tests.{lent, noRoom}
-use Rattle.rules.specs.Step.{Stepped, Call, request, report, store, step}
+use Rattle.rules.specs.Step.{StepResult, Call, step}
+use Rattle.rules.specs.Turn.{bufferOf}
 use Rattle.rules.specs.Isolation.{isGranted}
 use Rattle.state_bytes.specs.Widths.{stateWidth}
 use Rattle.state_bytes.specs.State.{stateBytes, stateOf, stateFormed, stateSound}
@@ -30,19 +31,13 @@ abbrev pub refusedBy : ℕ → List ℕ → List ℕ → List ℕ → Called
 refusedBy number state memory buffer = called (Refused number) state memory buffer
 
 -- a step of the rules, on the record that the bytes are the form of; a refused one leaves the bytes
-unfoldable pub finished : List ℕ → Stepped → Called
+unfoldable pub finished : List ℕ → StepResult → Called
 finished state x =
     called (x .answer .outcome) (cond (isGranted (x .answer .outcome)) (stateBytes (x .after .records)) state) (x .after .memory) (x .answer .buffer)
 
 -- the tests 1 and 2, which every call makes first
 unfoldable pub lentOn : List ℕ → List ℕ → List ℕ → ℕ
 lentOn state memory buffer = cond (noRoom memory buffer) 1 (cond (stateSound state) 0 2)
-
--- the output buffer of a call
-unfoldable pub bufferOf : Call → List ℕ
-bufferOf (request m buffer) = buffer
-bufferOf (report p kind reason words buffer) = buffer
-bufferOf (store p a v) = []
 
 -- a call: the step of the rules on the record that the bytes are the form of; where they are no state's, it is refused by the tests 1 and 2
 unfoldable pub callOn : List ℕ → List ℕ → Call → Called
@@ -55,14 +50,14 @@ unfoldable pub Did : List ℕ → List ℕ → Call → Called → Type 0
 Did state memory c x = x ≡ callOn state memory c
 
 -- what a fresh start answers, and the bytes of the state after it
-pub record Started : Type 0 where
+pub record StartResult : Type 0 where
   pub outcome : Outcome
   pub state : List ℕ
 
 -- the two together
-abbrev pub started : Outcome → List ℕ → Started
+abbrev pub started : Outcome → List ℕ → StartResult
 started o state = record { outcome = o; state = state }
 
 -- a fresh start with these processes, where the state's buffer has its length; else it is refused with 1
-unfoldable pub startOn : List Bool → List ℕ → Started
+unfoldable pub startOn : List Bool → List ℕ → StartResult
 startOn there state = cond (eqb (length state) stateWidth) (started (Granted 0) (stateBytes (freshStart there))) (started (Refused 1) state)

@@ -3,23 +3,23 @@ use mathlib.Core.Path.{_≡_}
 use mathlib.Core.List.{List, [], _∷_}
 use Prim.Native.Nat.{ℕ}
 use Rattle.rules.specs.Tests.{State}
-use Rattle.rules.specs.Step.{Call, request, report, requested, noted, step}
-use Rattle.rules.specs.Run.{Entry, run}
+use Rattle.rules.specs.Step.{Call, request, report, requestStep, reportStep, step}
+use Rattle.rules.specs.Run.{TraceItem, run}
 use Rattle.rules.specs.Total.{Total}
 use Rattle.rules.specs.Rights.{Rights}
 use Rattle.rules.specs.Isolation.{Isolation}
 use Rattle.rules.specs.Outsider.{Outsiders}
 
 -- one call with what it answered and left, as the contracts of `request` and `report` fix it, part by part
-pub record DidStep (s : State) (c : Call) (e : Entry) : Type 0 where
+pub record DidStep (s : State) (c : Call) (e : TraceItem) : Type 0 where
   pub call : e .call ≡ c
   pub outcome : e .answer .outcome ≡ step s c .answer .outcome
   pub buffer : e .answer .buffer ≡ step s c .answer .buffer
-  pub gateway : e .after .records ≡ step s c .after .records
+  pub records : e .after .records ≡ step s c .after .records
   pub memory : e .after .memory ≡ step s c .after .memory
 
 -- calls one after another, each on the state and memory that the one before it left
-unfoldable pub Done : State → List Call → List Entry → Type 0
+unfoldable pub Done : State → List Call → List TraceItem → Type 0
 Done s [] [] = Unit {0}
 Done s [] (e ∷ es) = ⊥
 Done s (c ∷ cs) [] = ⊥
@@ -28,10 +28,10 @@ Done s (c ∷ cs) (e ∷ es) = DidStep s c e × Done (e .after) cs es
 -- the demands hold of the calls of this crate
 pub record Demands : Type 0 where
   -- the definitions that the contracts of `request` and `report` cite are the rules' step
-  pub requests : (s : State) (m buffer : List ℕ) → step s (request m buffer) ≡ requested m buffer s
-  pub reports : (s : State) (p kind reason : ℕ) (words buffer : List ℕ) → step s (report p kind reason words buffer) ≡ noted p kind reason words buffer s
+  pub requests : (s : State) (m buffer : List ℕ) → step s (request m buffer) ≡ requestStep m buffer s
+  pub reports : (s : State) (p kind reason : ℕ) (words buffer : List ℕ) → step s (report p kind reason words buffer) ≡ reportStep p kind reason words buffer s
   -- so calls of the code, one after another, are a run of the rules
-  pub runs : (s : State) (l : List Call) (es : List Entry) → Done s l es → es ≡ run s l
+  pub runs : (s : State) (l : List Call) (es : List TraceItem) → Done s l es → es ≡ run s l
   -- demand 1
   pub total : Total
   -- no host beside another, and none that takes a process from another

@@ -8,7 +8,7 @@ use lib.Dec.{ltb}
 use Rattle.format.specs.declared.outcome.Outcome.{Outcome}
 use Rattle.format.specs.declared.outcome.Outcome.the-variants.{Granted, Refused}
 use Rattle.rules.specs.Tests.{State}
-use Rattle.rules.specs.Step.{Answer, requested, noted}
+use Rattle.rules.specs.Step.{Answer, requestStep, reportStep}
 use Rattle.format.specs.Sizes.{HEADER-BYTES}
 
 -- of a request: the reply; from number 7 on the ten bytes of the CAN'T; else nothing
@@ -29,13 +29,13 @@ front count a = take (count (a .outcome)) (a .buffer)
 pub record Lengths : Type 0 where
   -- behind that many bytes the buffer is what it was
   pub request-behind : (s : State) (m buffer : List ℕ)
-      → drop (replyLength (requested m buffer s .answer .outcome)) (requested m buffer s .answer .buffer)
-      ≡ drop (replyLength (requested m buffer s .answer .outcome)) buffer
+      → drop (replyLength (requestStep m buffer s .answer .outcome)) (requestStep m buffer s .answer .buffer)
+      ≡ drop (replyLength (requestStep m buffer s .answer .outcome)) buffer
   pub report-behind : (s : State) (p kind reason : ℕ) (words buffer : List ℕ)
-      → drop (noticeLength (noted p kind reason words buffer s .answer .outcome)) (noted p kind reason words buffer s .answer .buffer)
-      ≡ drop (noticeLength (noted p kind reason words buffer s .answer .outcome)) buffer
+      → drop (noticeLength (reportStep p kind reason words buffer s .answer .outcome)) (reportStep p kind reason words buffer s .answer .buffer)
+      ≡ drop (noticeLength (reportStep p kind reason words buffer s .answer .outcome)) buffer
   -- and that many bytes are the same whatever stood in the buffer
   pub request-front : (s : State) (m b c : List ℕ) → length b ≡ length c
-      → front replyLength (requested m b s .answer) ≡ front replyLength (requested m c s .answer)
+      → front replyLength (requestStep m b s .answer) ≡ front replyLength (requestStep m c s .answer)
   pub report-front : (s : State) (p kind reason : ℕ) (words b c : List ℕ) → length b ≡ length c
-      → front noticeLength (noted p kind reason words b s .answer) ≡ front noticeLength (noted p kind reason words c s .answer)
+      → front noticeLength (reportStep p kind reason words b s .answer) ≡ front noticeLength (reportStep p kind reason words c s .answer)

@@ -9,7 +9,7 @@ use state::start;
 use state_bytes::read_process_at;
 ghost use mathlib.Core.Path.{_≡_};
 ghost use Rattle.rules.specs.Tests.{lent};
-ghost use Rattle.rules.specs.Step.{report, noted};
+ghost use Rattle.rules.specs.Step.{report, reportStep};
 ghost use Rattle.service.specs.At.{reportAway};
 ghost use Rattle.state_bytes.specs.State.{stateOf};
 ghost use Rattle.gateway.specs.Called.{called, lentOn, finished, Did};
@@ -26,7 +26,7 @@ fn report_known(
 ) -> Outcome
     requires { ⌜ lentOn (now state) (now memory) (now notice) ≡ 0 ⌝ }
     requires { ⌜ reportAway pid kind reason ≡ 0 ⌝ }
-    ensures { λ r. ⌜ called r (now (state .exit)) (now (memory .exit)) (now (notice .exit)) ≡ finished (now (state .entry)) (noted pid kind reason words (now (notice .entry)) (lent (stateOf (now (state .entry))) (now (memory .entry)))) ⌝ }
+    ensures { λ r. ⌜ called r (now (state .exit)) (now (memory .exit)) (now (notice .exit)) ≡ finished (now (state .entry)) (reportStep pid kind reason words (now (notice .entry)) (lent (stateOf (now (state .entry))) (now (memory .entry)))) ⌝ }
 {
     let index = pid as usize;
     let process = read_process_at(state, index);

@@ -17,4 +17,4 @@ pub use record::ENTRIES;
 pub use record::MEMORY_BYTES;
 pub use record::Process;
 pub use record::VECTOR_BYTES;
-pub use report::Reported;
+pub use report::ReportResult;

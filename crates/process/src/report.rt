@@ -20,7 +20,7 @@ pub enum Verdict {
 }
 
 // A process after a report, and the host that is told of it; 0 is nobody.
-pub struct Reported {
+pub struct ReportResult {
     pub process: Process,
     pub told: u8,
 }
@@ -66,7 +66,7 @@ impl Process {
     }
 
     // A report of this kind about a process that accepts it.
-    pub fn report(self, bytes: &mut [u8], kind: u8, vector: [u16; 9]) -> Reported
+    pub fn report(self, bytes: &mut [u8], kind: u8, vector: [u16; 9]) -> ReportResult
         requires { ⌜ Tested self (now bytes) ⌝ }
         ensures { λ r. ⌜ r .process ≡ reported kind vector (local self (now (bytes .entry))) .process ⌝ }
         ensures { λ r. ⌜ r .told ≡ recipientOf kind vector (local self (now (bytes .entry))) ⌝ }
@@ -75,11 +75,11 @@ impl Process {
         let p = self.store_vector_and_replant(vector, bytes);
         let verdict = p.verdict(kind);
         match verdict {
-            Verdict::Stops => Reported {
+            Verdict::Stops => ReportResult {
                 process: p.with_run(Run::after(kind)),
                 told: self.host,
             },
-            Verdict::CountsDown(k) => Reported {
+            Verdict::CountsDown(k) => ReportResult {
                 process: p.pass(k, bytes),
                 told: 0,
             },

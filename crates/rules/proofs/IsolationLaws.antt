@@ -13,11 +13,11 @@ use Rattle.process.specs.Local.{Local}
 use Rattle.rules.specs.Rule.{Public, public}
 use Rattle.rules.specs.Tests.{State}
 use Rattle.rules.specs.Access.{Asker, nobody, by, insider, Access, Place, nowhere, atProcess, Turn, numberAt, reached, taken}
-use Rattle.rules.specs.Step.{Answer, Stepped, localOf, Call, step}
+use Rattle.rules.specs.Step.{Answer, StepResult, localOf, Call, step}
 use Rattle.rules.specs.Turn.{turnOf, bufferOf}
 use Rattle.rules.specs.Ready.{Ready}
-use Rattle.rules.specs.Run.{entry}
-use Rattle.rules.specs.Isolation.{Hosts, Processes, asker, subject, event, passedOver, isOne, publicOf, Debuggers, noticed, sentTo, part, struck, blank, Apart, Free, theirs}
+use Rattle.rules.specs.Run.{traceItem}
+use Rattle.rules.specs.Isolation.{Hosts, Processes, asker, subject, event, passedOver, isOne, publicOf, Debuggers, noticed, sentTo, part, struck, withoutData, Apart, NoneDebugs, theirs}
 use Rattle.rules.proofs.StateLaws.{local-proper, Changed, unchanged, put-changed}
 use Rattle.rules.proofs.AccessLaws.{saidAt, leftAt, Taking, May, Discreet, Fair, outer-zero, said-stranger, left-alike, quiet}
 use Rattle.rules.proofs.CallLaws.{Silent, Placed}
@@ -33,7 +33,7 @@ apart-same P s = record { shown = λ p h. refl; others = λ p h n. refl }
 pub apart-back : (P : Processes) (s t : State) → Apart P s t → Apart P t s
 apart-back P s t a = record { shown = λ p h. sym (a .shown p h); others = λ p h n. sym (a .others p h n) }
 
-pub free-apart : (H : Hosts) (P : Processes) (s t : State) → Apart P s t → Free H P s → Free H P t
+pub free-apart : (H : Hosts) (P : Processes) (s t : State) → Apart P s t → NoneDebugs H P s → NoneDebugs H P t
 free-apart H P s t a f p h e host i = ap (λ (u : Public). insider u host) (sym (a .shown p h)) ∙ f p h e host i
 
 -- two states that changed at one process
@@ -76,7 +76,7 @@ hidden-apart P s t r c i silent a = record {
 
 module _ (H : Hosts) (P : Processes) where
   -- hosts who do not ask it hear nothing of it
-  unheard-by : (w : Asker) (s : State) (c : Call) → Ready s → Free H P s → subject P c ≡ true → asker c ≡ w → isOne H w ≡ false → sentTo H w (step s c .answer) ≡ false
+  unheard-by : (w : Asker) (s : State) (c : Call) → Ready s → NoneDebugs H P s → subject P c ≡ true → asker c ≡ w → isOne H w ≡ false → sentTo H w (step s c .answer) ≡ false
   unfolding sentTo isOne noticed
   unheard-by (by host) s c r f i e n = n
   unheard-by nobody s c r f i e n = go (done s r c)
@@ -89,7 +89,7 @@ module _ (H : Hosts) (P : Processes) where
           (quiet H (publicOf s p) (f p (t .low) (t .named P i)) (a .reply (localOf s p)) (bufferOf c)
           (subst (λ (w : Asker). Discreet w (publicOf s p) (a .reply (localOf s p))) e (t .fair .discreet (localOf s p))))
 
-  unheard : (s : State) (c : Call) → Ready s → Free H P s → subject P c ≡ true → isOne H (asker c) ≡ false → part H (entry s c) ≡ []
+  unheard : (s : State) (c : Call) → Ready s → NoneDebugs H P s → subject P c ≡ true → isOne H (asker c) ≡ false → part H (traceItem s c) ≡ []
   unfolding part
   unheard s c r f i n = rw (unheard-by (asker c) s c r f i refl n)
 
@@ -100,14 +100,14 @@ module _ (H : Hosts) (P : Processes) where
   struck-apart s t r a c e =
       hidden-apart P s t r c (&&-right (event c) (subject P c) e) (lawful c .event-silent (&&-left (event c) (subject P c) e)) a
 
-  pub struck-part : (s : State) → Ready s → Free H P s → (c : Call) → struck P c ≡ true → part H (entry s c) ≡ []
+  pub struck-part : (s : State) → Ready s → NoneDebugs H P s → (c : Call) → struck P c ≡ true → part H (traceItem s c) ≡ []
   unfolding struck isOne
   struck-part s r f c e =
       unheard s c r f (&&-right (event c) (subject P c) e) (ap (isOne H) (lawful c .event-asker (&&-left (event c) (subject P c) e)))
 
   -- ---- their own calls that name one of the processes
 
-  idle-by : (w : Asker) (s : State) (c : Call) → Ready s → asker c ≡ w → isOne H w ≡ true → subject P c ≡ true → Free H P s → Free H P (step s c .after) → step s c .after ≡ s
+  idle-by : (w : Asker) (s : State) (c : Call) → Ready s → asker c ≡ w → isOne H w ≡ true → subject P c ≡ true → NoneDebugs H P s → NoneDebugs H P (step s c .after) → step s c .after ≡ s
   unfolding isOne May
   idle-by nobody s c r e h i before after = absurd (true≢false (sym h))
   idle-by (by host) s c r e h i before after = go (done s r c)
@@ -125,7 +125,7 @@ module _ (H : Hosts) (P : Processes) where
           may (inl k) = true≢false (sym k ∙ before p (t .low) (t .named P i) host h)
           may (inr k) = true≢false (sym (k .takes (publicOf s p)) ∙ sym (ap (λ (u : Public). insider u host) after-public) ∙ after p (t .low) (t .named P i) host h)
 
-  pub theirs-idle : (s : State) → Ready s → (c : Call) → theirs H P c ≡ true → Free H P s → Free H P (step s c .after) → step s c .after ≡ s
+  pub theirs-idle : (s : State) → Ready s → (c : Call) → theirs H P c ≡ true → NoneDebugs H P s → NoneDebugs H P (step s c .after) → step s c .after ≡ s
   unfolding theirs
   theirs-idle s r c e = idle-by (asker c) s c r refl (&&-left (isOne H (asker c)) (subject P c) e) (&&-right (isOne H (asker c)) (subject P c) e)
 
@@ -161,10 +161,10 @@ reached-changed w p low a then f buffer s r = go (eqb (numberAt a (localOf s p))
 
 module _ (H : Hosts) (P : Processes) (s₁ s₂ : State) (r₁ : Ready s₁) (r₂ : Ready s₂) (a : Apart P s₁ s₂) where
   -- two runs of one call
-  pub record Both (w : Asker) (x y : Stepped) : Type 0 where
+  pub record Both (w : Asker) (x y : StepResult) : Type 0 where
     pub apart : Apart P (x .after) (y .after)
-    pub same : Free H P s₁ → isOne H w ≡ true → x .answer ≡ y .answer
-    pub parts : Free H P s₁ → heardOf H w (x .answer) ≡ heardOf H w (y .answer)
+    pub same : NoneDebugs H P s₁ → isOne H w ≡ true → x .answer ≡ y .answer
+    pub parts : NoneDebugs H P s₁ → heardOf H w (x .answer) ≡ heardOf H w (y .answer)
 
   both-there : (w : Asker) (p : ℕ) (low : p < 8) (i : Access) (then : Public → Public) → Fair w i then → (buffer : List ℕ)
       → Both w (reached (atProcess p i) buffer s₁) (reached (atProcess p i) buffer s₂)
@@ -182,16 +182,16 @@ module _ (H : Hosts) (P : Processes) (s₁ s₂ : State) (r₁ : Ready s₁) (r�
       l₂ : Local
       l₂ = localOf s₂ p
 
-      same : (w : Asker) → Fair w i then → Free H P s₁ → isOne H w ≡ true → (t : Bool) → P p ≡ t → saidAt i buffer (localOf s₁ p) ≡ saidAt i buffer (localOf s₂ p)
+      same : (w : Asker) → Fair w i then → NoneDebugs H P s₁ → isOne H w ≡ true → (t : Bool) → P p ≡ t → saidAt i buffer (localOf s₁ p) ≡ saidAt i buffer (localOf s₂ p)
       same w f free h false n = ap (saidAt i buffer) (a .others p low n)
       same nobody f free h true n = absurd (true≢false (sym h))
       same (by host) f free h true n = said-stranger host i then f buffer (localOf s₁ p) (localOf s₂ p) (a .shown p low) (free p low n host h)
 
-      asked : (host : ℕ) → Fair (by host) i then → Free H P s₁ → (t : Bool) → H host ≡ t → heardOf H (by host) (saidAt i buffer (localOf s₁ p)) ≡ heardOf H (by host) (saidAt i buffer (localOf s₂ p))
+      asked : (host : ℕ) → Fair (by host) i then → NoneDebugs H P s₁ → (t : Bool) → H host ≡ t → heardOf H (by host) (saidAt i buffer (localOf s₁ p)) ≡ heardOf H (by host) (saidAt i buffer (localOf s₂ p))
       asked host f free true h = ap (heardOf H (by host)) (same (by host) f free h (P p) refl)
       asked host f free false h = rw h
 
-      parts : (w : Asker) → Fair w i then → Free H P s₁ → (t : Bool) → P p ≡ t → heardOf H w (saidAt i buffer (localOf s₁ p)) ≡ heardOf H w (saidAt i buffer (localOf s₂ p))
+      parts : (w : Asker) → Fair w i then → NoneDebugs H P s₁ → (t : Bool) → P p ≡ t → heardOf H w (saidAt i buffer (localOf s₁ p)) ≡ heardOf H w (saidAt i buffer (localOf s₂ p))
       parts w f free false n = ap (λ (l : Local). heardOf H w (saidAt i buffer l)) (a .others p low n)
       parts nobody f free true n =
           rw (quiet-said H i then f buffer (localOf s₁ p) (free p low n), quiet-said H i then f buffer (localOf s₂ p) (free-apart H P s₁ s₂ a free p low n))
@@ -217,7 +217,7 @@ module _ (H : Hosts) (P : Processes) (s₁ s₂ : State) (r₁ : Ready s₁) (r�
 
   pub record Stays (c d : Call) : Type 0 where
     pub apart : Apart P (step s₁ c .after) (step s₂ d .after)
-    pub parts : Free H P s₁ → part H (entry s₁ c) ≡ part H (entry s₂ d)
+    pub parts : NoneDebugs H P s₁ → part H (traceItem s₁ c) ≡ part H (traceItem s₂ d)
 
   stays-same : (c : Call) → Stays c c
   unfolding part
@@ -235,9 +235,9 @@ module _ (H : Hosts) (P : Processes) (s₁ s₂ : State) (r₁ : Ready s₁) (r�
       over : subject P (passedOver c) ≡ true
       over = lawful c .over-subject P i
 
-  pub stays-blank : (c : Call) → Stays c (blank H P c)
-  unfolding blank
-  stays-blank c =
+  pub stays-withoutData : (c : Call) → Stays c (withoutData H P c)
+  unfolding withoutData
+  stays-withoutData c =
       by-test (Stays c) (not (isOne H (asker c)) && subject P c)
       (λ e. stays-over c (not-true _ (&&-left (not (isOne H (asker c))) (subject P c) e)) (&&-right (not (isOne H (asker c))) (subject P c) e) (lawful c .over-silent))
       (λ e. stays-same c)

@@ -5,10 +5,10 @@ use mathlib.Core.List.{List, [], _∷_, _++_}
 use Rattle.rules.specs.Tests.{State}
 use Rattle.rules.specs.Step.{Answer, Call, step}
 use Rattle.rules.specs.Ready.{Ready}
-use Rattle.rules.specs.Run.{Entry, entry, run, final, leave}
-use Rattle.rules.specs.Isolation.{Hosts, Processes, asker, isOne, part, heard, struck, blank, strike, Alike, Apart, Free, Away, theirs, Claim}
+use Rattle.rules.specs.Run.{TraceItem, traceItem, run, final, leave}
+use Rattle.rules.specs.Isolation.{Hosts, Processes, asker, isOne, part, heard, struck, withoutData, strike, Alike, Apart, NoneDebugs, NeverDebugs, theirs, Claim}
 use Rattle.rules.proofs.StepLaws.{step-ready}
-use Rattle.rules.proofs.IsolationLaws.{apart-same, apart-back, free-apart, struck-apart, struck-part, both, stays-blank, theirs-idle}
+use Rattle.rules.proofs.IsolationLaws.{apart-same, apart-back, free-apart, struck-apart, struck-part, both, stays-withoutData, theirs-idle}
 use Rattle.rules.proofs.TraceLaws.{Machine, Stepwise, Idle, heardOf, strikeOf, AwayOf, finalOf, runOf, leaveOf, restOf}
 use Rattle.rules.proofs.TraceLaws.{both-away as away, same-heard as heard-alike, same-next as next-alike, left-out as run-left, same-end as end-left}
 
@@ -21,13 +21,13 @@ module _ (H : Hosts) (P : Processes) where
     A = Answer;
     K = Processes;
     after = λ s c. step s c .after;
-    part = λ s c. part H (entry s c);
+    part = λ s c. part H (traceItem s c);
     struck = struck;
-    blank = blank H;
+    withoutData = withoutData H;
     next = λ k s c. k;
     Ready = Ready;
     Apart = Apart;
-    Free = Free H;
+    NoneDebugs = NoneDebugs H;
   }
 
   stepwise : Stepwise machine
@@ -40,8 +40,8 @@ module _ (H : Hosts) (P : Processes) where
     struck-apart = λ k s t r a c e. struck-apart H k s t r a c e;
     struck-part = λ k s r f c e. struck-part H k s r f c e;
     stays-next = λ k s t r q a f c e. refl;
-    stays-apart = λ k s t r q a f c e. stays-blank H k s t r q a c .apart;
-    stays-part = λ k s t r q a f c e. stays-blank H k s t r q a c .parts f;
+    stays-apart = λ k s t r q a f c e. stays-withoutData H k s t r q a c .apart;
+    stays-part = λ k s t r q a f c e. stays-withoutData H k s t r q a c .parts f;
   }
 
   idles : Idle machine (theirs H)
@@ -52,38 +52,38 @@ module _ (H : Hosts) (P : Processes) where
   is-heard : (s : State) (l : List Call) → heard H (run s l) ≡ heardOf machine s l
   unfolding heard run heardOf
   is-heard s [] = refl
-  is-heard s (c ∷ l) = ap (λ (x : List Answer). part H (entry s c) ++ x) (is-heard (step s c .after) l)
+  is-heard s (c ∷ l) = ap (λ (x : List Answer). part H (traceItem s c) ++ x) (is-heard (step s c .after) l)
 
   is-strike : (s : State) (l : List Call) → strike H P l ≡ strikeOf machine P s l
   unfolding strike strikeOf
   is-strike s [] = refl
   is-strike s (c ∷ l) = rw (is-strike (step s c .after) l)
 
-  is-away : (s : State) (l : List Call) → Away H P s l ≡ AwayOf machine P s l
-  unfolding Away AwayOf
+  is-away : (s : State) (l : List Call) → NeverDebugs H P s l ≡ AwayOf machine P s l
+  unfolding NeverDebugs AwayOf
   is-away s [] = refl
-  is-away s (c ∷ l) = ap (λ (T : Type 0). Free H P s × T) (is-away (step s c .after) l)
+  is-away s (c ∷ l) = ap (λ (T : Type 0). NoneDebugs H P s × T) (is-away (step s c .after) l)
 
   is-final : (s : State) (l : List Call) → final s l ≡ finalOf machine s l
   unfolding final finalOf
   is-final s [] = refl
   is-final s (c ∷ l) = is-final (step s c .after) l
 
-  is-run : (s : State) (l : List Call) → run s l ≡ runOf machine entry (theirs H) s l
+  is-run : (s : State) (l : List Call) → run s l ≡ runOf machine traceItem (theirs H) s l
   unfolding run runOf
   is-run s [] = refl
-  is-run s (c ∷ l) = ap (λ (x : List Entry). entry s c ∷ x) (is-run (step s c .after) l)
+  is-run s (c ∷ l) = ap (λ (x : List TraceItem). traceItem s c ∷ x) (is-run (step s c .after) l)
 
-  is-leave : (s : State) (bs : List Bool) (l : List Call) → leave (theirs H P) bs l ≡ leaveOf machine entry (theirs H) P s bs l
+  is-leave : (s : State) (bs : List Bool) (l : List Call) → leave (theirs H P) bs l ≡ leaveOf machine traceItem (theirs H) P s bs l
   unfolding leave leaveOf
   is-leave s [] l = refl
   is-leave s (b ∷ bs) [] = refl
   is-leave s (b ∷ bs) (c ∷ l) = rw (is-leave (step s c .after) bs l)
 
-  abbrev theirEntry : Entry → Bool
+  abbrev theirEntry : TraceItem → Bool
   theirEntry e = theirs H P (e .call)
 
-  is-rest : (s : State) (bs : List Bool) (l : List Call) → leave theirEntry bs (run s l) ≡ restOf machine entry (theirs H) P s bs l
+  is-rest : (s : State) (bs : List Bool) (l : List Call) → leave theirEntry bs (run s l) ≡ restOf machine traceItem (theirs H) P s bs l
   unfolding leave run restOf
   is-rest s [] l = is-run s l
   is-rest s (b ∷ bs) [] = refl
@@ -91,7 +91,7 @@ module _ (H : Hosts) (P : Processes) where
 
   -- ---- the claim
 
-  module _ (s₁ s₂ : State) (r₁ : Ready s₁) (r₂ : Ready s₂) (a : Apart P s₁ s₂) (l₁ l₂ : List Call) (e : Alike H P l₁ l₂) (w : Away H P s₁ l₁) where
+  module _ (s₁ s₂ : State) (r₁ : Ready s₁) (r₂ : Ready s₂) (a : Apart P s₁ s₂) (l₁ l₂ : List Call) (e : Alike H P l₁ l₂) (w : NeverDebugs H P s₁ l₁) where
     alike : strikeOf machine P s₁ l₁ ≡ strikeOf machine P s₂ l₂
     alike = sym (is-strike s₁ l₁) ∙ e ∙ is-strike s₂ l₂
 
@@ -107,25 +107,25 @@ module _ (H : Hosts) (P : Processes) where
         ∙ next-alike machine stepwise (λ (s : State). step s c .answer) (λ k s t r q b f. both H k s t r q b c .same f h) P s₁ s₂ r₁ r₂ a l₁ l₂ alike apart
         ∙ sym (ap (λ (s : State). step s c .answer) (is-final s₂ l₂))
 
-    both-away : Away H P s₂ l₂
+    both-away : NeverDebugs H P s₂ l₂
     both-away = subst (λ (T : Type 0). T) (sym (is-away s₂ l₂)) (away machine stepwise P s₁ s₂ r₁ r₂ a l₁ l₂ alike apart)
 
-  module _ (s : State) (r : Ready s) (l : List Call) (w : Away H P s l) (marks : List Bool) where
+  module _ (s : State) (r : Ready s) (l : List Call) (w : NeverDebugs H P s l) (marks : List Bool) where
     still : AwayOf machine P s l
     still = subst (λ (T : Type 0). T) (is-away s l) w
 
     left-out : run s (leave (theirs H P) marks l) ≡ leave theirEntry marks (run s l)
     left-out =
         ap (run s) (is-leave s marks l)
-        ∙ is-run s (leaveOf machine entry (theirs H) P s marks l)
-        ∙ run-left machine entry (theirs H) idles marks l P s r still
+        ∙ is-run s (leaveOf machine traceItem (theirs H) P s marks l)
+        ∙ run-left machine traceItem (theirs H) idles marks l P s r still
         ∙ sym (is-rest s marks l)
 
     same-end : final s (leave (theirs H P) marks l) ≡ final s l
     same-end =
         ap (final s) (is-leave s marks l)
-        ∙ is-final s (leaveOf machine entry (theirs H) P s marks l)
-        ∙ end-left machine entry (theirs H) idles marks l P s r still
+        ∙ is-final s (leaveOf machine traceItem (theirs H) P s marks l)
+        ∙ end-left machine traceItem (theirs H) idles marks l P s r still
         ∙ sym (is-final s l)
 
   pub claim : Claim H P

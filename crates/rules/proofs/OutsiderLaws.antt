@@ -12,7 +12,7 @@ use Rattle.rules.specs.Access.{insider}
 use Rattle.rules.specs.Step.{Call, step}
 use Rattle.rules.specs.Ready.{Ready}
 use Rattle.rules.specs.Run.{run}
-use Rattle.rules.specs.Isolation.{isOne, Apart, Free, Away, toldOf, publicOf, Debuggers, Claim}
+use Rattle.rules.specs.Isolation.{isOne, Apart, NoneDebugs, NeverDebugs, toldOf, publicOf, Debuggers, Claim}
 use Rattle.rules.specs.Outsider.{only, Differ, Never, Outside, Outsider}
 use Rattle.rules.proofs.StepLaws.{step-ready}
 use Rattle.rules.proofs.ListLaws.{claim}
@@ -36,10 +36,10 @@ differ-apart p s₁ s₂ d = record {
 -- ---- not to debug it, by the answers and by the states
 
 module _ (host p : ℕ) where
-  out-free : (s : State) → insider (publicOf s p) host ≡ false → Free (only host) (only p) s
+  out-free : (s : State) → insider (publicOf s p) host ≡ false → NoneDebugs (only host) (only p) s
   out-free s n q low e k i = rw (← eqb-true p q e, ← eqb-true host k i) n
 
-  free-out : p < 8 → (s : State) → Free (only host) (only p) s → insider (publicOf s p) host ≡ false
+  free-out : p < 8 → (s : State) → NoneDebugs (only host) (only p) s → insider (publicOf s p) host ≡ false
   free-out low s f = f p low (eq-eqb p p refl) host (eq-eqb host host refl)
 
   -- what the calls tell is what the states hold
@@ -47,8 +47,8 @@ module _ (host p : ℕ) where
   unfolding Debuggers
   told-after s r c = fun-ext (λ q. sym (debuggers s r c q))
 
-  out-away : (l : List Call) (s : State) → Ready s → Outside host p s l → Away (only host) (only p) s l
-  unfolding Never Away run
+  out-away : (l : List Call) (s : State) → Ready s → Outside host p s l → NeverDebugs (only host) (only p) s l
+  unfolding Never NeverDebugs run
   out-away [] s r w = out-free s w
   out-away (c ∷ l) s r w = (
     out-free s (w .0),
@@ -56,8 +56,8 @@ module _ (host p : ℕ) where
         (subst (λ (who : ℕ → Public). Never host p who (run (step s c .after) l)) (told-after s r c) (w .1)),
   )
 
-  away-out : p < 8 → (l : List Call) (s : State) → Ready s → Away (only host) (only p) s l → Outside host p s l
-  unfolding Never Away run
+  away-out : p < 8 → (l : List Call) (s : State) → Ready s → NeverDebugs (only host) (only p) s l → Outside host p s l
+  unfolding Never NeverDebugs run
   away-out low [] s r w = free-out low s w
   away-out low (c ∷ l) s r w = (
     free-out low s (w .0),

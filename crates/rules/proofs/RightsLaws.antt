@@ -9,7 +9,7 @@ use lib.Dec.{eqb}
 use Rattle.rules.specs.Rule.{Public}
 use Rattle.rules.specs.Tests.{State}
 use Rattle.rules.specs.Access.{Asker, nobody, by, Access, numberAt}
-use Rattle.rules.specs.Step.{Stepped, localOf, put, Call, step}
+use Rattle.rules.specs.Step.{StepResult, localOf, put, Call, step}
 use Rattle.rules.specs.Ready.{Ready}
 use Rattle.rules.specs.Run.{final}
 use Rattle.rules.specs.Isolation.{asker, fieldsOf, isGranted, publicOf}
@@ -67,7 +67,7 @@ turns s r c p low = go (done s r c)
         at : (b : Bool) → eqb p q ≡ b → (holder (step s c .after) p ≡ holder s p) ⊎ (Begins p s c ⊎ Ends p s c)
         at true i =
             let same = eqb-true p q i in
-            begun s c p (ap (λ (x : Stepped). isGranted (x .answer .outcome)) e)
+            begun s c p (ap (λ (x : StepResult). isGranted (x .answer .outcome)) e)
             (subst (λ (k : ℕ). Turns (asker c) (fieldsOf c) k (publicOf s k) (publicOf (step s c .after) k)) (sym same) (rw e (acts-turns s r c q a t z)))
         at false i = inl (rw e (ap (λ (u : Public). u .host) (acts-else s r c q a t z p (eqb-false p q i))))
 

@@ -24,7 +24,7 @@ use Rattle.process.specs.Request.{pc, onRecord, hasBreak, hasRoom, endDebugged,
 use Rattle.process.specs.declared.report.Verdict.{Verdict}
 use Rattle.process.specs.declared.report.Verdict.the-variants.{Stops, CountsDown}
 use Rattle.process.specs.Report.{storeVectorAndReplant, verdictOf, passed, carriedOut, reported}
-use Rattle.rules.specs.Rule.{Public, public, Rule, rules, noRule, debugRule, endDebugRule, examineRule, breakRule, unbreakRule, plain, whileRun, within, upTo, ruleOf}
+use Rattle.rules.specs.Rule.{Public, public, Rule, rules, noRule, debugRule, endDebugRule, examineRule, breakRule, unbreakRule, plain, whileRun, inRange, upTo, ruleOf}
 use Rattle.rules.specs.Access.{Asker, by}
 use Rattle.rules.specs.Isolation.{publicThen}
 use Rattle.rules.proofs.ProperLaws.{end-debug-proper, stop-proper, step-proper, proceed-proper, deposit-proper, break-proper, unbreak-proper, destroy-proper, host-proper, resume-proper, vector-proper}
@@ -183,10 +183,10 @@ stop-row =
     (λ h s l. by-public (moving (l .process .run)) _ l _ (public-replanted l) refl)
     (λ h s l g p. stop-proper l g)
 
-deposit-row : Row 4 (within (upTo 4096) (λ h s. deposited (h .arg1) s))
+deposit-row : Row 4 (inRange (upTo 4096) (λ h s. deposited (h .arg1) s))
 unfolding deposited public
 deposit-row =
-    quiet-row 4 (within (upTo 4096) (λ h s. deposited (h .arg1) s)) (by-others 4 refl refl refl) held (λ h s l. refl)
+    quiet-row 4 (inRange (upTo 4096) (λ h s. deposited (h .arg1) s)) (by-others 4 refl refl refl) held (λ h s l. refl)
     (λ h s l g p. deposit-proper l g (h .arg1) s (omega (arith, leb-true (h .arg1 + h .arg2) 4096 (p .range), p .carried)))
 
 resume-row : Row 5 (whileRun stoppedOrAtBreak (λ h s. resumed))
@@ -196,10 +196,10 @@ resume-row = quiet-row 5 (whileRun stoppedOrAtBreak (λ h s. resumed)) (by-other
 examine-row : Row 6 examineRule
 examine-row = quiet-row 6 examineRule (by-others 6 refl refl refl) held (λ h s l. refl) (λ h s l g p. g)
 
-vector-row : Row 7 (within (upTo 18) (λ h s. vectorDeposited (h .arg1) s))
+vector-row : Row 7 (inRange (upTo 18) (λ h s. vectorDeposited (h .arg1) s))
 unfolding public
 vector-row =
-    quiet-row 7 (within (upTo 18) (λ h s. vectorDeposited (h .arg1) s)) (by-others 7 refl refl refl) held (λ h s l. refl) (λ h s l g p. vector-proper _ l g)
+    quiet-row 7 (inRange (upTo 18) (λ h s. vectorDeposited (h .arg1) s)) (by-others 7 refl refl refl) held (λ h s l. refl) (λ h s l g p. vector-proper _ l g)
 
 -- where there is none at the address there is room
 room-or : (t u : Bool) → t || u ≡ true → t ≡ false → u ≡ true

@@ -8,7 +8,7 @@ use Rattle.format.specs.Outcome.{firstFailing}
 use Rattle.process.specs.Local.{Proper}
 use Rattle.rules.specs.Tests.{State}
 use Rattle.rules.specs.Access.{Access, Place, nowhere, atProcess, numberAt, grants, refuses, reached, taken}
-use Rattle.rules.specs.Step.{Stepped, localOf, put, Call, step}
+use Rattle.rules.specs.Step.{StepResult, localOf, put, Call, step}
 use Rattle.rules.specs.Turn.{turnOf, bufferOf}
 use Rattle.rules.specs.Ready.{Ready}
 use Rattle.rules.proofs.StateLaws.{local-proper, Changed, put-changed, put-ready}
@@ -17,7 +17,7 @@ use Rattle.rules.proofs.CallLaws.{There, Nowhere, Placed}
 use Rattle.rules.proofs.LawfulLaws.{lawful}
 
 -- what came of a call
-pub data Done (s : State) (c : Call) (x : Stepped) : Type 0 where
+pub data Done (s : State) (c : Call) (x : StepResult) : Type 0 where
   stays : (number : ℕ) (bytes : List ℕ) → x ≡ record { answer = refuses number bytes (bufferOf c); after = s } → Done s c x
   idles : (bytes : List ℕ) → Nowhere c bytes → x ≡ record { answer = grants bytes (bufferOf c); after = s } → Done s c x
   acts : (p : ℕ) (a : Access) → There s c p a → numberAt a (localOf s p) ≡ 0

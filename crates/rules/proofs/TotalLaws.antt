@@ -17,7 +17,7 @@ use Rattle.format.specs.Answer.{cantOf}
 use Rattle.format.proofs.LayoutLaws.{length-written}
 use Rattle.rules.specs.Tests.{State, requestNumber, reportNumber}
 use Rattle.rules.specs.Access.{Place, nowhere, atProcess, Turn, numberAt, reached, taken}
-use Rattle.rules.specs.Step.{Stepped, localOf, put, granted, refused, requested, noted, Call, request, report, step}
+use Rattle.rules.specs.Step.{StepResult, localOf, put, granted, refused, requestStep, reportStep, Call, request, report, step}
 use Rattle.rules.specs.Turn.{turnOf, bufferOf}
 use Rattle.rules.specs.Isolation.{isGranted}
 use Rattle.rules.specs.Total.{testsOf, First, cantOver, Total}
@@ -40,7 +40,7 @@ first-is (t ∷ ts) = go (t .fails) refl (first-is ts)
 -- ---- a call in its parts
 
 -- a call that was answered with this number from this state, with this buffer lent
-record Told (number : ℕ) (buffer : List ℕ) (s : State) (x : Stepped) : Type 0 where
+record Told (number : ℕ) (buffer : List ℕ) (s : State) (x : StepResult) : Type 0 where
   is : numberOf (x .answer .outcome) ≡ number
   grant : number ≡ 0 → isGranted (x .answer .outcome) ≡ true
   kept : (number ≡ 0 → ⊥) → x .after ≡ s
@@ -88,24 +88,24 @@ told s c = rw (lawful c .turn s, ← lawful c .number s) (turn-told (turnOf s c)
 
 -- ---- the column 'Written'
 
-request-silent : (s : State) (m buffer : List ℕ) (n : ℕ) → requested m buffer s .answer .outcome ≡ Refused n
-    → requested m buffer s .answer .buffer ≡ cond (ltb n 7) buffer (cantOver m buffer)
-unfolding step testsOf requestNumber requested refused isGranted
+request-silent : (s : State) (m buffer : List ℕ) (n : ℕ) → requestStep m buffer s .answer .outcome ≡ Refused n
+    → requestStep m buffer s .answer .buffer ≡ cond (ltb n 7) buffer (cantOver m buffer)
+unfolding step testsOf requestNumber requestStep refused isGranted
 request-silent s m buffer n e = go (eqb (requestNumber s m buffer) 0) refl
   where
-    go : (t : Bool) → eqb (requestNumber s m buffer) 0 ≡ t → requested m buffer s .answer .buffer ≡ cond (ltb n 7) buffer (cantOver m buffer)
+    go : (t : Bool) → eqb (requestNumber s m buffer) 0 ≡ t → requestStep m buffer s .answer .buffer ≡ cond (ltb n 7) buffer (cantOver m buffer)
     go true i = absurd (true≢false (sym (told s (request m buffer) .grant (eqb-true _ 0 i)) ∙ ap isGranted e))
     go false i =
         let same : Refused (requestNumber s m buffer) ≡ Refused n = rw i at e in
         let number : requestNumber s m buffer ≡ n = cc in
         rw (i, number)
 
-report-silent : (s : State) (p kind reason : ℕ) (words buffer : List ℕ) (n : ℕ) → noted p kind reason words buffer s .answer .outcome ≡ Refused n
-    → noted p kind reason words buffer s .answer .buffer ≡ buffer
-unfolding step testsOf reportNumber noted isGranted
+report-silent : (s : State) (p kind reason : ℕ) (words buffer : List ℕ) (n : ℕ) → reportStep p kind reason words buffer s .answer .outcome ≡ Refused n
+    → reportStep p kind reason words buffer s .answer .buffer ≡ buffer
+unfolding step testsOf reportNumber reportStep isGranted
 report-silent s p kind reason words buffer n e = go (eqb (reportNumber s p kind reason buffer) 0) refl
   where
-    go : (t : Bool) → eqb (reportNumber s p kind reason buffer) 0 ≡ t → noted p kind reason words buffer s .answer .buffer ≡ buffer
+    go : (t : Bool) → eqb (reportNumber s p kind reason buffer) 0 ≡ t → reportStep p kind reason words buffer s .answer .buffer ≡ buffer
     go true i = absurd (true≢false (sym (told s (report p kind reason words buffer) .grant (eqb-true _ 0 i)) ∙ ap isGranted e))
     go false i = rw i
 

@@ -15,11 +15,11 @@ pub record Machine : Type 1 where
   pub after : S → C → S
   pub part : S → C → List A
   pub struck : K → C → Bool
-  pub blank : K → C → C
+  pub withoutData : K → C → C
   pub next : K → S → C → K
   pub Ready : S → Type 0
   pub Apart : K → S → S → Type 0
-  pub Free : K → S → Type 0
+  pub NoneDebugs : K → S → Type 0
 
 module _ (m : Machine) where
   -- what is heard of a list
@@ -30,12 +30,12 @@ module _ (m : Machine) where
   -- a list, struck and passed over, by what is hidden at each call
   unfoldable pub strikeOf : m .K → m .S → List (m .C) → List (m .C)
   strikeOf k s [] = []
-  strikeOf k s (c ∷ l) = cond (m .struck k c) (strikeOf k (m .after s c) l) (m .blank k c ∷ strikeOf (m .next k s c) (m .after s c) l)
+  strikeOf k s (c ∷ l) = cond (m .struck k c) (strikeOf k (m .after s c) l) (m .withoutData k c ∷ strikeOf (m .next k s c) (m .after s c) l)
 
   -- nothing hidden is open to them at any time
   unfoldable pub AwayOf : m .K → m .S → List (m .C) → Type 0
-  AwayOf k s [] = m .Free k s
-  AwayOf k s (c ∷ l) = m .Free k s × AwayOf (m .next k s c) (m .after s c) l
+  AwayOf k s [] = m .NoneDebugs k s
+  AwayOf k s (c ∷ l) = m .NoneDebugs k s × AwayOf (m .next k s c) (m .after s c) l
 
   -- the state at the end
   unfoldable pub finalOf : m .S → List (m .C) → m .S
@@ -52,16 +52,16 @@ module _ (m : Machine) where
     pub ready : (s : m .S) → m .Ready s → (c : m .C) → m .Ready (m .after s c)
     pub itself : (k : m .K) (s : m .S) → m .Apart k s s
     pub back : (k : m .K) (s t : m .S) → m .Apart k s t → m .Apart k t s
-    pub free : (k : m .K) (s t : m .S) → m .Apart k s t → m .Free k s → m .Free k t
+    pub free : (k : m .K) (s t : m .S) → m .Apart k s t → m .NoneDebugs k s → m .NoneDebugs k t
     pub struck-next : (k : m .K) (s : m .S) (c : m .C) → m .struck k c ≡ true → m .next k s c ≡ k
     pub struck-apart : (k : m .K) (s t : m .S) → m .Ready s → m .Apart k s t → (c : m .C) → m .struck k c ≡ true → m .Apart k (m .after s c) t
-    pub struck-part : (k : m .K) (s : m .S) → m .Ready s → m .Free k s → (c : m .C) → m .struck k c ≡ true → m .part s c ≡ []
-    pub stays-next : (k : m .K) (s t : m .S) → m .Ready s → m .Ready t → m .Apart k s t → m .Free k s → (c : m .C) → m .struck k c ≡ false → m .next k s c ≡ m .next k t (m .blank k c)
-    pub stays-apart : (k : m .K) (s t : m .S) → m .Ready s → m .Ready t → m .Apart k s t → m .Free k s → (c : m .C) → m .struck k c ≡ false → m .Apart (m .next k s c) (m .after s c) (m .after t (m .blank k c))
-    pub stays-part : (k : m .K) (s t : m .S) → m .Ready s → m .Ready t → m .Apart k s t → m .Free k s → (c : m .C) → m .struck k c ≡ false → m .part s c ≡ m .part t (m .blank k c)
+    pub struck-part : (k : m .K) (s : m .S) → m .Ready s → m .NoneDebugs k s → (c : m .C) → m .struck k c ≡ true → m .part s c ≡ []
+    pub stays-next : (k : m .K) (s t : m .S) → m .Ready s → m .Ready t → m .Apart k s t → m .NoneDebugs k s → (c : m .C) → m .struck k c ≡ false → m .next k s c ≡ m .next k t (m .withoutData k c)
+    pub stays-apart : (k : m .K) (s t : m .S) → m .Ready s → m .Ready t → m .Apart k s t → m .NoneDebugs k s → (c : m .C) → m .struck k c ≡ false → m .Apart (m .next k s c) (m .after s c) (m .after t (m .withoutData k c))
+    pub stays-part : (k : m .K) (s t : m .S) → m .Ready s → m .Ready t → m .Apart k s t → m .NoneDebugs k s → (c : m .C) → m .struck k c ≡ false → m .part s c ≡ m .part t (m .withoutData k c)
 
   module _ (w : Stepwise) where
-    away-head : (k : m .K) (s : m .S) (l : List (m .C)) → AwayOf k s l → m .Free k s
+    away-head : (k : m .K) (s : m .S) (l : List (m .C)) → AwayOf k s l → m .NoneDebugs k s
     unfolding AwayOf
     away-head k s [] a = a
     away-head k s (c ∷ l) a = a .0
@@ -75,7 +75,7 @@ module _ (m : Machine) where
         (normal l k (m .after s c) t (w .ready s r c) q (w .struck-apart k s t r a c e) (subst (λ (j : m .K). AwayOf j (m .after s c) l) (w .struck-next k s c e) (f .1))))
         (λ e.
         ap₂ (λ (x y : List (m .A)). x ++ y) (w .stays-part k s t r q a (f .0) c e)
-        (normal l (m .next k s c) (m .after s c) (m .after t (m .blank k c)) (w .ready s r c) (w .ready t q (m .blank k c)) (w .stays-apart k s t r q a (f .0) c e) (f .1)))
+        (normal l (m .next k s c) (m .after s c) (m .after t (m .withoutData k c)) (w .ready s r c) (w .ready t q (m .withoutData k c)) (w .stays-apart k s t r q a (f .0) c e) (f .1)))
 
     away-on : (l : List (m .C)) (k : m .K) (s t : m .S) → m .Ready s → m .Ready t → m .Apart k s t → AwayOf k s l → AwayOf k t (strikeOf k s l)
     unfolding strikeOf AwayOf
@@ -85,15 +85,15 @@ module _ (m : Machine) where
         (λ e. away-on l k (m .after s c) t (w .ready s r c) q (w .struck-apart k s t r a c e) (subst (λ (j : m .K). AwayOf j (m .after s c) l) (w .struck-next k s c e) (f .1)))
         (λ e. (
           w .free k s t a (f .0),
-          subst (λ (j : m .K). AwayOf j (m .after t (m .blank k c)) (strikeOf (m .next k s c) (m .after s c) l)) (w .stays-next k s t r q a (f .0) c e)
-              (away-on l (m .next k s c) (m .after s c) (m .after t (m .blank k c)) (w .ready s r c) (w .ready t q (m .blank k c)) (w .stays-apart k s t r q a (f .0) c e) (f .1)),
+          subst (λ (j : m .K). AwayOf j (m .after t (m .withoutData k c)) (strikeOf (m .next k s c) (m .after s c) l)) (w .stays-next k s t r q a (f .0) c e)
+              (away-on l (m .next k s c) (m .after s c) (m .after t (m .withoutData k c)) (w .ready s r c) (w .ready t q (m .withoutData k c)) (w .stays-apart k s t r q a (f .0) c e) (f .1)),
         ))
 
     away-back : (l : List (m .C)) (k : m .K) (s t : m .S) → m .Ready s → m .Ready t → m .Apart k s t → AwayOf k t (strikeOf k s l) → AwayOf k s l
     unfolding strikeOf AwayOf
     away-back [] k s t r q a = λ f. w .free k t s (w .back k s t a) f
     away-back (c ∷ l) k s t r q a =
-        by-test (λ (x : List (m .C)). AwayOf k t x → m .Free k s × AwayOf (m .next k s c) (m .after s c) l) (m .struck k c)
+        by-test (λ (x : List (m .C)). AwayOf k t x → m .NoneDebugs k s × AwayOf (m .next k s c) (m .after s c) l) (m .struck k c)
         (λ e f. (
           w .free k t s (w .back k s t a) (away-head k t (strikeOf k (m .after s c) l) f),
           subst (λ (j : m .K). AwayOf j (m .after s c) l) (sym (w .struck-next k s c e))
@@ -102,8 +102,8 @@ module _ (m : Machine) where
         (λ e f.
         let shut = w .free k t s (w .back k s t a) (f .0) in (
           shut,
-          away-back l (m .next k s c) (m .after s c) (m .after t (m .blank k c)) (w .ready s r c) (w .ready t q (m .blank k c)) (w .stays-apart k s t r q a shut c e)
-              (subst (λ (j : m .K). AwayOf j (m .after t (m .blank k c)) (strikeOf (m .next k s c) (m .after s c) l)) (sym (w .stays-next k s t r q a shut c e)) (f .1)),
+          away-back l (m .next k s c) (m .after s c) (m .after t (m .withoutData k c)) (w .ready s r c) (w .ready t q (m .withoutData k c)) (w .stays-apart k s t r q a shut c e)
+              (subst (λ (j : m .K). AwayOf j (m .after t (m .withoutData k c)) (strikeOf (m .next k s c) (m .after s c) l)) (sym (w .stays-next k s t r q a shut c e)) (f .1)),
         ))
 
     -- they stay away in one where they do in the other
@@ -123,7 +123,7 @@ module _ (m : Machine) where
     final-ready [] s r = r
     final-ready (c ∷ l) s r = final-ready l (m .after s c) (w .ready s r c)
 
-    pub final-free : (l : List (m .C)) (k : m .K) (s : m .S) → AwayOf k s l → m .Free (lastOf k s l) (finalOf s l)
+    pub final-free : (l : List (m .C)) (k : m .K) (s : m .S) → AwayOf k s l → m .NoneDebugs (lastOf k s l) (finalOf s l)
     unfolding finalOf lastOf AwayOf
     final-free [] k s f = f
     final-free (c ∷ l) k s f = final-free l (m .next k s c) (m .after s c) (f .1)
@@ -135,10 +135,10 @@ module _ (m : Machine) where
         by-test (λ (x : List (m .C)). m .Apart (lastOf (m .next k s c) (m .after s c) l) (finalOf (m .after s c) l) (finalOf t x)) (m .struck k c)
         (λ e. subst (λ (j : m .K). m .Apart (lastOf j (m .after s c) l) (finalOf (m .after s c) l) (finalOf t (strikeOf k (m .after s c) l))) (sym (w .struck-next k s c e))
         (final-apart l k (m .after s c) t (w .ready s r c) q (w .struck-apart k s t r a c e) (subst (λ (j : m .K). AwayOf j (m .after s c) l) (w .struck-next k s c e) (f .1))))
-        (λ e. final-apart l (m .next k s c) (m .after s c) (m .after t (m .blank k c)) (w .ready s r c) (w .ready t q (m .blank k c)) (w .stays-apart k s t r q a (f .0) c e) (f .1))
+        (λ e. final-apart l (m .next k s c) (m .after s c) (m .after t (m .withoutData k c)) (w .ready s r c) (w .ready t q (m .withoutData k c)) (w .stays-apart k s t r q a (f .0) c e) (f .1))
 
     -- whatever goes by what is not hidden is the same at the end of lists that are alike
-    pub same-next : {B : Type 0} (F : m .S → B) → ((k : m .K) (s t : m .S) → m .Ready s → m .Ready t → m .Apart k s t → m .Free k s → F s ≡ F t)
+    pub same-next : {B : Type 0} (F : m .S → B) → ((k : m .K) (s t : m .S) → m .Ready s → m .Ready t → m .Apart k s t → m .NoneDebugs k s → F s ≡ F t)
         → (k : m .K) (s t : m .S) → m .Ready s → m .Ready t → m .Apart k s t → (l n : List (m .C)) → strikeOf k s l ≡ strikeOf k t n → AwayOf k s l → F (finalOf s l) ≡ F (finalOf t n)
     same-next F same k s t r q a l n e f =
         struck-end k s t r q a l f ∙ ap (λ (x : List (m .C)). F (finalOf t x)) e ∙ sym (struck-end k t t q q (w .itself k t) n (both-away k s t r q a l n e f))
@@ -152,7 +152,7 @@ module _ (m : Machine) where
   -- a call of theirs that names something hidden changes nothing, if it opens nothing
   pub record Idle (theirs : m .K → m .C → Bool) : Type 0 where
     pub ready : (s : m .S) → m .Ready s → (c : m .C) → m .Ready (m .after s c)
-    pub idle : (k : m .K) (s : m .S) → m .Ready s → (c : m .C) → theirs k c ≡ true → m .Free k s → m .Free (m .next k s c) (m .after s c) → m .after s c ≡ s
+    pub idle : (k : m .K) (s : m .S) → m .Ready s → (c : m .C) → theirs k c ≡ true → m .NoneDebugs k s → m .NoneDebugs (m .next k s c) (m .after s c) → m .after s c ≡ s
 
   module _ {E : Type 0} (entry : m .S → m .C → E) (theirs : m .K → m .C → Bool) where
     -- each call with what came of it
@@ -184,7 +184,7 @@ module _ (m : Machine) where
         kept : List E
         kept = restOf (m .next k s c) (m .after s c) bs l
 
-        head : (x : List (m .C)) → AwayOf (m .next k s c) (m .after s c) x → m .Free (m .next k s c) (m .after s c)
+        head : (x : List (m .C)) → AwayOf (m .next k s c) (m .after s c) x → m .NoneDebugs (m .next k s c) (m .after s c)
         head [] a = a
         head (d ∷ x) a = a .0
 
@@ -201,7 +201,7 @@ module _ (m : Machine) where
         rest : List (m .C)
         rest = leaveOf (m .next k s c) (m .after s c) bs l
 
-        head : (x : List (m .C)) → AwayOf (m .next k s c) (m .after s c) x → m .Free (m .next k s c) (m .after s c)
+        head : (x : List (m .C)) → AwayOf (m .next k s c) (m .after s c) x → m .NoneDebugs (m .next k s c) (m .after s c)
         head [] a = a
         head (d ∷ x) a = a .0
 

@@ -19,7 +19,7 @@ use Rattle.state.specs.Records.{lowestAbsent}
 use Rattle.rules.specs.Rule.{Rule, public, ruleOf, names, creates}
 use Rattle.rules.specs.Tests.{State, recordOf, noRoom, unsound, outerTests, innerTests, ruleTests, askedTests, requestNumber, badReport, reportNumber}
 use Rattle.rules.specs.Access.{Access, Place, nowhere, atProcess, Turn, numberAt, reached, taken}
-use Rattle.rules.specs.Step.{answers, localOf, grantedNamed, grantedCreate, granted, refused, requested, told, noticeTo, notified, noted, stored}
+use Rattle.rules.specs.Step.{answers, localOf, grantedNamed, grantedCreate, granted, refused, requestStep, told, noticeTo, notified, reportStep, stored}
 use Rattle.rules.specs.Turn.{cantBytes, ruleAccess, createAccess, placeTests, requestPlace, messageTests, requestTurn, reportAccess, reportTurn, storeAccess, storeTurn}
 use Rattle.rules.proofs.NumberLaws.{orElse, orElse-assoc, first-append}
 
@@ -81,25 +81,25 @@ module _ (m buffer : List ℕ) (s : State) where
   turn = requestTurn m buffer s
 
   request-refused : eqb (requestNumber s m buffer) 0 ≡ false
-      → requested m buffer s ≡ record { answer = record { outcome = Refused (requestNumber s m buffer); buffer = overlay (cantBytes (headerOf m) (requestNumber s m buffer)) buffer }; after = s }
-  unfolding requested refused cantBytes
+      → requestStep m buffer s ≡ record { answer = record { outcome = Refused (requestNumber s m buffer); buffer = overlay (cantBytes (headerOf m) (requestNumber s m buffer)) buffer }; after = s }
+  unfolding requestStep refused cantBytes
   request-refused e = rw (e, cant-over (ltb (requestNumber s m buffer) 7) (written (cantOf (headerOf m)) []) buffer)
 
   request-place : requestNumber s m buffer ≡ placeNumber (requestPlace (headerOf m) (stringOf m) s) s
-      → requested m buffer s ≡ reached (requestPlace (headerOf m) (stringOf m) s) buffer s
-  unfolding requested granted grantedNamed grantedCreate requestPlace placeNumber reached numberAt firstFailing createAccess ruleAccess
+      → requestStep m buffer s ≡ reached (requestPlace (headerOf m) (stringOf m) s) buffer s
+  unfolding requestStep granted grantedNamed grantedCreate requestPlace placeNumber reached numberAt firstFailing createAccess ruleAccess
   request-place same = go (names (headerOf m .cmd)) refl (creates (headerOf m .cmd)) refl
     where
       h : Header
       h = headerOf m
 
       near : (a : Access) (t : Bool) → eqb (numberAt a (localOf s (h .pid))) 0 ≡ t → a ≡ ruleAccess (ruleOf (h .cmd)) h (stringOf m)
-          → names (h .cmd) ≡ true → requestNumber s m buffer ≡ numberAt a (localOf s (h .pid)) → requested m buffer s ≡ reached (atProcess (h .pid) a) buffer s
+          → names (h .cmd) ≡ true → requestNumber s m buffer ≡ numberAt a (localOf s (h .pid)) → requestStep m buffer s ≡ reached (atProcess (h .pid) a) buffer s
       near a true e i n number = rw (number, e, n, i, length-written h (ruleOf (h .cmd) .shown h (localOf s (h .pid))))
       near a false e i n number = request-refused (rw number e) ∙ rw (number, e, i)
 
       go : (t : Bool) → names (headerOf m .cmd) ≡ t → (u : Bool) → creates (headerOf m .cmd) ≡ u
-          → requested m buffer s ≡ reached (requestPlace (headerOf m) (stringOf m) s) buffer s
+          → requestStep m buffer s ≡ reached (requestPlace (headerOf m) (stringOf m) s) buffer s
       go true n u c =
           let a = ruleAccess (ruleOf (h .cmd)) h (stringOf m) in
           let here : requestPlace h (stringOf m) s ≡ atProcess (h .pid) a = rw n in
@@ -107,14 +107,14 @@ module _ (m buffer : List ℕ) (s : State) where
       go false n true c = let zero : requestNumber s m buffer ≡ 0 = rw (n, c) at same in rw (zero, n, c, length-written (createdOf h (lowestAbsent (s .records))) [])
       go false n false c = let zero : requestNumber s m buffer ≡ 0 = rw (n, c) at same in rw (zero, n, c, length-written h [])
 
-  pub request-turn : requested m buffer s ≡ taken (requestTurn m buffer s) buffer s
+  pub request-turn : requestStep m buffer s ≡ taken (requestTurn m buffer s) buffer s
   unfolding taken turnNumber requestTurn cantBytes
   request-turn = go (eqb (firstFailing (turn .tests)) 0) refl
     where
       number : requestNumber s m buffer ≡ orElse (firstFailing (turn .tests)) (placeNumber (turn .place) s)
       number = sym (request-number m buffer s)
 
-      go : (t : Bool) → eqb (firstFailing (turn .tests)) 0 ≡ t → requested m buffer s ≡ taken (requestTurn m buffer s) buffer s
+      go : (t : Bool) → eqb (firstFailing (turn .tests)) 0 ≡ t → requestStep m buffer s ≡ taken (requestTurn m buffer s) buffer s
       go true e = rw e (request-place (rw e at number))
       go false e = let same : requestNumber s m buffer ≡ firstFailing (turn .tests) = rw e at number in rw e (rw same at (request-refused (rw same e)))
 
@@ -136,23 +136,23 @@ module _ (p kind reason : ℕ) (words buffer : List ℕ) (s : State) where
       report-tests (noRoom (s .memory) buffer) (unsound s) (badReport kind reason) (ltb p 8) (recordOf s p .there) (not (accepts kind (recordOf s p .run)))
 
   report-refused : eqb (reportNumber s p kind reason buffer) 0 ≡ false
-      → noted p kind reason words buffer s ≡ record { answer = record { outcome = Refused (reportNumber s p kind reason buffer); buffer = buffer }; after = s }
-  unfolding noted
+      → reportStep p kind reason words buffer s ≡ record { answer = record { outcome = Refused (reportNumber s p kind reason buffer); buffer = buffer }; after = s }
+  unfolding reportStep
   report-refused e = rw e
 
   abbrev access : Access
   access = reportAccess p kind reason words
 
-  report-place : reportNumber s p kind reason buffer ≡ numberAt access (localOf s p) → noted p kind reason words buffer s ≡ reached (atProcess p access) buffer s
-  unfolding noted notified noticeTo reached reportAccess overlay
+  report-place : reportNumber s p kind reason buffer ≡ numberAt access (localOf s p) → reportStep p kind reason words buffer s ≡ reached (atProcess p access) buffer s
+  unfolding reportStep notified noticeTo reached reportAccess overlay
   report-place same = go (eqb (numberAt access (localOf s p)) 0) refl (told kind words (localOf s p)) refl
     where
-      go : (t : Bool) → eqb (numberAt access (localOf s p)) 0 ≡ t → (u : Bool) → told kind words (localOf s p) ≡ u → noted p kind reason words buffer s ≡ reached (atProcess p access) buffer s
+      go : (t : Bool) → eqb (numberAt access (localOf s p)) 0 ≡ t → (u : Bool) → told kind words (localOf s p) ≡ u → reportStep p kind reason words buffer s ≡ reached (atProcess p access) buffer s
       go true e true i = rw (same, e, i, length-written (noticeOf (recipientOf kind words (localOf s p)) kind p reason) (lowFirst words))
       go true e false i = rw (same, e, i)
       go false e u i = report-refused (rw same e) ∙ rw (same, e)
 
-  pub report-turn : noted p kind reason words buffer s ≡ taken (reportTurn p kind reason words buffer s) buffer s
+  pub report-turn : reportStep p kind reason words buffer s ≡ taken (reportTurn p kind reason words buffer s) buffer s
   unfolding taken turnNumber reportTurn overlay placeNumber
   report-turn = go (eqb (firstFailing (turn .tests)) 0) refl
     where
@@ -162,7 +162,7 @@ module _ (p kind reason : ℕ) (words buffer : List ℕ) (s : State) where
       number : reportNumber s p kind reason buffer ≡ orElse (firstFailing (turn .tests)) (placeNumber (turn .place) s)
       number = sym report-number
 
-      go : (t : Bool) → eqb (firstFailing (turn .tests)) 0 ≡ t → noted p kind reason words buffer s ≡ taken (reportTurn p kind reason words buffer s) buffer s
+      go : (t : Bool) → eqb (firstFailing (turn .tests)) 0 ≡ t → reportStep p kind reason words buffer s ≡ taken (reportTurn p kind reason words buffer s) buffer s
       go true e = rw e (report-place (rw e at number))
       go false e = let same : reportNumber s p kind reason buffer ≡ firstFailing (turn .tests) = rw e at number in rw e (rw same at (report-refused (rw same e)))
 

@@ -10,7 +10,7 @@ use Rattle.format.specs.Outcome.{Test, firstFailing}
 use Rattle.process.specs.Local.{Local}
 use Rattle.rules.specs.Rule.{Public, public}
 use Rattle.rules.specs.Tests.{State}
-use Rattle.rules.specs.Window.{Answer, Stepped, localOf, put}
+use Rattle.rules.specs.Window.{Answer, StepResult, localOf, put}
 
 -- who asks a call: a host, or nobody
 pub data Asker : Type 0 where
@@ -59,7 +59,7 @@ abbrev pub refuses : ℕ → List ℕ → List ℕ → Answer
 refuses number bytes buffer = record { outcome = Refused number; buffer = overlay bytes buffer }
 
 -- a call whose first tests pass; 'State and memory are unchanged by a refusal'
-unfoldable pub reached : Place → List ℕ → State → Stepped
+unfoldable pub reached : Place → List ℕ → State → StepResult
 reached (nowhere bytes) buffer s = record { answer = grants bytes buffer; after = s }
 reached (atProcess p a) buffer s =
     cond (eqb (numberAt a (localOf s p)) 0)
@@ -67,7 +67,7 @@ reached (atProcess p a) buffer s =
     (record { answer = refuses (numberAt a (localOf s p)) (a .refusal (localOf s p) (numberAt a (localOf s p))) buffer; after = s })
 
 -- a call, with its output buffer
-unfoldable pub taken : Turn → List ℕ → State → Stepped
+unfoldable pub taken : Turn → List ℕ → State → StepResult
 taken t buffer s =
     cond (eqb (firstFailing (t .tests)) 0) (reached (t .place) buffer s)
     (record { answer = refuses (firstFailing (t .tests)) (t .refusal (firstFailing (t .tests))) buffer; after = s })

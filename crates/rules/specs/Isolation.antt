@@ -14,7 +14,7 @@ use Rattle.rules.specs.Tests.{State, recordOf}
 use Rattle.rules.specs.Access.{Asker, nobody, by, insider}
 use Rattle.rules.specs.Step.{Answer, Call, request, report, store, step, localOf}
 use Rattle.rules.specs.Ready.{Ready}
-use Rattle.rules.specs.Run.{Entry, run, final, leave}
+use Rattle.rules.specs.Run.{TraceItem, run, final, leave}
 
 -- a set of hosts
 abbrev pub Hosts : Type 0
@@ -133,11 +133,11 @@ abbrev pub toThem : Hosts → Call → Answer → Bool
 toThem H c a = sentTo H (asker c) a
 
 -- the answer to a call, if it goes to them
-unfoldable pub part : Hosts → Entry → List Answer
+unfoldable pub part : Hosts → TraceItem → List Answer
 part H e = cond (toThem H (e .call) (e .answer)) (e .answer ∷ []) []
 
 -- the answers to them, in their order
-unfoldable pub heard : Hosts → List Entry → List Answer
+unfoldable pub heard : Hosts → List TraceItem → List Answer
 heard H [] = []
 heard H (e ∷ es) = part H e ++ heard H es
 
@@ -148,13 +148,13 @@ unfoldable pub struck : Processes → Call → Bool
 struck P c = event c && subject P c
 
 -- 'the strings in other hosts' DEPOSIT and DEPOSIT STATE VECTOR requests to P, of any length, are passed over'
-unfoldable pub blank : Hosts → Processes → Call → Call
-blank H P c = cond (not (isOne H (asker c)) && subject P c) (passedOver c) c
+unfoldable pub withoutData : Hosts → Processes → Call → Call
+withoutData H P c = cond (not (isOne H (asker c)) && subject P c) (passedOver c) c
 
 -- a list of calls, struck and passed over in this way
 unfoldable pub strike : Hosts → Processes → List Call → List Call
 strike H P [] = []
-strike H P (c ∷ cs) = cond (struck P c) (strike H P cs) (blank H P c ∷ strike H P cs)
+strike H P (c ∷ cs) = cond (struck P c) (strike H P cs) (withoutData H P c ∷ strike H P cs)
 
 -- 'Two lists are alike when they become the same, buffers included'
 abbrev pub Alike : Hosts → Processes → List Call → List Call → Type 0
@@ -168,13 +168,13 @@ pub record Apart (P : Processes) (s₁ s₂ : State) : Type 0 where
   pub others : (p : ℕ) → p < 8 → P p ≡ false → localOf s₁ p ≡ localOf s₂ p
 
 -- none of these hosts debugs one of these processes
-abbrev pub Free : Hosts → Processes → State → Type 0
-Free H P s = (p : ℕ) → p < 8 → P p ≡ true → (host : ℕ) → H host ≡ true → insider (publicOf s p) host ≡ false
+abbrev pub NoneDebugs : Hosts → Processes → State → Type 0
+NoneDebugs H P s = (p : ℕ) → p < 8 → P p ≡ true → (host : ℕ) → H host ≡ true → insider (publicOf s p) host ≡ false
 
 -- neither at the start nor after any call
-unfoldable pub Away : Hosts → Processes → State → List Call → Type 0
-Away H P s [] = Free H P s
-Away H P s (c ∷ cs) = Free H P s × Away H P (step s c .after) cs
+unfoldable pub NeverDebugs : Hosts → Processes → State → List Call → Type 0
+NeverDebugs H P s [] = NoneDebugs H P s
+NeverDebugs H P s (c ∷ cs) = NoneDebugs H P s × NeverDebugs H P (step s c .after) cs
 
 -- their requests that name one of these processes
 unfoldable pub theirs : Hosts → Processes → Call → Bool
@@ -185,19 +185,19 @@ theirs H P c = isOne H (asker c) && subject P c
 -- what a set of hosts is answered does not rest on processes that they do not debug, and their requests naming those could be left out
 pub record Claim (H : Hosts) (P : Processes) : Type 0 where
   -- part one: what they are answered is the same in both gateways; it is enough that they stay away in one of the two
-  pub same-heard : (s₁ s₂ : State) → Ready s₁ → Ready s₂ → Apart P s₁ s₂ → (l₁ l₂ : List Call) → Alike H P l₁ l₂ → Away H P s₁ l₁
+  pub same-heard : (s₁ s₂ : State) → Ready s₁ → Ready s₂ → Apart P s₁ s₂ → (l₁ l₂ : List Call) → Alike H P l₁ l₂ → NeverDebugs H P s₁ l₁
       → heard H (run s₁ l₁) ≡ heard H (run s₂ l₂)
   -- and so is the next answer to one of them, also the one that makes him debug such a process
-  pub same-next : (s₁ s₂ : State) → Ready s₁ → Ready s₂ → Apart P s₁ s₂ → (l₁ l₂ : List Call) → Alike H P l₁ l₂ → Away H P s₁ l₁
+  pub same-next : (s₁ s₂ : State) → Ready s₁ → Ready s₂ → Apart P s₁ s₂ → (l₁ l₂ : List Call) → Alike H P l₁ l₂ → NeverDebugs H P s₁ l₁
       → (c : Call) → isOne H (asker c) ≡ true → step (final s₁ l₁) c .answer ≡ step (final s₂ l₂) c .answer
-  pub both-away : (s₁ s₂ : State) → Ready s₁ → Ready s₂ → Apart P s₁ s₂ → (l₁ l₂ : List Call) → Alike H P l₁ l₂ → Away H P s₁ l₁
-      → Away H P s₂ l₂
+  pub both-away : (s₁ s₂ : State) → Ready s₁ → Ready s₂ → Apart P s₁ s₂ → (l₁ l₂ : List Call) → Alike H P l₁ l₂ → NeverDebugs H P s₁ l₁
+      → NeverDebugs H P s₂ l₂
   -- part two: some or all of their requests that name one of the processes are left out, and every other call has the same answer and
   -- the same state after it
-  pub left-out : (s : State) → Ready s → (l : List Call) → Away H P s l → (marks : List Bool)
-      → run s (leave (theirs H P) marks l) ≡ leave (λ (e : Entry). theirs H P (e .call)) marks (run s l)
+  pub left-out : (s : State) → Ready s → (l : List Call) → NeverDebugs H P s l → (marks : List Bool)
+      → run s (leave (theirs H P) marks l) ≡ leave (λ (e : TraceItem). theirs H P (e .call)) marks (run s l)
   -- and at the end
-  pub same-end : (s : State) → Ready s → (l : List Call) → Away H P s l → (marks : List Bool)
+  pub same-end : (s : State) → Ready s → (l : List Call) → NeverDebugs H P s l → (marks : List Bool)
       → final s (leave (theirs H P) marks l) ≡ final s l
 
 -- who debugs is told by the calls and their answers, and the claim holds for every set of hosts and of processes

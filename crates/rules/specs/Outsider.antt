@@ -9,7 +9,7 @@ use Rattle.rules.specs.Tests.{State, recordOf}
 use Rattle.rules.specs.Access.{by, insider}
 use Rattle.rules.specs.Step.{Call, step, localOf}
 use Rattle.rules.specs.Ready.{Ready}
-use Rattle.rules.specs.Run.{Entry, run, final, leave}
+use Rattle.rules.specs.Run.{TraceItem, run, final, leave}
 use Rattle.rules.specs.Isolation.{asker, heard, Alike, theirs, toldOf, publicOf}
 
 -- one host, or one process
@@ -23,7 +23,7 @@ pub record Differ (p : ℕ) (s₁ s₂ : State) : Type 0 where
   pub others : (q : ℕ) → q < 8 → (q ≡ p → ⊥) → localOf s₁ q ≡ localOf s₂ q
 
 -- 'Who debugs a process: at the start the host in its record'; then by what each call is answered: not this host, at any time
-unfoldable pub Never : ℕ → ℕ → (ℕ → Public) → List Entry → Type 0
+unfoldable pub Never : ℕ → ℕ → (ℕ → Public) → List TraceItem → Type 0
 Never host p who [] = insider (who p) host ≡ false
 Never host p who (e ∷ es) = (insider (who p) host ≡ false) × Never host p (toldOf who (e .call) (e .answer)) es
 
@@ -44,7 +44,7 @@ pub record Outsider (host p : ℕ) : Type 0 where
       → Outside host p s₁ l₁ → (c : Call) → asker c ≡ by host → step (final s₁ l₁) c .answer ≡ step (final s₂ l₂) c .answer
   -- part two: without some or all of his requests that name P, every other call has the same answer and the same state after it
   pub unnoticed : (s : State) → Ready s → (l : List Call) → Outside host p s l → (marks : List Bool)
-      → run s (leave (theirs (only host) (only p)) marks l) ≡ leave (λ (e : Entry). theirs (only host) (only p) (e .call)) marks (run s l)
+      → run s (leave (theirs (only host) (only p)) marks l) ≡ leave (λ (e : TraceItem). theirs (only host) (only p) (e .call)) marks (run s l)
   -- and at the end
   pub same-end : (s : State) → Ready s → (l : List Call) → Outside host p s l → (marks : List Bool)
       → final s (leave (theirs (only host) (only p)) marks l) ≡ final s l

@@ -77,8 +77,8 @@ whileRun runs effect = record {
 }
 
 -- and a range
-abbrev pub within : (Header → Bool) → (Header → List ℕ → Local → Local) → Rule
-within range effect = record {
+abbrev pub inRange : (Header → Bool) → (Header → List ℕ → Local → Local) → Rule
+inRange range effect = record {
   right = holds;
   runs = λ r. true;
   range = range;
@@ -151,10 +151,10 @@ rules =
     ∷ debugRule  -- 1 DEBUG
     ∷ endDebugRule  -- 2 END DEBUG
     ∷ plain (λ h s. stopped)  -- 3 STOP
-    ∷ within (λ h. upTo (extent (h .pid)) h) (λ h s. deposited (h .arg1) s)  -- 4 DEPOSIT
+    ∷ inRange (λ h. upTo (extent (h .pid)) h) (λ h s. deposited (h .arg1) s)  -- 4 DEPOSIT
     ∷ whileRun stoppedOrAtBreak (λ h s. resumed)  -- 5 RESUME
     ∷ examineRule  -- 6 EXAMINE
-    ∷ within (upTo 18) (λ h s. vectorDeposited (h .arg1) s)  -- 7 DEPOSIT STATE VECTOR
+    ∷ inRange (upTo 18) (λ h s. vectorDeposited (h .arg1) s)  -- 7 DEPOSIT STATE VECTOR
     ∷ breakRule  -- 8 BREAK
     ∷ unbreakRule  -- 9 UNBREAK
     ∷ whileRun stoppedOrAtBreak (λ h s. stepped)  -- 10 SINGLE STEP

@@ -5,19 +5,19 @@ use Rattle.rules.specs.Tests.{State}
 use Rattle.rules.specs.Step.{Answer, Call, step}
 
 -- a call with its answer and the state after it
-pub record Entry : Type 0 where
+pub record TraceItem : Type 0 where
   pub call : Call
   pub answer : Answer
   pub after : State
 
 -- a call on a state
-abbrev pub entry : State → Call → Entry
-entry s c = record { call = c; answer = step s c .answer; after = step s c .after }
+abbrev pub traceItem : State → Call → TraceItem
+traceItem s c = record { call = c; answer = step s c .answer; after = step s c .after }
 
 -- calls one after another, each on the state that the one before left
-unfoldable pub run : State → List Call → List Entry
+unfoldable pub run : State → List Call → List TraceItem
 run s [] = []
-run s (c ∷ cs) = entry s c ∷ run (step s c .after) cs
+run s (c ∷ cs) = traceItem s c ∷ run (step s c .after) cs
 
 -- the state at the end
 unfoldable pub final : State → List Call → State

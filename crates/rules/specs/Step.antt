@@ -18,11 +18,11 @@ use Rattle.state.specs.Slot.{slot}
 use Rattle.rules.specs.Rule.{ruleOf, names, creates}
 use Rattle.state.specs.Records.{lowestAbsent}
 use Rattle.rules.specs.Tests.{State, recordOf, requestNumber, reportNumber}
-pub use Rattle.rules.specs.Window.{Answer, Stepped, localOf}
+pub use Rattle.rules.specs.Window.{Answer, StepResult, localOf}
 unfoldable pub use Rattle.rules.specs.Window.{put}
 
 -- an answer that leaves this state
-abbrev pub answers : Outcome → List ℕ → State → Stepped
+abbrev pub answers : Outcome → List ℕ → State → StepResult
 answers o buffer s = record { answer = record { outcome = o; buffer = buffer }; after = s }
 
 -- a reply is laid over the start of the reply buffer
@@ -30,33 +30,33 @@ abbrev pub replyOf : Header → List ℕ → List ℕ → Answer
 replyOf h string buffer = record { outcome = Granted (10 + length string); buffer = overlay (written h string) buffer }
 
 -- a reply that leaves this state
-abbrev pub replied : Header → List ℕ → List ℕ → State → Stepped
+abbrev pub replied : Header → List ℕ → List ℕ → State → StepResult
 replied h string buffer s = record { answer = replyOf h string buffer; after = s }
 
 -- a request that names a process, granted
-unfoldable pub grantedNamed : Header → List ℕ → List ℕ → State → Stepped
+unfoldable pub grantedNamed : Header → List ℕ → List ℕ → State → StepResult
 grantedNamed h string buffer s =
     replied h (ruleOf (h .cmd) .shown h (localOf s (h .pid))) buffer
     (put (h .pid) (ruleOf (h .cmd) .effect h string (localOf s (h .pid))) s)
 
 -- CREATE: 'the lowest absent number'
-unfoldable pub grantedCreate : Header → List ℕ → State → Stepped
+unfoldable pub grantedCreate : Header → List ℕ → State → StepResult
 grantedCreate h buffer s =
     replied (createdOf h (lowestAbsent (s .records))) [] buffer (put (lowestAbsent (s .records)) (created (h .host)) s)
 
 -- a request whose tests all pass; NOP changes nothing
-unfoldable pub granted : Header → List ℕ → List ℕ → State → Stepped
+unfoldable pub granted : Header → List ℕ → List ℕ → State → StepResult
 granted h string buffer s =
     cond (names (h .cmd)) (grantedNamed h string buffer s) (cond (creates (h .cmd)) (grantedCreate h buffer s) (replied h [] buffer s))
 
 -- a refused request: 'State and memory are unchanged by a refusal'; from test 7 on a CAN'T is written, and before it nothing
-unfoldable pub refused : ℕ → Header → List ℕ → State → Stepped
+unfoldable pub refused : ℕ → Header → List ℕ → State → StepResult
 refused number h buffer s =
     answers (Refused number) (cond (ltb number 7) buffer (overlay (written (cantOf h) []) buffer)) s
 
 -- a request: any message, with its reply buffer
-unfoldable pub requested : List ℕ → List ℕ → State → Stepped
-requested m buffer s =
+unfoldable pub requestStep : List ℕ → List ℕ → State → StepResult
+requestStep m buffer s =
     cond (eqb (requestNumber s m buffer) 0) (granted (headerOf m) (stringOf m) buffer s)
     (refused (requestNumber s m buffer) (headerOf m) buffer s)
 
@@ -70,13 +70,13 @@ noticeTo host p kind reason words buffer =
     cond (not (eqb host 0)) (replyOf (noticeOf host kind p reason) (lowFirst words) buffer) (record { outcome = Granted 0; buffer = buffer })
 
 -- an accepted report tells the host that it has to tell, if any, and leaves this state
-unfoldable pub notified : ℕ → ℕ → ℕ → List ℕ → List ℕ → Local → State → Stepped
+unfoldable pub notified : ℕ → ℕ → ℕ → List ℕ → List ℕ → Local → State → StepResult
 notified p kind reason words buffer l s =
     record { answer = noticeTo (recipientOf kind words l) p kind reason words buffer; after = s }
 
 -- a machine report, with its notice buffer; 'a refused one writes nothing at all'
-unfoldable pub noted : ℕ → ℕ → ℕ → List ℕ → List ℕ → State → Stepped
-noted p kind reason words buffer s =
+unfoldable pub reportStep : ℕ → ℕ → ℕ → List ℕ → List ℕ → State → StepResult
+reportStep p kind reason words buffer s =
     cond (eqb (reportNumber s p kind reason buffer) 0)
     (notified p kind reason words buffer (localOf s p) (put p (reported kind words (localOf s p)) s))
     (answers (Refused (reportNumber s p kind reason buffer)) buffer s)
@@ -92,7 +92,7 @@ pub data Call : Type 0 where
   store : (process address value : ℕ) → Call
 
 -- one step; a store answers nobody
-unfoldable pub step : State → Call → Stepped
-step s (request m buffer) = requested m buffer s
-step s (report p kind reason words buffer) = noted p kind reason words buffer s
+unfoldable pub step : State → Call → StepResult
+step s (request m buffer) = requestStep m buffer s
+step s (report p kind reason words buffer) = reportStep p kind reason words buffer s
 step s (store p a v) = answers (Granted 0) [] (stored p a v s)

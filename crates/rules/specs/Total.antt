@@ -12,7 +12,7 @@ use Rattle.format.specs.Outcome.{Test, numberOf}
 use Rattle.format.specs.Layout.{written, headerOf}
 use Rattle.format.specs.Answer.{cantOf}
 use Rattle.rules.specs.Tests.{State, requestTests, reportTests}
-use Rattle.rules.specs.Step.{Call, request, report, store, requested, noted, step}
+use Rattle.rules.specs.Step.{Call, request, report, store, requestStep, reportStep, step}
 use Rattle.rules.specs.Turn.{bufferOf}
 use Rattle.rules.specs.Ready.{Ready}
 use Rattle.rules.specs.Isolation.{isGranted}
@@ -56,16 +56,16 @@ pub record Total : Type 0 where
   -- 'buffer bytes past those written are never touched'
   pub past : (s : State) (c : Call) (n : ℕ) → step s c .answer .outcome ≡ Granted n → drop n (step s c .answer .buffer) ≡ drop n (bufferOf c)
   -- the column 'Written': nothing under 7, and the ten bytes of the CAN'T from 7 on
-  pub request-silent : (s : State) (m buffer : List ℕ) (n : ℕ) → requested m buffer s .answer .outcome ≡ Refused n
-      → requested m buffer s .answer .buffer ≡ cond (ltb n 7) buffer (cantOver m buffer)
+  pub request-silent : (s : State) (m buffer : List ℕ) (n : ℕ) → requestStep m buffer s .answer .outcome ≡ Refused n
+      → requestStep m buffer s .answer .buffer ≡ cond (ltb n 7) buffer (cantOver m buffer)
   pub cant-ten : (m : List ℕ) → length (written (cantOf (headerOf m)) []) ≡ 10
   -- 'a refused one writes nothing at all'
-  pub report-silent : (s : State) (p kind reason : ℕ) (words buffer : List ℕ) (n : ℕ) → noted p kind reason words buffer s .answer .outcome ≡ Refused n
-      → noted p kind reason words buffer s .answer .buffer ≡ buffer
+  pub report-silent : (s : State) (p kind reason : ℕ) (words buffer : List ℕ) (n : ℕ) → reportStep p kind reason words buffer s .answer .outcome ≡ Refused n
+      → reportStep p kind reason words buffer s .answer .buffer ≡ buffer
   -- so of a request and of a report
-  pub request-past : (s : State) (m buffer : List ℕ) (n : ℕ) → requested m buffer s .answer .outcome ≡ Granted n
-      → drop n (requested m buffer s .answer .buffer) ≡ drop n buffer
-  pub report-past : (s : State) (p kind reason : ℕ) (words buffer : List ℕ) (n : ℕ) → noted p kind reason words buffer s .answer .outcome ≡ Granted n
-      → drop n (noted p kind reason words buffer s .answer .buffer) ≡ drop n buffer
+  pub request-past : (s : State) (m buffer : List ℕ) (n : ℕ) → requestStep m buffer s .answer .outcome ≡ Granted n
+      → drop n (requestStep m buffer s .answer .buffer) ≡ drop n buffer
+  pub report-past : (s : State) (p kind reason : ℕ) (words buffer : List ℕ) (n : ℕ) → reportStep p kind reason words buffer s .answer .outcome ≡ Granted n
+      → drop n (reportStep p kind reason words buffer s .answer .buffer) ≡ drop n buffer
   -- a sound state stays sound
   pub sound-stays : (s : State) → Ready s → (c : Call) → Ready (step s c .after)

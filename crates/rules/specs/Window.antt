@@ -13,7 +13,7 @@ pub record Answer : Type 0 where
   pub buffer : List ℕ
 
 -- an answer, and the state after it
-pub record Stepped : Type 0 where
+pub record StepResult : Type 0 where
   pub answer : Answer
   pub after : State
 

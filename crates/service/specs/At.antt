@@ -25,12 +25,12 @@ use Rattle.service.specs.declared.target.Target.{Target}
 use Rattle.service.specs.declared.target.Target.the-variants.{Named, OutOfRange, New, Nowhere}
 
 -- what is answered, and the process with its bytes after it
-pub record Left : Type 0 where
+pub record ProcessResult : Type 0 where
   pub answer : Answer
   pub left : Local
 
 -- the two together
-abbrev pub leaving : Answer → Local → Left
+abbrev pub leaving : Answer → Local → ProcessResult
 leaving a l = record { answer = a; left = l }
 
 -- an outcome, and the output buffer after it
@@ -38,7 +38,7 @@ abbrev pub answer : Outcome → List ℕ → Answer
 answer o buffer = record { outcome = o; buffer = buffer }
 
 -- what a call at one process answered and left: its outcome, the record and the bytes of the process, the output buffer
-abbrev pub served : Outcome → Process → List ℕ → List ℕ → Left
+abbrev pub served : Outcome → Process → List ℕ → List ℕ → ProcessResult
 served o p bytes buffer = leaving (answer o buffer) (local p bytes)
 
 -- ---- requests
@@ -53,12 +53,12 @@ unfoldable pub cantBy : ℕ → Header → List ℕ → Answer
 cantBy number h buffer = answer (Refused number) (overlay (written (cantOf h) []) buffer)
 
 -- a request to the process that it names, by the number of its tests
-unfoldable pub namedBy : ℕ → Header → List ℕ → List ℕ → Local → Left
+unfoldable pub namedBy : ℕ → Header → List ℕ → List ℕ → Local → ProcessResult
 namedBy zero h string buffer l = leaving (replyOf h (ruleOf (h .cmd) .shown h l) buffer) (ruleOf (h .cmd) .effect h string l)
 namedBy (suc n) h string buffer l = leaving (cantBy (suc n) h buffer) l
 
 -- the same by its tests 7 to 12
-unfoldable pub namedAt : Header → List ℕ → List ℕ → Local → Left
+unfoldable pub namedAt : Header → List ℕ → List ℕ → Local → ProcessResult
 namedAt h string buffer l = namedBy (firstFailing (processTests h (l .process))) h string buffer l
 
 -- a granted request of this op code may change its process; EXAMINE does not
@@ -66,7 +66,7 @@ unfoldable pub changes : ℕ → Bool
 changes cmd = not (eqb cmd EXAMINE)
 
 -- CREATE, of process p
-unfoldable pub createdAt : ℕ → Header → List ℕ → Left
+unfoldable pub createdAt : ℕ → Header → List ℕ → ProcessResult
 createdAt p h buffer = leaving (replyOf (createdOf h p) [] buffer) (created (h .host))
 
 -- ---- reports
@@ -76,7 +76,7 @@ unfoldable pub reportAway : ℕ → ℕ → ℕ → ℕ
 reportAway p kind reason = firstFailing (test 14 (badReport kind reason) ∷ test 7 (not (ltb p 8)) ∷ [])
 
 -- a report about process p, by the number of its tests; 'a refused one writes nothing at all'
-unfoldable pub reportBy : ℕ → ℕ → ℕ → ℕ → List ℕ → List ℕ → Local → Left
+unfoldable pub reportBy : ℕ → ℕ → ℕ → ℕ → List ℕ → List ℕ → Local → ProcessResult
 reportBy zero p kind reason words buffer l =
     leaving (noticeTo (recipientOf kind words l) p kind reason words buffer) (reported kind words l)
 reportBy (suc n) p kind reason words buffer l = leaving (answer (Refused (suc n)) buffer) l
@@ -86,5 +86,5 @@ unfoldable pub reportNumberAt : ℕ → Process → ℕ
 reportNumberAt kind p = firstFailing (test 7 (not (p .there)) ∷ test 9 (not (accepts kind (p .run))) ∷ [])
 
 -- a report about process p, by its tests 7 and 9
-unfoldable pub reportAt : ℕ → ℕ → ℕ → List ℕ → List ℕ → Local → Left
+unfoldable pub reportAt : ℕ → ℕ → ℕ → List ℕ → List ℕ → Local → ProcessResult
 reportAt p kind reason words buffer l = reportBy (reportNumberAt kind (l .process)) p kind reason words buffer l

@@ -1,5 +1,5 @@
 // A machine report, at the process that it is about.
-use crate::served::Served;
+use crate::served::ServiceResult;
 use format::Outcome;
 use message::write_notice;
 use process::Process;
@@ -74,14 +74,14 @@ pub fn report_for_process(
     process: Process,
     bytes: &mut [u8],
     notice: &mut [u8],
-) -> Served
+) -> ServiceResult
     requires { ⌜ Tested «process» (now bytes) ⌝ }
     requires { ⌜ MESSAGE-BYTES ≤ length (now notice) ⌝ }
     ensures { λ r. ⌜ served (r .outcome) (r .process) (now (bytes .exit)) (now (notice .exit)) ≡ reportAt pid kind reason words (now (notice .entry)) (local «process» (now (bytes .entry))) ⌝ }
 {
     let number = report_number_at(process, kind);
     if number != 0 {
-        return Served {
+        return ServiceResult {
             outcome: Outcome::Refused(number),
             process: process,
         };
@@ -89,7 +89,7 @@ pub fn report_for_process(
     let done = process.report(bytes, kind, words);
     let next = done.process;
     let outcome = notify(done.told, pid, kind, reason, words, notice);
-    Served {
+    ServiceResult {
         outcome: outcome,
         process: next,
     }

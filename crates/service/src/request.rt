@@ -3,7 +3,7 @@ use crate::effect::perform;
 use crate::reply::refuse;
 use crate::reply::reply_plain;
 use crate::reply::reply_to;
-use crate::served::Served;
+use crate::served::ServiceResult;
 use checks::Decision;
 use checks::decide;
 use format::Header;
@@ -27,7 +27,7 @@ fn grant(
     bytes: &mut [u8],
     string: &[u8],
     reply: &mut [u8],
-) -> Served
+) -> ServiceResult
     requires { ⌜ Tested process (now bytes) ⌝ }
     requires { ⌜ firstFailing (ruleTests (ruleOf (h .cmd)) h process) ≡ 0 ⌝ }
     requires { ⌜ k ≡ entryOf (h .cmd) (h .arg1) process ⌝ }
@@ -37,7 +37,7 @@ fn grant(
 {
     let outcome = reply_to(h, process, bytes, reply);
     let next = perform(h, k, process, bytes, string);
-    Served {
+    ServiceResult {
         outcome: outcome,
         process: next,
     }
@@ -50,7 +50,7 @@ pub fn answer_for_process(
     bytes: &mut [u8],
     string: &[u8],
     reply: &mut [u8],
-) -> Served
+) -> ServiceResult
     requires { ⌜ Tested process (now bytes) ⌝ }
     requires { ⌜ length (now string) ≤ h .arg2 ⌝ }
     requires { ⌜ MESSAGE-BYTES ≤ length (now reply) ⌝ }
@@ -59,7 +59,7 @@ pub fn answer_for_process(
     let decision = decide(h, process);
     match decision {
         Decision::Allow(k) => grant(h, k, process, bytes, string, reply),
-        Decision::Refuse(number) => Served {
+        Decision::Refuse(number) => ServiceResult {
             outcome: refuse(h, number, reply),
             process: process,
         },
@@ -73,7 +73,7 @@ pub fn answer_create(
     process: Process,
     bytes: &mut [u8],
     reply: &mut [u8],
-) -> Served
+) -> ServiceResult
     requires { ⌜ pid < 8 ⌝ }
     requires { ⌜ length (now bytes) ≡ 4096 ⌝ }
     requires { ⌜ MESSAGE-BYTES ≤ length (now reply) ⌝ }
@@ -81,7 +81,7 @@ pub fn answer_create(
 {
     let created = process.create(h.host, bytes);
     let outcome = reply_plain(h.created(pid as u8), reply);
-    Served {
+    ServiceResult {
         outcome: outcome,
         process: created,
     }

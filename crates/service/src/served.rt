@@ -3,7 +3,7 @@ use format::Outcome;
 use process::Process;
 
 // The outcome, and the process after it.
-pub struct Served {
+pub struct ServiceResult {
     pub outcome: Outcome,
     pub process: Process,
 }

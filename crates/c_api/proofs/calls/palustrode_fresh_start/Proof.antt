@@ -8,7 +8,7 @@ use mir.Syntax.{w64}
 use mir.Val.{toZ, ofZ}
 use Rattle.rules.proofs.StepLaws.{by-test}
 use Rattle.state_bytes.specs.Widths.{stateWidth}
-use Rattle.gateway.specs.Called.{Started, startOn}
+use Rattle.gateway.specs.Called.{StartResult, startOn}
 use Rattle.c_api.specs.Called.{Short}
 use Rattle.c_api.proofs.ReturnLaws.{start-returns}
 use borrow.Author.Needs.{needs}
@@ -25,8 +25,8 @@ signed-requires : tie.Need-signed-requires
 unfolding startOn
 signed-requires c κs =
     let a = c .before .before .before .before .before .before .args in
-    let short : Short (startOn (c .before .before .before .before .bits .result) (a .state .now) .outcome) = by-test (λ (x : Started). Short (x .outcome)) (eqb (length (a .state .now)) stateWidth) (λ e. omega arith) (λ e. tt) in
-    subst Short (sym (ap (λ (x : Started). x .outcome) (c .before .before .fresh-start .ensures))) short
+    let short : Short (startOn (c .before .before .before .before .bits .result) (a .state .now) .outcome) = by-test (λ (x : StartResult). Short (x .outcome)) (eqb (length (a .state .now)) stateWidth) (λ e. omega arith) (λ e. tt) in
+    subst Short (sym (ap (λ (x : StartResult). x .outcome) (c .before .before .fresh-start .ensures))) short
 
 same-length : tie.Need-same-length
 same-length c = search needs

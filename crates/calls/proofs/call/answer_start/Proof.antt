@@ -4,7 +4,7 @@ use borrow.Author.Tests.{not-true, not-false}
 use mathlib.Core.Bool.{Bool, true, false}
 use native.Mathlib.Omega.{arith}
 use Rattle.lists.specs.Buffer.{overlay}
-use Rattle.gateway.specs.Called.{Started}
+use Rattle.gateway.specs.Called.{StartResult}
 use Rattle.calls.specs.declared.listing.Listing.{Listing}
 use Rattle.calls.specs.Listing.{complete}
 use Rattle.calls.specs.Meaning.{startListing, startEffect}
@@ -60,7 +60,7 @@ returns-2 c =
     let line = c .before .before .before .before .before .before .before .before .before .before .before .before .before .args .line .now in
     let is = start-listing _ _ _ line (c .before .before .before .before .before .before .before .before .before .new .ensures) (c .before .before .before .before .before .before .before .before .before .before .at-most .ensures .0) (c .before .before .before .before .before .before .before .part .ensures) in
     let right : complete (startListing line .place) ≡ true = ap (λ (x : Listing). complete (x .place)) (sym is) ∙ sym (c .before .before .before .before .before .is-complete .ensures) ∙ not-false _ (c .before .before .before .before .if1 .left) in
-    let done = rw is at (ap (λ (x : Started). x .state) (c .fresh-start .ensures)) in
+    let done = rw is at (ap (λ (x : StartResult). x .state) (c .fresh-start .ensures)) in
     does-right _ _ _ _ _ _ _ _ _ right (record { state = done; memory = c .before .before .clear .ensures; text = record { size = refl; fits = omega arith; laid = refl } })
 
 pub answer-start-spec : {M : Type 1} → statement M

@@ -1,6 +1,6 @@
 -- `recording::language::begin` meets its contract. Assumes nothing.
 use mathlib.Core.Path.{_≡_, refl, sym, ap, _∙_}
-use Rattle.gateway.specs.Called.{Started}
+use Rattle.gateway.specs.Called.{StartResult}
 use Rattle.recording.specs.Line.{firstState}
 use borrow.Author.Needs.{needs}
 use Rattle.recording.proofs.language.begin.Statement.{statement}
@@ -14,7 +14,7 @@ fresh-start-requires c κs = search needs
 
 returns : tie.Need-returns
 unfolding firstState
-returns c = rw (c .before .before .there .ensures) at (ap (λ (x : Started). x .state) (c .fresh-start .ensures))
+returns c = rw (c .before .before .there .ensures) at (ap (λ (x : StartResult). x .state) (c .fresh-start .ensures))
 
 pub begin-spec : {M : Type 1} → statement M
 begin-spec = tie.close (tie.spec there-requires fresh-start-requires returns)
