@@ -4,14 +4,16 @@ use mathlib.Core.List.{List}
 use Prim.Native.Nat.{ℕ, _≤_}
 use lib.ListN.{length}
 use Rattle.lists.specs.Buffer.{overlay}
+use Rattle.state.specs.Slot.{capacity}
+use Rattle.format.specs.Sizes.{messageBytes}
 
 -- the bytes of the lent memory
 abbrev pub memorySize : ℕ
-memorySize = 32768
+memorySize = capacity
 
 -- the bytes of a buffer for a reply or a notice, and of the longest message
 abbrev pub messageSize : ℕ
-messageSize = 266
+messageSize = messageBytes
 
 -- no line prints more bytes
 abbrev pub longestText : ℕ

@@ -20,7 +20,7 @@ listingOf place there = record { place = place; there = there }
 abbrev pub empty : Listing
 empty = listingOf Behind (replicate 8 false)
 
--- behind a number, or the word itself, a blank may follow; behind a blank a number must
+-- after a number, or the word itself, a blank may follow; after a blank a number must
 unfoldable pub nextIn : Place → ℕ → List Bool → Listing
 nextIn Behind c there = cond (eqb c 32) (listingOf Before there) (listingOf Wrong there)
 nextIn Before c there = cond (isProcess c) (listingOf Behind (set there (c - 48) true)) (listingOf Wrong there)

@@ -23,6 +23,7 @@ use Rattle.calls.specs.declared.listing.Listing.{Listing}
 use Rattle.calls.specs.Listing.{empty, listed, complete}
 use Rattle.calls.specs.Words.{processIn, kindIn, reasonIn, wordsOf, reportIn}
 use Rattle.calls.specs.Effect.{Effect, effect, messageSize}
+use Rattle.process.specs.Sizes.{memoryBytes}
 
 -- any line that is no call prints a question mark and changes nothing
 unfoldable pub unknownEffect : List ℕ → List ℕ → Effect
@@ -94,11 +95,11 @@ module _ (line : List ℕ) where
 
   -- the first address
   abbrev pub memoryAddress : Number
-  memoryAddress = behind 4096 line memoryP
+  memoryAddress = behind memoryBytes line memoryP
 
   -- how many bytes
   abbrev pub memoryCount : Number
-  memoryCount = behind (4096 - memoryAddress .value) line memoryAddress
+  memoryCount = behind (memoryBytes - memoryAddress .value) line memoryAddress
 
   -- it prints the bytes as they stand in memory
   unfoldable pub memoryEffect : List ℕ → List ℕ → Effect

@@ -9,16 +9,19 @@ pub use call::answer_report;
 pub use call::answer_request;
 pub use call::answer_start;
 pub use call::answer_store;
+use format::MESSAGE_BYTES;
 pub use show::answer_memory;
 pub use show::answer_process;
 pub use show::answer_unknown;
+use state::CAPACITY;
+use state_bytes::STATE_BYTES;
 
 // The bytes of a state.
-pub const STATE: usize = 680;
+pub const STATE: usize = STATE_BYTES;
 // The bytes of the lent memory.
-pub const MEMORY: usize = 32768;
+pub const MEMORY: usize = CAPACITY;
 // The bytes of a buffer for a reply or a notice, and of the longest message.
-pub const MESSAGE: usize = 266;
+pub const MESSAGE: usize = MESSAGE_BYTES;
 // One byte more than the longest message: a longer one is answered like its first so many bytes.
 const KEPT: usize = 267;
 // No line prints more bytes.

@@ -1,4 +1,4 @@
-// The processes that a start lists, each a digit behind a single blank, in parts of any length.
+// The processes that a start lists, each a digit after a single blank, in parts of any length.
 ghost use mathlib.Core.Path.{_≡_};
 ghost use mathlib.Core.Bool.{true};
 ghost use Prim.Native.Nat.{_-_, _<_};
@@ -6,15 +6,15 @@ ghost use Rattle.calls.specs.Listing.{isProcess, empty, nextIn, nextList
 
 // Where in the line the reading stands.
 pub enum Place {
-    // Behind the word, or behind a number: a blank may follow.
+    // After the word, or after a number: a blank may follow.
     Behind,
-    // Behind a blank: a number has to follow.
+    // After a blank: a number has to follow.
     Before,
     // The line is no start.
     Wrong,
 }
 
-// Where the reading behind the word stands, and which processes were listed.
+// Where the reading after the word stands, and which processes were listed.
 pub struct Listing {
     pub place: Place,
     pub there: [bool; 8],
@@ -28,7 +28,7 @@ fn is_process(c: u8) -> bool
 }
 
 impl Listing {
-    // A line of which nothing was read behind its word.
+    // A line of which nothing was read after its word.
     pub fn new() -> Listing
         ensures { λ r. ⌜ r ≡ empty ⌝ }
     {
@@ -39,7 +39,7 @@ impl Listing {
         }
     }
 
-    // Behind a number.
+    // After a number.
     fn after_number(c: u8, there: [bool; 8]) -> Listing
         ensures { λ r. ⌜ r ≡ nextIn Place.Behind c there ⌝ }
     {
@@ -55,7 +55,7 @@ impl Listing {
         }
     }
 
-    // Behind a blank.
+    // After a blank.
     fn after_blank(c: u8, there: [bool; 8]) -> Listing
         ensures { λ r. ⌜ r ≡ nextIn Place.Before c there ⌝ }
     {

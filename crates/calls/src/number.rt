@@ -9,7 +9,7 @@ pub struct Words {
     pub words: [u16; 9],
 }
 
-// The nine numbers behind another.
+// The nine numbers after another.
 pub(crate) fn words_behind(number: Number, line: &[u8]) -> Words
     ensures { λ r. ⌜ r .last ≡ lastOf 9 (now (line .entry)) number ⌝ }
     ensures { λ r. ⌜ r .words ≡ wordsOf 9 (now (line .entry)) number ⌝ }
@@ -37,7 +37,7 @@ pub struct Report {
     pub words: [u16; 9],
 }
 
-// The numbers behind the word.
+// The numbers after the word.
 pub(crate) fn read_report(line: &[u8]) -> Report
     ensures { λ r. ⌜ r .ok ≡ reportIn (now (line .entry)) ⌝ }
     ensures { λ r. ⌜ r .process ≡ processIn (now (line .entry)) .value ⌝ }

@@ -4,6 +4,7 @@ use decimal::Number;
 use display::put_process;
 use lines::put;
 use lines::put_pairs;
+use process::MEMORY_BYTES;
 use state::start;
 use state_bytes::read_process_at;
 ghost use mathlib.Core.Path.{_≡_};
@@ -11,6 +12,7 @@ ghost use Prim.Native.Nat.{_+_, _*_, _≤_, _<_};
 ghost use lib.ListN.{length};
 ghost use Rattle.calls.specs.Effect.{longestText, memorySize, Does};
 ghost use Rattle.calls.specs.Meaning.{unknownEffect, memoryEffect, processEffect};
+ghost use Rattle.process.specs.Sizes.{memoryBytes};
 
 // A line that is no call.
 pub fn answer_unknown(state: &[u8], memory: &[u8], out: &mut [u8]) -> usize
@@ -23,7 +25,7 @@ pub fn answer_unknown(state: &[u8], memory: &[u8], out: &mut [u8]) -> usize
 // Where a process's byte with this address lies in memory.
 pub(crate) fn place(p: usize, address: usize) -> usize
     requires { ⌜ p < 8 ⌝ }
-    requires { ⌜ address ≤ 4096 ⌝ }
+    requires { ⌜ address ≤ memoryBytes ⌝ }
     ensures { λ r. ⌜ r ≡ 4096 * p + address ⌝ }
 {
     start(p) + address
@@ -36,8 +38,8 @@ pub fn answer_memory(state: &[u8], memory: &[u8], line: &[u8], out: &mut [u8]) -
     ensures { λ r. ⌜ Does (memoryEffect (now (line .entry)) (now (state .entry)) (now (memory .entry))) r (now (state .entry)) (now (memory .entry)) (now (out .entry)) (now (out .exit)) ⌝ }
 {
     let process = Number::start(6).then(line, 7);
-    let address = process.then(line, 4096);
-    let count = address.then(line, 4096 - address.value);
+    let address = process.then(line, MEMORY_BYTES);
+    let count = address.then(line, MEMORY_BYTES - address.value);
     if !count.ends(line) {
         return answer_unknown(state, memory, out);
     }

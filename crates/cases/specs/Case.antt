@@ -11,6 +11,7 @@ use Rattle.format.specs.Layout.{written}
 use Rattle.state.specs.Records.{freshStart}
 use Rattle.rules.specs.Step.{Call, request}
 use Rattle.rules.specs.Run.{TraceItem, run}
+use Rattle.format.specs.Sizes.{messageBytes}
 
 -- what is seen of a call: its number, the bytes that it wrote, and bytes of memory after it
 pub record Seen : Type 0 where
@@ -49,7 +50,7 @@ outcomes c = map (seenOf (c .places)) (run (record { records = freshStart (c .th
 
 -- every buffer is lent with these bytes in it
 abbrev pub buffer : List ℕ
-buffer = replicate 266 170
+buffer = replicate messageBytes 170
 
 -- a request with this message
 abbrev pub sent : List ℕ → Call

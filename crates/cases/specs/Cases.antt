@@ -6,6 +6,7 @@ use Prim.Native.Nat.{ℕ}
 use lib.ListN.{replicate, set}
 use Rattle.rules.specs.Step.{Call, report}
 use Rattle.cases.specs.Case.{Case, Seen, outcomes, buffer, sent, asked, answer, holds}
+use Rattle.state.specs.Slot.{capacity}
 
 -- process 2 alone
 abbrev pub second : List Bool
@@ -13,7 +14,7 @@ second = false ∷ false ∷ true ∷ false ∷ false ∷ false ∷ false ∷ fa
 
 -- the lent memory, all zero
 abbrev pub zeros : List ℕ
-zeros = replicate 32768 0
+zeros = replicate capacity 0
 
 -- NOP by host 5
 abbrev pub nop : List ℕ

@@ -14,11 +14,11 @@ pub enum Decision {
 }
 
 // A request to this process.
-pub fn decide(h: Header, p: Process) -> Decision
-    ensures { λ r. ⌜ r ≡ decisionOf h p ⌝ }
+pub fn decide(h: Header, process: Process) -> Decision
+    ensures { λ r. ⌜ r ≡ decisionOf h process ⌝ }
 {
-    if !p.there {
+    if !process.there {
         return Decision::Refuse(7);
     }
-    rule_decision(h, p)
+    rule_decision(h, process)
 }

@@ -23,15 +23,17 @@ ghost use lib.Dec.{leb};
 ghost use Rattle.rules.specs.Rule.{public, ruleOf};
 ghost use Rattle.checks.specs.Decision.{entryDecision, ruleDecision};
 ghost use Rattle.ops.specs.Codes.{BREAK, UNBREAK};
+ghost use Rattle.process.specs.Sizes.{memoryBytes};
+ghost use Rattle.format.specs.Sizes.{stringBytes};
 
 // 8: the asker debugs the process; for DEBUG, no other host does.
-fn right(cmd: u8, p: Process, asker: u8) -> bool
-    ensures { λ r. ⌜ r ≡ ruleOf cmd .right (public p) asker ⌝ }
+fn right(cmd: u8, process: Process, asker: u8) -> bool
+    ensures { λ r. ⌜ r ≡ ruleOf cmd .right (public process) asker ⌝ }
 {
     if cmd != DEBUG {
-        return p.host == asker;
+        return process.host == asker;
     }
-    p.host == 0 || p.host == asker
+    process.host == 0 || process.host == asker
 }
 
 // 9: the run state is one that the op code works in.
@@ -52,7 +54,7 @@ fn runs(cmd: u8, run: Run) -> bool
 
 // Whether so many bytes from this address on may be examined.
 fn readable(end: usize, count: u16) -> bool
-    ensures { λ r. ⌜ r ≡ leb end 4096 && leb count 256 ⌝ }
+    ensures { λ r. ⌜ r ≡ leb end memoryBytes && leb count stringBytes ⌝ }
 {
     end <= MEMORY_BYTES && count <= 256
 }
@@ -80,10 +82,10 @@ fn range(h: Header) -> bool
 }
 
 // 11: a BREAK at this address has an entry to go to.
-fn break_decision(a: u16, p: Process) -> Decision
-    ensures { λ r. ⌜ r ≡ entryDecision BREAK a p ⌝ }
+fn break_decision(a: u16, process: Process) -> Decision
+    ensures { λ r. ⌜ r ≡ entryDecision BREAK a process ⌝ }
 {
-    let found = p.entry_for(a);
+    let found = process.entry_for(a);
     match found {
         FoundEntry::Index(k) => Decision::Allow(k),
         FoundEntry::Nowhere => Decision::Refuse(11),
@@ -91,10 +93,10 @@ fn break_decision(a: u16, p: Process) -> Decision
 }
 
 // 12: there is a breakpoint to remove.
-fn unbreak_decision(a: u16, p: Process) -> Decision
-    ensures { λ r. ⌜ r ≡ entryDecision UNBREAK a p ⌝ }
+fn unbreak_decision(a: u16, process: Process) -> Decision
+    ensures { λ r. ⌜ r ≡ entryDecision UNBREAK a process ⌝ }
 {
-    let found = p.find(EntryQuery::At(a));
+    let found = process.find(EntryQuery::At(a));
     match found {
         FoundEntry::Index(k) => Decision::Allow(k),
         FoundEntry::Nowhere => Decision::Refuse(12),
@@ -102,27 +104,27 @@ fn unbreak_decision(a: u16, p: Process) -> Decision
 }
 
 // 11 and 12.
-fn entry_decision(cmd: u8, a: u16, p: Process) -> Decision
-    ensures { λ r. ⌜ r ≡ entryDecision cmd a p ⌝ }
+fn entry_decision(cmd: u8, a: u16, process: Process) -> Decision
+    ensures { λ r. ⌜ r ≡ entryDecision cmd a process ⌝ }
 {
     if cmd == BREAK {
-        return break_decision(a, p);
+        return break_decision(a, process);
     }
     if cmd == UNBREAK {
-        return unbreak_decision(a, p);
+        return unbreak_decision(a, process);
     }
     Decision::Allow(0)
 }
 
 // The first of these tests that fails, or the entry that the request goes to.
-pub(crate) fn rule_decision(h: Header, p: Process) -> Decision
-    ensures { λ r. ⌜ r ≡ ruleDecision h p ⌝ }
+pub(crate) fn rule_decision(h: Header, process: Process) -> Decision
+    ensures { λ r. ⌜ r ≡ ruleDecision h process ⌝ }
 {
     let cmd = h.cmd;
     let host = h.host;
     let arg1 = h.arg1;
-    let run = p.run;
-    if !right(cmd, p, host) {
+    let run = process.run;
+    if !right(cmd, process, host) {
         return Decision::Refuse(8);
     }
     if !runs(cmd, run) {
@@ -131,5 +133,5 @@ pub(crate) fn rule_decision(h: Header, p: Process) -> Decision
     if !range(h) {
         return Decision::Refuse(10);
     }
-    entry_decision(cmd, arg1, p)
+    entry_decision(cmd, arg1, process)
 }

@@ -186,7 +186,7 @@ pub value-cons : (v c : ℕ) (cs : List ℕ) → valueFrom v (c ∷ cs) ≡ valu
 unfolding valueFrom
 value-cons v c cs = refl
 
--- behind digits that make a number other than 0
+-- after digits that make a number other than 0
 numeral-behind : (v : ℕ) (xs : List ℕ) → 1 ≤ v → numeral (valueFrom v (digitsOf xs)) ≡ numeral v ++ digitsOf xs
 numeral-behind v [] h =
     ap (λ (l : List ℕ). numeral (valueFrom v l)) no-digits

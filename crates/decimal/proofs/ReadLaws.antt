@@ -127,7 +127,7 @@ numeral-is-read most n before after h none =
     ap digitsOf (drop-append-seam before (numeral n ++ after)) ∙ digits-numeral n after ∙ ap (λ (l : List ℕ). numeral n ++ l) none ∙ append-nil (numeral n) in
     rw (there, plain-numeral n, value-numeral n, le-leb n most h)
 
--- behind all digits stands none
+-- after all digits stands none
 rest-none : (xs : List ℕ) → digitsOf (drop (length (digitsOf xs)) xs) ≡ []
 unfolding digitsOf
 rest-none [] = refl
@@ -159,7 +159,7 @@ read-is-numeral most at line = go (plain (digitsOf (drop at line)) && leb (value
 pub reads-numbers : ReadsNumbers
 reads-numbers = record { numeral-is-read = numeral-is-read; read-is-numeral = read-is-numeral }
 
--- ---- the number behind another
+-- ---- the number after another
 
 module _ (most : ℕ) (line : List ℕ) (n : Number) where
   pub behind-wrong : n .ok ≡ false → wrong ≡ behind most line n

@@ -6,7 +6,7 @@ use lib.Dec.{ltb, eqb}
 
 -- ---- writing
 
--- the numeral of a number of at most so many digits: its last digit, behind the numeral of the rest if there is one
+-- the numeral of a number of at most so many digits: its last digit, after the numeral of the rest if there is one
 unfoldable pub numeralIn : ℕ → ℕ → List ℕ
 numeralIn zero n = []
 numeralIn (suc k) n = cond (ltb n 10) ((48 + n) ∷ []) (numeralIn k (n / 10) ++ ((48 + n % 10) ∷ []))
@@ -15,7 +15,7 @@ numeralIn (suc k) n = cond (ltb n 10) ((48 + n) ∷ []) (numeralIn k (n / 10) ++
 unfoldable pub numeral : ℕ → List ℕ
 numeral n = numeralIn (suc n) n
 
--- a number behind a mark
+-- a number after a mark
 unfoldable pub field : ℕ → ℕ → List ℕ
 field mark n = mark ∷ numeral n
 
@@ -30,7 +30,7 @@ unfoldable pub digitsOf : List ℕ → List ℕ
 digitsOf [] = []
 digitsOf (c ∷ cs) = cond (eqb (digitOf c) 10) [] (c ∷ digitsOf cs)
 
--- the number that digits make behind those of another
+-- the number that digits make after those of another
 unfoldable pub valueFrom : ℕ → List ℕ → ℕ
 valueFrom v [] = v
 valueFrom v (c ∷ cs) = valueFrom (10 * v + digitOf c) cs

@@ -11,7 +11,7 @@ use Rattle.decimal.specs.Numeral.{digitsOf, valueFrom, plain}
 abbrev pub wrong : Number
 wrong = record { ok = false; value = 0; next = 0 }
 
--- a number, and the index behind it
+-- a number, and the index after it
 abbrev pub right : ℕ → ℕ → Number
 right value next = record { ok = true; value = value; next = next }
 
@@ -29,10 +29,10 @@ numberAt most line at =
     checked (plain (digitsOf (drop at line)) && leb (valueFrom 0 (digitsOf (drop at line))) most)
     (valueFrom 0 (digitsOf (drop at line))) (at + length (digitsOf (drop at line)))
 
--- the number behind another: a blank, and a number
+-- the number after another: a blank, and a number
 unfoldable pub behind : ℕ → List ℕ → Number → Number
 behind most line n = cond (n .ok && eqb (getD line (n .next) 0) 32) (numberAt most line (n .next + 1)) wrong
 
--- all numbers were right, and the line ends behind the last
+-- all numbers were right, and the line ends after the last
 unfoldable pub endsLine : List ℕ → Number → Bool
 endsLine line n = n .ok && eqb (n .next) (length line)

@@ -6,7 +6,7 @@ ghost use lib.ListN.{length};
 ghost use Rattle.lines.specs.Scan.{Put};
 ghost use Rattle.decimal.specs.Numeral.{numeral, field};
 
-// A number from an index on; the index behind it.
+// A number from an index on; the index after it.
 pub fn put_number(n: u16, at: usize, out: &mut [u8]) -> usize
     requires { ⌜ at + 5 ≤ length (now out) ⌝ }
     ensures { λ r. ⌜ Put at (numeral n) (now (out .entry)) r (now (out .exit)) ⌝ }
@@ -17,7 +17,7 @@ pub fn put_number(n: u16, at: usize, out: &mut [u8]) -> usize
     put(&text[..k], at, out)
 }
 
-// A mark and a number, from an index on; the index behind them.
+// A mark and a number, from an index on; the index after them.
 pub fn put_field(mark: u8, n: u16, at: usize, out: &mut [u8]) -> usize
     requires { ⌜ at + 6 ≤ length (now out) ⌝ }
     ensures { λ r. ⌜ Put at (field mark n) (now (out .entry)) r (now (out .exit)) ⌝ }

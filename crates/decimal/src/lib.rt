@@ -1,4 +1,4 @@
-// Numbers as text: decimal, without sign or leading zeros. They are read at an index of a line, each behind a single blank, and written
+// Numbers as text: decimal, without sign or leading zeros. They are read at an index of a line, each after a single blank, and written
 // from an index of a buffer on.
 mod field;
 mod number;

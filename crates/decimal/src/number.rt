@@ -1,11 +1,11 @@
-// The numbers of a line: decimal, without sign or leading zeros, each behind a single blank.
+// The numbers of a line: decimal, without sign or leading zeros, each after a single blank.
 ghost use mathlib.Core.Path.{_≡_};
 ghost use Prim.Native.Nat.{_-_, _≤_};
 ghost use lib.ListN.{length, take, drop};
 ghost use Rattle.decimal.specs.Numeral.{digitOf, plain};
 ghost use Rattle.decimal.specs.Read.{wrong, begun, checked, numberAt, behind, endsLine};
 
-// A number, or nothing where it or one before it was wrong; and the index behind it.
+// A number, or nothing where it or one before it was wrong; and the index after it.
 pub struct Number {
     pub ok: bool,
     pub value: usize,
@@ -118,7 +118,7 @@ impl Number {
         Number::digits(line, at + 1, most)
     }
 
-    // Whether the line ends behind it.
+    // Whether the line ends after it.
     pub fn ends(self, line: &[u8]) -> bool
         ensures { λ r. ⌜ r ≡ endsLine (now (line .entry)) self ⌝ }
     {

@@ -1,4 +1,4 @@
--- Laws of the line that answers a call: the number, the bytes and the newline, one behind the other. Assumes nothing.
+-- Laws of the line that answers a call: the number, the bytes and the newline, one after the other. Assumes nothing.
 use mathlib.Core.Path.{_≡_, sym, ap, _∙_}
 use mathlib.Core.List.{List, [], _∷_, _++_}
 use Prim.Native.Nat.{ℕ, _+_, _-_, _*_, _≤_, _<_}
@@ -16,7 +16,7 @@ use Rattle.display.specs.Answer.{answerLine}
 length-rest : (at : ℕ) (whole : List ℕ) → length (take (length whole - at) (drop at whole)) ≡ length whole - at
 length-rest at whole = length-take-le (length whole - at) (drop at whole) (simp length-drop (omega arith))
 
--- behind the number there is room for the bytes
+-- after the number there is room for the bytes
 pub record Headed (bytes whole : List ℕ) (at : ℕ) : Type 0 where
   pub inside : at ≤ length whole
   pub room : 2 + 3 * length bytes ≤ length (take (length whole - at) (drop at whole))
@@ -28,7 +28,7 @@ headed number at bytes out whole byte pre a w =
     let long : length whole ≡ length out = ap (λ (x : List ℕ). length x) w ∙ length-overlay (numeral number) out (omega (arith, short, pre)) in
     record { inside = omega (arith, a, short, long, pre); room = omega (arith, length-rest at whole, a, short, long, pre) }
 
--- the buffer with the bytes in the lent part behind the number
+-- the buffer with the bytes in the lent part after the number
 abbrev pub rejoined : ℕ → List ℕ → List ℕ → List ℕ
 rejoined at whole last = take at whole ++ (last ++ drop (length whole - at) (drop at whole))
 
@@ -48,7 +48,7 @@ module _ (front body out whole last : List ℕ) (at n : ℕ) (a : at ≡ length 
   laid-size : at + n + 1 ≡ length ((front ++ body) ++ (10 ∷ []))
   laid-size = omega (arith, a, b, length-append (front ++ body) (10 ∷ []), length-append front body)
 
--- with a newline behind the bytes it is the line
+-- with a newline after the bytes it is the line
 pub record Line (number at n : ℕ) (bytes out whole last : List ℕ) : Type 0 where
   pub room : at + n < length out
   pub long : length (rejoined at whole last) ≡ length out

@@ -11,11 +11,11 @@ use Rattle.process.specs.declared.record.Process.{Process}
 use Rattle.run_state.specs.RunState.{runNumber}
 use Rattle.decimal.specs.Numeral.{numeral, field}
 
--- a word behind a blank
+-- a word after a blank
 abbrev pub wordText : ℕ → List ℕ
 wordText w = field 32 w
 
--- an entry behind a blank: used, address, count, saved word, lifted, parted by colons
+-- an entry after a blank: used, address, count, saved word, lifted, parted by colons
 unfoldable pub entryText : Breakpoint → List ℕ
 entryText b = (((field 32 (flag (b .used)) ++ field 58 (b .address)) ++ field 58 (b .count)) ++ field 58 (word (b .high) (b .low))) ++ field 58 (flag (b .lifted))
 

@@ -9,7 +9,7 @@ ghost use Rattle.lists.specs.Joined.{joined};
 ghost use Rattle.lines.specs.Scan.{Put};
 ghost use Rattle.display.specs.Line.{entryText};
 
-// One of the eight entries, behind a blank.
+// One of the eight entries, after a blank.
 fn put_entry(b: Breakpoint, from: usize, out: &mut [u8]) -> usize
     requires { ⌜ from + 30 ≤ length (now out) ⌝ }
     ensures { λ r. ⌜ Put from (entryText b) (now (out .entry)) r (now (out .exit)) ⌝ }

@@ -25,7 +25,7 @@ fn put_head(there: bool, host: u8, run: Run, out: &mut [u8]) -> usize
     put_field(32, run.number() as u16, second, out)
 }
 
-// The nine words, each behind a blank.
+// The nine words, each after a blank.
 fn put_words(words: [u16; 9], from: usize, out: &mut [u8]) -> usize
     requires { ⌜ from + 54 ≤ length (now out) ⌝ }
     ensures { λ r. ⌜ Put from (joined wordText words) (now (out .entry)) r (now (out .exit)) ⌝ }

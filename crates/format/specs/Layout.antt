@@ -6,7 +6,7 @@ use lib.ListN.{drop, getD}
 use lib.Dec.{eqb}
 use Rattle.lists.specs.Word.{high, low, word}
 use Rattle.format.specs.declared.header.Header.{Header}
-use Rattle.format.specs.Sizes.{HEADER-BYTES}
+use Rattle.format.specs.Sizes.{headerBytes}
 
 -- 'One byte each: TYPE 0, HOST, LINK 255, STYPE 0, CMD, PID; then ARG1 and ARG2, two bytes each, high byte first'
 abbrev pub header : Header → List ℕ
@@ -40,7 +40,7 @@ headerOf m =
 
 -- the string of a message
 unfoldable pub stringOf : List ℕ → List ℕ
-stringOf m = drop HEADER-BYTES m
+stringOf m = drop headerBytes m
 
 -- TYPE, LINK and STYPE are right
 unfoldable pub fixedRight : List ℕ → Bool

@@ -10,7 +10,7 @@ use Rattle.ops.specs.declared.table.Form.{Form}
 use Rattle.ops.specs.declared.table.Found.{Found}
 use Rattle.ops.specs.declared.table.Found.the-variants.{Known, Unknown}
 use Rattle.format.specs.Outcome.{Test, test}
-use Rattle.format.specs.Sizes.{HEADER-BYTES, MESSAGE-BYTES}
+use Rattle.format.specs.Sizes.{headerBytes, messageBytes}
 
 -- 'Unused fields are zero.': this field is used, or it is zero
 abbrev pub usedOrZero : Bool → ℕ → Bool
@@ -28,7 +28,7 @@ carriedLength Vector arg2 = 18
 
 -- test 3: 'message under 10 or over 266 bytes'
 unfoldable pub wrongLength : ℕ → Bool
-wrongLength length = ltb length HEADER-BYTES || ltb MESSAGE-BYTES length
+wrongLength length = ltb length headerBytes || ltb messageBytes length
 
 -- test 4: 'TYPE, LINK or STYPE wrong, or HOST 0'
 unfoldable pub wrongHeader : Bool → ℕ → Bool
@@ -41,7 +41,7 @@ unknown Unknown = true
 
 -- a message with these fields and this length does not have the form
 unfoldable pub misfits : Form → Header → ℕ → Bool
-misfits f h length = not (unusedZero f h) || not (eqb length (HEADER-BYTES + carriedLength (f .carried) (h .arg2)))
+misfits f h length = not (unusedZero f h) || not (eqb length (headerBytes + carriedLength (f .carried) (h .arg2)))
 
 -- test 6: 'unused field not zero, or string of wrong length'
 abbrev pub malformed : Found → Header → ℕ → Bool

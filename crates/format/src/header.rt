@@ -1,4 +1,4 @@
-// The ten bytes that every message starts with, and the string behind them.
+// The ten bytes that every message starts with, and the string after them.
 use crate::sizes::HEADER_BYTES;
 use words::high_byte;
 use words::low_byte;
@@ -9,7 +9,7 @@ ghost use lib.ListN.{length};
 ghost use lib.Seq.{paste};
 ghost use Rattle.lists.specs.Buffer.{overlay};
 ghost use Rattle.format.specs.Layout.{header, headerOf, stringOf, fixedRight};
-ghost use Rattle.format.specs.Sizes.{HEADER-BYTES};
+ghost use Rattle.format.specs.Sizes.{headerBytes};
 
 // The fields of a message. HOST is the sender of a request, and the host that an answer is for.
 pub struct Header {
@@ -23,7 +23,7 @@ pub struct Header {
 impl Header {
     // The ten bytes go to the start of a buffer.
     pub fn put(self, buffer: &mut [u8])
-        requires { ⌜ HEADER-BYTES ≤ length (now buffer) ⌝ }
+        requires { ⌜ headerBytes ≤ length (now buffer) ⌝ }
         ensures { λ _. ⌜ now (buffer .exit) ≡ overlay (header self) (now (buffer .entry)) ⌝ }
     {
         buffer[0] = 0;
@@ -40,7 +40,7 @@ impl Header {
 
     // The fields in a message's first ten bytes.
     pub fn of(message: &[u8]) -> Header
-        requires { ⌜ HEADER-BYTES ≤ length (now message) ⌝ }
+        requires { ⌜ headerBytes ≤ length (now message) ⌝ }
         ensures { λ r. ⌜ r ≡ headerOf (now (message .entry)) ⌝ }
     {
         Header {
@@ -53,17 +53,17 @@ impl Header {
     }
 }
 
-// A string goes behind the tenth byte of a buffer.
+// A string goes after the tenth byte of a buffer.
 pub fn put_string(string: &[u8], buffer: &mut [u8])
-    requires { ⌜ HEADER-BYTES + length (now string) ≤ length (now buffer) ⌝ }
-    ensures { λ _. ⌜ now (buffer .exit) ≡ paste (now (buffer .entry)) HEADER-BYTES (now (string .entry)) (length (now (string .entry))) ⌝ }
+    requires { ⌜ headerBytes + length (now string) ≤ length (now buffer) ⌝ }
+    ensures { λ _. ⌜ now (buffer .exit) ≡ paste (now (buffer .entry)) headerBytes (now (string .entry)) (length (now (string .entry))) ⌝ }
 {
     bytes::copy(string, &mut buffer[HEADER_BYTES..]);
 }
 
 // TYPE, LINK and STYPE are right.
 pub fn fixed_right(message: &[u8]) -> bool
-    requires { ⌜ HEADER-BYTES ≤ length (now message) ⌝ }
+    requires { ⌜ headerBytes ≤ length (now message) ⌝ }
     ensures { λ r. ⌜ r ≡ fixedRight (now (message .entry)) ⌝ }
 {
     if message[0] != 0 {
@@ -75,7 +75,7 @@ pub fn fixed_right(message: &[u8]) -> bool
     message[3] == 0
 }
 
-// The string of a message: the part behind the tenth byte, or nothing where there is none.
+// The string of a message: the part after the tenth byte, or nothing where there is none.
 pub fn string(message: &[u8]) -> &[u8]
     ensures { λ r. ⌜ now r ≡ stringOf (now (message .entry)) ⌝ }
 {

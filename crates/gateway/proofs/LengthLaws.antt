@@ -23,7 +23,7 @@ use Rattle.rules.proofs.TotalLaws.{total}
 use Rattle.process.specs.Report.{reported, recipientOf}
 use Rattle.gateway.specs.Lengths.{replyLength, noticeLength, front, Lengths}
 
--- ---- behind what was written
+-- ---- after what was written
 
 module _ (s : State) (m buffer : List ℕ) where
   cant-behind : drop 10 (cantOver m buffer) ≡ drop 10 buffer

@@ -9,12 +9,12 @@ use Rattle.format.specs.declared.outcome.Outcome.{Outcome}
 use Rattle.format.specs.declared.outcome.Outcome.the-variants.{Granted, Refused}
 use Rattle.rules.specs.Tests.{State}
 use Rattle.rules.specs.Step.{Answer, requestStep, reportStep}
-use Rattle.format.specs.Sizes.{HEADER-BYTES}
+use Rattle.format.specs.Sizes.{headerBytes}
 
 -- of a request: the reply; from number 7 on the ten bytes of the CAN'T; else nothing
 unfoldable pub replyLength : Outcome → ℕ
 replyLength (Granted n) = n
-replyLength (Refused n) = cond (ltb n 7) 0 HEADER-BYTES
+replyLength (Refused n) = cond (ltb n 7) 0 headerBytes
 
 -- of a report: the notice, or nothing
 unfoldable pub noticeLength : Outcome → ℕ
@@ -27,7 +27,7 @@ front count a = take (count (a .outcome)) (a .buffer)
 
 -- these lengths are how much of its buffer a call wrote
 pub record Lengths : Type 0 where
-  -- behind that many bytes the buffer is what it was
+  -- after that many bytes the buffer is what it was
   pub request-behind : (s : State) (m buffer : List ℕ)
       → drop (replyLength (requestStep m buffer s .answer .outcome)) (requestStep m buffer s .answer .buffer)
       ≡ drop (replyLength (requestStep m buffer s .answer .outcome)) buffer

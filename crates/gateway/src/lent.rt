@@ -1,5 +1,6 @@
 // The tests 1 and 2, which every call makes first.
 use format::MESSAGE_BYTES;
+use state::CAPACITY;
 use state_bytes::state_sound;
 ghost use mathlib.Core.Path.{_≡_};
 ghost use Rattle.gateway.specs.Called.{lentOn};
@@ -8,7 +9,7 @@ ghost use Rattle.gateway.specs.Called.{lentOn};
 pub(crate) fn check_buffers_and_state(state: &[u8], memory: &[u8], buffer: &[u8]) -> u8
     ensures { λ r. ⌜ r ≡ lentOn (now (state .entry)) (now (memory .entry)) (now (buffer .entry)) ⌝ }
 {
-    if memory.len() != 32768 {
+    if memory.len() != CAPACITY {
         return 1;
     }
     if buffer.len() < MESSAGE_BYTES {

@@ -8,7 +8,7 @@ pub fn demands()
     ensures { λ _. ⌜ Demands ⌝ }
 {}
 
-// `reply_length` and `notice_length` count what a call wrote: no byte behind it, and every byte before.
+// `reply_length` and `notice_length` count what a call wrote: no byte after it, and every byte before.
 pub fn lengths()
     ensures { λ _. ⌜ Lengths ⌝ }
 {}

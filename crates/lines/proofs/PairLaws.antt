@@ -95,7 +95,7 @@ written-is-read : (bs : List ℕ) → Bytes bs → (bs ≡ [] → ⊥) → (afte
 written-is-read [] h n = absurd (n refl)
 written-is-read (b ∷ bs) h n = (written-phase b bs h, written-bytes b bs h)
 
--- ---- each byte behind a blank
+-- ---- each byte after a blank
 
 spaced-pairs : (b : ℕ) (bs : List ℕ) → spaced (b ∷ bs) ≡ 32 ∷ pairs (b ∷ bs)
 unfolding spaced pairs
@@ -104,7 +104,7 @@ spaced-pairs b (c ∷ bs) = ap (λ (l : List ℕ). 32 ∷ pair b ++ l) (spaced-p
 
 -- ---- reading, then writing
 
--- a line that ends behind a pair is not bad
+-- a line that ends after a pair is not bad
 bad-stays : (cs : List ℕ) → after Bad cs ≡ Bad
 unfolding after next
 bad-stays [] = refl
@@ -124,7 +124,7 @@ not-bad : (cs : List ℕ) → after Bad cs ≡ Full → ⊥
 unfolding isFull
 not-bad cs e = unfull Bad refl (sym (bad-stays cs) ∙ e)
 
--- the two digits of a pair, and what stands behind it
+-- the two digits of a pair, and what stands after it
 pub record Begun (c d : ℕ) (cs : List ℕ) : Type 0 where
   pub first : value c < 16
   pub second : value d < 16
@@ -148,7 +148,7 @@ alone c = go (ltb (value c) 16) refl
     go true e h = unfull (Half (value c)) refl (rw e at h)
     go false e h = unfull Bad refl (rw e at h)
 
--- behind a pair stands nothing, or a blank and more pairs
+-- after a pair stands nothing, or a blank and more pairs
 parted : (c : ℕ) (cs : List ℕ) → after Full (c ∷ cs) ≡ Full → (c ≡ 32) × (after Open cs ≡ Full)
 unfolding after next
 parted c cs = go (eqb c 32) refl

@@ -15,7 +15,7 @@ use Rattle.lines.specs.Hex.{pair, pairs, spaced, pairsLine}
 use Rattle.lines.specs.Scan.{kept, Put}
 use Rattle.lines.proofs.PrintLaws.{length-spaced}
 
--- two texts one behind the other
+-- two texts one after the other
 pub kept-append : (at : ℕ) (xs ys buffer : List ℕ) → kept (at + length xs) ys (kept at xs buffer) ≡ kept at (xs ++ ys) buffer
 unfolding kept
 kept-append at [] ys buffer = ap (λ (n : ℕ). kept n ys buffer) (add-zero at)
@@ -42,7 +42,7 @@ put-none at buffer = (sym (add-zero at), refl)
 pub put-one : (at : ℕ) (mark : ℕ) (buffer last : List ℕ) → last ≡ kept at (mark ∷ []) buffer → Put at (mark ∷ []) buffer (at + 1) last
 put-one at mark buffer last e = (refl, e)
 
--- a text behind another
+-- a text after another
 pub put-then : (at mid next : ℕ) (xs ys buffer whole last : List ℕ) → Put at xs buffer mid whole → Put mid ys whole next last → Put at (xs ++ ys) buffer next last
 put-then at mid next xs ys buffer whole last p q = (
   q .0 ∙ omega (arith, p .0, length-append xs ys),
@@ -53,7 +53,7 @@ put-then at mid next xs ys buffer whole last p q = (
 pub put-as : (at next : ℕ) (xs ys buffer last : List ℕ) → xs ≡ ys → Put at xs buffer next last → Put at ys buffer next last
 put-as at next xs ys buffer last e p = (p .0 ∙ ap (λ (l : List ℕ). at + length l) e, p .1 ∙ ap (λ (l : List ℕ). kept at l buffer) e)
 
--- one element more of those that are put one behind the other
+-- one element more of those that are put one after the other
 pub put-more : {A : Type 0} (f : A → List ℕ) (d : A) (xs : List A) (i at mid next : ℕ) (buffer whole last : List ℕ) → i < length xs
     → Put at (joined f (take i xs)) buffer mid whole → Put mid (f (getD xs i d)) whole next last → Put at (joined f (take (i + 1) xs)) buffer next last
 put-more f d xs i at mid next buffer whole last h p q =
@@ -91,7 +91,7 @@ unfolding pairs spaced
 pairs-spaced b [] = refl
 pairs-spaced b (c ∷ bs) = ap (λ (l : List ℕ). pair b ++ (32 ∷ l)) (pairs-spaced c bs)
 
--- the first pair, and each other byte behind a blank
+-- the first pair, and each other byte after a blank
 pub pairs-parted : (bs : List ℕ) → 1 ≤ length bs → pair (getD bs 0 0) ++ spaced (take (length bs - 1) (drop 1 bs)) ≡ pairs bs
 pairs-parted [] h = absurd (omega (arith, h))
 pairs-parted (b ∷ bs) h =

@@ -27,11 +27,11 @@ pairs (b ∷ c ∷ bs) = pair b ++ (32 ∷ pairs (c ∷ bs))
 unfoldable pub pairsLine : List ℕ → List ℕ
 pairsLine bs = pairs bs ++ (10 ∷ [])
 
--- a byte behind a blank, from an index of a buffer on
+-- a byte after a blank, from an index of a buffer on
 unfoldable pub pairAt : ℕ → ℕ → List ℕ → List ℕ
 pairAt b at out = set (set (set out at 32) (at + 1) (digit (b / 16))) (at + 2) (digit (b % 16))
 
--- each byte behind a blank
+-- each byte after a blank
 unfoldable pub spaced : List ℕ → List ℕ
 spaced [] = []
 spaced (b ∷ bs) = 32 ∷ pair b ++ spaced bs

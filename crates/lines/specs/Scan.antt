@@ -9,7 +9,7 @@ use Rattle.lines.specs.declared.scan.Phase.{Phase}
 use Rattle.lines.specs.declared.scan.Phase.the-variants.{Open, Half, Full, Bad}
 use Rattle.lines.specs.Hex.{value}
 
--- behind a first digit: a pair is half read, or the character is no digit
+-- after a first digit: a pair is half read, or the character is no digit
 unfoldable pub opened : ℕ → Phase
 opened v = cond (ltb v 16) (Half v) Bad
 
@@ -49,7 +49,7 @@ unfoldable pub kept : ℕ → List ℕ → List ℕ → List ℕ
 kept at [] buffer = buffer
 kept at (b ∷ bs) buffer = kept (at + 1) bs (set buffer at b)
 
--- text was put into a buffer from an index on: the index behind it, and the buffer then
+-- text was put into a buffer from an index on: the index after it, and the buffer then
 abbrev pub Put : ℕ → List ℕ → List ℕ → ℕ → List ℕ → Type 0
 Put at text buffer next last = (next ≡ at + length text) × (last ≡ kept at text buffer)
 

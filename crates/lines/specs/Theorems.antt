@@ -15,7 +15,7 @@ pub record ReadsPairs : Type 0 where
   pub written-is-read : (bs : List ℕ) → Bytes bs → (bs ≡ [] → ⊥) → (after Open (pairs bs) ≡ Full) × (bytesOf Open (pairs bs) ≡ bs)
   -- and only the written form is
   pub read-is-written : (line : List ℕ) → after Open line ≡ Full → pairs (bytesOf Open line) ≡ line
-  -- each byte behind a blank is a blank and the pairs parted by single blanks
+  -- each byte after a blank is a blank and the pairs parted by single blanks
   pub spaced-pairs : (b : ℕ) (bs : List ℕ) → spaced (b ∷ bs) ≡ 32 ∷ pairs (b ∷ bs)
   -- a line may come in parts
   pub in-parts : (p : Phase) (xs ys : List ℕ) → after p (xs ++ ys) ≡ after (after p xs) ys

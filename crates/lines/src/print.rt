@@ -26,7 +26,7 @@ fn put_pair(b: u8, at: usize, out: &mut [u8])
     out[at + 2] = digit(b % 16);
 }
 
-// Each byte behind a blank.
+// Each byte after a blank.
 fn put_spaced(bytes: &[u8], out: &mut [u8])
     requires { ⌜ 3 * length (now bytes) ≤ length (now out) ⌝ }
     ensures { λ _. ⌜ now (out .exit) ≡ overlay (spaced (now (bytes .entry))) (now (out .entry)) ⌝ }
@@ -38,7 +38,7 @@ fn put_spaced(bytes: &[u8], out: &mut [u8])
     }
 }
 
-// Each byte behind a blank, or a dash where there is none; the length of the text.
+// Each byte after a blank, or a dash where there is none; the length of the text.
 pub fn put_bytes(bytes: &[u8], out: &mut [u8]) -> usize
     requires { ⌜ 2 + 3 * length (now bytes) ≤ length (now out) ⌝ }
     ensures { λ r. ⌜ r ≡ length (spacedOrDash (now (bytes .entry))) ⌝ }

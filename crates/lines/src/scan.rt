@@ -7,11 +7,11 @@ ghost use Rattle.lines.specs.Scan.{opened, next, full, made, after, byte
 
 // Where in a line the reading stands.
 pub enum Phase {
-    // At the start, or behind a blank: a pair has to follow.
+    // At the start, or after a blank: a pair has to follow.
     Open,
-    // Behind the first digit of a pair, which has this value.
+    // After the first digit of a pair, which has this value.
     Half(u8),
-    // Behind a pair.
+    // After a pair.
     Full,
     // The line is none.
     Bad,
@@ -43,7 +43,7 @@ fn value(c: u8) -> u8
 }
 
 impl Phase {
-    // Behind the first digit of a pair.
+    // After the first digit of a pair.
     fn opened(v: u8) -> Phase
         ensures { λ r. ⌜ r ≡ opened v ⌝ }
     {
@@ -69,7 +69,7 @@ impl Scan {
 }
 
 impl Phase {
-    // Behind a pair: a blank, or the line is none.
+    // After a pair: a blank, or the line is none.
     fn parted(c: u8) -> Phase
         ensures { λ r. ⌜ r ≡ next Phase.Full c ⌝ }
     {

@@ -5,7 +5,7 @@ ghost use Prim.Native.Nat.{_+_, _≤_, _<_};
 ghost use lib.ListN.{length};
 ghost use Rattle.lines.specs.Scan.{kept, Put};
 
-// Text from an index on; the index behind it.
+// Text from an index on; the index after it.
 pub fn put(text: &[u8], at: usize, out: &mut [u8]) -> usize
     requires { ⌜ at + length (now text) ≤ length (now out) ⌝ }
     ensures { λ r. ⌜ Put at (now (text .entry)) (now (out .entry)) r (now (out .exit)) ⌝ }

@@ -31,7 +31,7 @@ sets-overlay xs buffer h =
     let k : 0 + length xs ≤ length buffer = omega arith in
     rw e at (sets-eq xs buffer 0 k)
 
--- a list pasted right behind another lays the two over the buffer
+-- a list pasted right after another lays the two over the buffer
 pub paste-overlay : (xs ys buffer : List ℕ) → paste (overlay xs buffer) (length xs) ys (length ys) ≡ overlay (xs ++ ys) buffer
 unfolding overlay
 paste-overlay xs ys buffer = simp (take-append-seam, take-length, drop-append-add, drop-drop, length-append)
@@ -47,7 +47,7 @@ paste-part at ys buffer =
     let none : drop (length buffer - at) rest ≡ [] = drop-of-length-le rest short in
     simp (whole, none, append-nil, append-assoc, drop-drop)
 
--- one more element right behind what was laid over a buffer
+-- one more element right after what was laid over a buffer
 pub overlay-snoc : (xs buffer : List ℕ) (a : ℕ) → length xs < length buffer → set (overlay xs buffer) (length xs) a ≡ overlay (xs ++ (a ∷ [])) buffer
 unfolding overlay
 overlay-snoc xs buffer a h =
@@ -105,7 +105,7 @@ module _ (at : ℕ) (ys buffer : List ℕ) (fits : at + length ys ≤ length buf
       ∙ getD-drop (at + length ys) buffer (i - (at + length ys)) 0
       ∙ ap (λ (k : ℕ). getD buffer k 0) j
 
--- a list laid over the start of a buffer in which another stands right behind it already
+-- a list laid over the start of a buffer in which another stands right after it already
 pub overlay-before : (xs ys buffer : List ℕ) (n : ℕ) → n ≡ length ys → length xs ≤ length buffer
     → overlay xs (take (length xs) buffer ++ (ys ++ drop n (drop (length xs) buffer))) ≡ overlay (xs ++ ys) buffer
 unfolding overlay
@@ -114,7 +114,7 @@ overlay-before xs ys buffer n e h =
     rw (drop-at (take (length xs) buffer) (ys ++ drop n (drop (length xs) buffer)) (length xs) front, e)
     (simp (append-assoc, length-append, drop-drop))
 
--- what is laid over a lent part behind what was laid over the buffer, in the shape in which the part comes back
+-- what is laid over a lent part after what was laid over the buffer, in the shape in which the part comes back
 pub part-overlay : (xs ys buffer : List ℕ) (whole : List ℕ) → whole ≡ overlay xs buffer
     → take (length xs) whole ++ (overlay ys (take (length whole - length xs) (drop (length xs) whole)) ++ drop (length whole - length xs) (drop (length xs) whole))
     ≡ overlay (xs ++ ys) buffer

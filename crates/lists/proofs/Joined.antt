@@ -1,4 +1,4 @@
--- Laws of lists that are written one behind the other. Assumes nothing.
+-- Laws of lists that are written one after the other. Assumes nothing.
 use mathlib.Core.Path.{_≡_, refl, sym, ap, _∙_}
 use mathlib.Core.List.{List, [], _∷_, _++_, append-assoc, append-nil}
 use Prim.Native.Nat.{ℕ, _+_, _<_}

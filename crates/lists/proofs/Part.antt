@@ -33,7 +33,7 @@ module _ (at n : ℕ) (m : List ℕ) (inside : at + n ≤ length m) where
         λ rest. ap (take k) (drop-append-le b (take at m) rest (omega (arith, front))) ∙ take-append-le k (drop b (take at m)) rest short in
         cut (s ++ drop n (drop at m)) ∙ sym (cut (drop at m)) ∙ ap (λ (l : List ℕ). take k (drop b l)) (take-append-drop at m)
 
-    -- a part behind it
+    -- a part after it
     part-behind : (b k : ℕ) → at + n ≤ b → take k (drop b replaced) ≡ take k (drop b m)
     part-behind b k h =
         let j = b - (at + n) in

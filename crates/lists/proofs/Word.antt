@@ -34,7 +34,7 @@ unfolding lowFirst
 lowFirst-snoc [] w = refl
 lowFirst-snoc (v ∷ ws) w = rw (lowFirst-snoc ws w)
 
--- a turn of the loop that writes words as bytes: the next word's two bytes behind those of the words before it
+-- a turn of the loop that writes words as bytes: the next word's two bytes after those of the words before it
 pub lowFirst-step : (ws buffer : List ℕ) (i : ℕ) → i < length ws → 2 * length ws ≤ length buffer
     → set (set (overlay (lowFirst (take i ws)) buffer) (2 * i) (low (getD ws i 0))) (2 * i + 1) (high (getD ws i 0))
     ≡ overlay (lowFirst (take (i + 1) ws)) buffer

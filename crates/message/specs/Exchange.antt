@@ -13,7 +13,7 @@ use Rattle.ops.specs.declared.table.Found.{Found}
 use Rattle.format.specs.Outcome.{outcome, reading, test, firstFailing}
 use Rattle.format.specs.Layout.{header, written, headerOf, fixedRight}
 use Rattle.format.specs.Refusal.{layoutTests}
-use Rattle.format.specs.Sizes.{HEADER-BYTES, MESSAGE-BYTES}
+use Rattle.format.specs.Sizes.{headerBytes, messageBytes}
 
 -- what a writer returns, and its output buffer after it
 pub record Written : Type 0 where
@@ -27,13 +27,13 @@ wrote o buffer = record { outcome = o; buffer = buffer }
 -- 'The desk writer uses 1 (output buffer under 266), 3, 4, 5, 6': the first that fails for a string of this length
 unfoldable pub writeNumber : Found → Header → ℕ → List ℕ → ℕ
 writeNumber found h carried buffer =
-    firstFailing (test 1 (ltb (length buffer) MESSAGE-BYTES) ∷ layoutTests true found h (HEADER-BYTES + carried))
+    firstFailing (test 1 (ltb (length buffer) messageBytes) ∷ layoutTests true found h (headerBytes + carried))
 
 -- bytes go to the buffer's start where the number is 0; 'write nothing when they refuse'; 'buffer bytes past those written are never touched'
 unfoldable pub answered : ℕ → ℕ → List ℕ → List ℕ → Written
 answered number carried bytes buffer =
     record {
-      outcome = outcome number (HEADER-BYTES + carried);
+      outcome = outcome number (headerBytes + carried);
       buffer = cond (eqb number 0) (overlay bytes buffer) buffer;
     }
 
@@ -59,11 +59,11 @@ writes forms h string buffer = writeAs (forms (h .cmd)) h string buffer
 
 -- an answer of the gateway goes to the start of the buffer, with no test
 unfoldable pub sends : Header → List ℕ → List ℕ → Written
-sends h string buffer = wrote (Granted (HEADER-BYTES + length string)) (overlay (written h string) buffer)
+sends h string buffer = wrote (Granted (headerBytes + length string)) (overlay (written h string) buffer)
 
 -- the same where a string of this length stands after the tenth byte of the buffer already
 unfoldable pub sendsHead : Header → ℕ → List ℕ → Written
-sendsHead h carried buffer = wrote (Granted (HEADER-BYTES + carried)) (overlay (header h) buffer)
+sendsHead h carried buffer = wrote (Granted (headerBytes + carried)) (overlay (header h) buffer)
 
 -- what reading any bytes finds
 unfoldable pub reads : Forms → List ℕ → Reading

@@ -9,7 +9,7 @@ use Rattle.format.specs.declared.outcome.Outcome.the-variants.{Granted}
 use Rattle.format.specs.declared.outcome.Reading.the-variants.{Message}
 use Rattle.format.specs.Layout.{stringOf}
 use Rattle.message.specs.Exchange.{Forms, writes, reads}
-use Rattle.format.specs.Sizes.{MESSAGE-BYTES}
+use Rattle.format.specs.Sizes.{messageBytes}
 
 -- the message that a writer left in its buffer is read as these fields and this string
 pub record ReadAs (forms : Forms) (m : List ℕ) (h : Header) (string : List ℕ) : Type 0 where
@@ -25,5 +25,5 @@ pub record WrittenAs (forms : Forms) (h : Header) (string buffer m : List ℕ) :
 pub record RoundTrip (forms : Forms) : Type 0 where
   pub written-is-read : (h : Header) (string buffer : List ℕ) (n : ℕ) → writes forms h string buffer .outcome ≡ Granted n
       → ReadAs forms (take n (writes forms h string buffer .buffer)) h string
-  pub read-is-written : (m : List ℕ) (h : Header) (buffer : List ℕ) → Bytes m → MESSAGE-BYTES ≤ length buffer → reads forms m ≡ Message h
+  pub read-is-written : (m : List ℕ) (h : Header) (buffer : List ℕ) → Bytes m → messageBytes ≤ length buffer → reads forms m ≡ Message h
       → WrittenAs forms h (stringOf m) buffer m

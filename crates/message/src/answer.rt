@@ -16,11 +16,11 @@ ghost use Rattle.lists.specs.Word.{lowFirst};
 ghost use Rattle.ops.specs.Table.{answerForm};
 ghost use Rattle.message.specs.Exchange.{wrote, sends, sendsHead, reads};
 ghost use Rattle.format.specs.Answer.{noticeOf};
-ghost use Rattle.format.specs.Sizes.{HEADER-BYTES};
+ghost use Rattle.format.specs.Sizes.{headerBytes};
 
 // Writes an answer that carries no string.
 pub fn write_reply(answer: Header, buffer: &mut [u8]) -> Outcome
-    requires { ⌜ HEADER-BYTES ≤ length (now buffer) ⌝ }
+    requires { ⌜ headerBytes ≤ length (now buffer) ⌝ }
     ensures { λ r. ⌜ wrote r (now (buffer .exit)) ≡ sends answer [] (now (buffer .entry)) ⌝ }
 {
     answer.put(buffer);
@@ -29,7 +29,7 @@ pub fn write_reply(answer: Header, buffer: &mut [u8]) -> Outcome
 
 // Writes the header of CONTENTS, whose ARG2 bytes stand after the tenth byte of the buffer already.
 pub fn write_contents(answer: Header, buffer: &mut [u8]) -> Outcome
-    requires { ⌜ HEADER-BYTES ≤ length (now buffer) ⌝ }
+    requires { ⌜ headerBytes ≤ length (now buffer) ⌝ }
     ensures { λ r. ⌜ wrote r (now (buffer .exit)) ≡ sendsHead answer (answer .arg2) (now (buffer .entry)) ⌝ }
 {
     answer.put(buffer);

@@ -14,7 +14,7 @@ ghost use Prim.Native.Nat.{_≤_};
 ghost use lib.ListN.{length};
 ghost use Rattle.format.specs.Layout.{headerOf};
 ghost use Rattle.message.specs.Exchange.{writeNumber, writeAs, readAs};
-ghost use Rattle.format.specs.Sizes.{HEADER-BYTES};
+ghost use Rattle.format.specs.Sizes.{headerBytes};
 
 // The number of the first of a writer's tests that fails, or 0, for a string of this length.
 fn write_number(found: Found, h: Header, carried: usize, buffer: &[u8]) -> u8
@@ -29,7 +29,7 @@ fn write_number(found: Found, h: Header, carried: usize, buffer: &[u8]) -> u8
     layout_number(true, found, h, HEADER_BYTES + carried)
 }
 
-// A message: its header, and its string behind it.
+// A message: its header, and its string after it.
 pub(crate) fn write(found: Found, h: Header, string: &[u8], buffer: &mut [u8]) -> Outcome
     ensures { λ r. ⌜ r ≡ writeAs found h (now (string .entry)) (now (buffer .entry)) .outcome ⌝ }
     ensures { λ _. ⌜ now (buffer .exit) ≡ writeAs found h (now (string .entry)) (now (buffer .entry)) .buffer ⌝ }
@@ -45,7 +45,7 @@ pub(crate) fn write(found: Found, h: Header, string: &[u8], buffer: &mut [u8]) -
 
 // The fields of a message of ten bytes or more, or the number of the first test that fails.
 pub(crate) fn read(found: Found, h: Header, message: &[u8]) -> Reading
-    requires { ⌜ HEADER-BYTES ≤ length (now message) ⌝ }
+    requires { ⌜ headerBytes ≤ length (now message) ⌝ }
     requires { ⌜ h ≡ headerOf (now message) ⌝ }
     ensures { λ r. ⌜ r ≡ readAs found (now (message .entry)) ⌝ }
 {

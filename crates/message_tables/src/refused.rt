@@ -1,6 +1,7 @@
 // Messages that are refused, each for the first test that it fails, and neighbours of them that are not.
 use crate::show;
 use format::Header;
+use format::MESSAGE_BYTES;
 
 pub(crate) fn show_writer() {
     show::text(
@@ -24,7 +25,7 @@ fn write_into_a_short_buffer() {
 }
 
 fn write_whole(host: u8, cmd: u8, pid: u8, arg2: u16, count: usize) {
-    let mut buffer = [0u8; 266];
+    let mut buffer = [0u8; MESSAGE_BYTES];
     write(host, cmd, pid, arg2, count, &mut buffer);
 }
 

@@ -2,13 +2,14 @@
 // ARG2 3, and a counted string is "abc".
 use crate::show;
 use format::Header;
+use format::MESSAGE_BYTES;
 use format::Outcome;
 use ops::Carried;
 use ops::Form;
 use ops::Found;
 ghost use Prim.Native.Nat.{_≤_};
 ghost use lib.ListN.{length};
-ghost use Rattle.format.specs.Sizes.{HEADER-BYTES};
+ghost use Rattle.format.specs.Sizes.{headerBytes};
 
 // Of each op code the request, the reply that grants it and, but for NOP, the CAN'T.
 pub(crate) fn show_ops() {
@@ -46,13 +47,13 @@ fn carried(f: Form, h: Header) -> usize {
     }
 }
 
-// Each is written into the same buffer: what stands behind the ten bytes of EXAMINE's reply is then its string.
+// Each is written into the same buffer: what stands after the ten bytes of EXAMINE's reply is then its string.
 fn op(cmd: u8) {
     let Found::Known(f) = ops::request_form(cmd) else {
         return;
     };
     let h = sample(f, cmd);
-    let mut buffer = [97u8; 266];
+    let mut buffer = [97u8; MESSAGE_BYTES];
     show::character(10);
     let string = show::front(b"abc", carried(f, h));
     let request = message::write_request(h, string, &mut buffer);
@@ -68,7 +69,7 @@ fn op(cmd: u8) {
 
 // CREATE's reply has the number of the new process.
 fn write_reply(h: Header, buffer: &mut [u8]) -> Outcome
-    requires { ⌜ HEADER-BYTES ≤ length (now buffer) ⌝ }
+    requires { ⌜ headerBytes ≤ length (now buffer) ⌝ }
 {
     let cmd = h.cmd;
     match cmd {
@@ -87,7 +88,7 @@ pub(crate) fn show_notices() {
 }
 
 fn notice(kind: u8, reason: u16) {
-    let mut buffer = [0u8; 266];
+    let mut buffer = [0u8; MESSAGE_BYTES];
     let vector: [u16; 9] = [1, 2, 3, 4, 5, 6, 4094, 256, 61440];
     let written = message::write_notice(5, kind, 2, reason, vector, &mut buffer);
     show::written(written, &buffer, true);

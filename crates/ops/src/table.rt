@@ -5,7 +5,7 @@ use crate::codes::NOTICE;
 ghost use mathlib.Core.Path.{_≡_};
 ghost use Rattle.ops.specs.Table.{rowOf, requestForm, answerForm, replyForm, noticeForm, cantForm, withoutString};
 
-// What stands behind the ten bytes of the header.
+// What stands after the ten bytes of the header.
 pub enum Carried {
     // No string.
     Nothing,

@@ -135,7 +135,7 @@ put-back s m y b l h = go (isPlanted b) refl
     go false e = rw e
 
 module _ (b : Breakpoint) (bs : List Breakpoint) (m : List ℕ) (d : AllSpaced (b ∷ bs)) where
-  -- the entries behind the first do not meet it, whatever their saved words
+  -- the entries after the first do not meet it, whatever their saved words
   spaced-first : (j : ℕ) → j < length (map (savedFrom m) bs) → Spaced (getD (map (savedFrom m) bs) j free) b
   spaced-first j h =
       let l : j < length bs = rw (length-map bs (savedFrom m)) at h in

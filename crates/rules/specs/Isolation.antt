@@ -15,6 +15,7 @@ use Rattle.rules.specs.Access.{Asker, nobody, by, insider}
 use Rattle.rules.specs.Step.{Answer, Call, request, report, store, step, localOf}
 use Rattle.rules.specs.Ready.{Ready}
 use Rattle.rules.specs.Run.{TraceItem, run, final, leave}
+use Rattle.ops.specs.Codes.{DEBUG, DEPOSIT, DEPOSIT-VECTOR, DESTROY, END-DEBUG}
 
 -- a set of hosts
 abbrev pub Hosts : Type 0
@@ -44,7 +45,7 @@ namesOne P m = leb 10 (length m) && (names (cmdOf m) && P (pidOf m))
 
 -- 'DEPOSIT and DEPOSIT STATE VECTOR'
 abbrev pub deposits : ℕ → Bool
-deposits cmd = eqb cmd 4 || eqb cmd 7
+deposits cmd = eqb cmd DEPOSIT || eqb cmd DEPOSIT-VECTOR
 
 -- ---- calls
 
@@ -97,8 +98,8 @@ isGranted (Refused n) = false
 -- 'from a granted DEBUG .. the asker; from a granted END DEBUG or DESTROY nobody'
 unfoldable pub publicThen : ℕ → ℕ → Public → Public
 publicThen cmd asker u =
-    cond (eqb cmd 1) (record { there = u .there; host = asker })
-    (cond (eqb cmd 2) (record { there = u .there; host = 0 }) (cond (eqb cmd 13) (record { there = false; host = 0 }) u))
+    cond (eqb cmd DEBUG) (record { there = u .there; host = asker })
+    (cond (eqb cmd END-DEBUG) (record { there = u .there; host = 0 }) (cond (eqb cmd DESTROY) (record { there = false; host = 0 }) u))
 
 -- 'from a granted .. CREATE the asker', of the process whose number the reply carries; 'Nothing else changes it.'
 unfoldable pub toldOf : (ℕ → Public) → Call → Answer → ℕ → Public

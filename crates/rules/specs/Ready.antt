@@ -7,7 +7,7 @@ use Rattle.state.specs.Slot.{capacity}
 use Rattle.state.specs.Theorems.{EightEntries}
 use Rattle.rules.specs.Tests.{State}
 
--- a sound state; records and entries have the sizes of the code's types, and with another memory every call is refused by 1
+-- a sound state; records and entries have the sizes of the code's types, and with another memory every call is refused with 1
 pub record Ready (s : State) : Type 0 where
   pub memory : length (s .memory) ≡ capacity
   pub processes : length (s .records .processes) ≡ 8

@@ -12,6 +12,7 @@ use Rattle.rules.specs.Ready.{Ready}
 use Rattle.rules.specs.Run.{final}
 use Rattle.rules.specs.Isolation.{asker, subject, fieldsOf, isGranted, publicOf}
 use Rattle.rules.specs.Outsider.{only}
+use Rattle.ops.specs.Codes.{CREATE, DEBUG, DESTROY, END-DEBUG}
 
 -- the host that debugs a process, or 0
 abbrev pub holder : State → ℕ → ℕ
@@ -24,7 +25,7 @@ Allowed (by host) before after = (insider before host ≡ true) ⊎ (insider aft
 
 -- a call that names the process or is about it, or a CREATE
 abbrev pub Reaches : ℕ → Call → Type 0
-Reaches p c = (subject (only p) c ≡ true) ⊎ (fieldsOf c .cmd ≡ 12)
+Reaches p c = (subject (only p) c ≡ true) ⊎ (fieldsOf c .cmd ≡ CREATE)
 
 -- a request that names it, or a CREATE, of the host that debugs it or does then; a report about it; a store into it
 abbrev pub MayChange : ℕ → State → Call → Type 0
@@ -33,14 +34,14 @@ MayChange p s c = Reaches p c × Allowed (asker c) (publicOf s p) (publicOf (ste
 -- by a granted DEBUG of a process that nobody debugs, or the granted CREATE of it, the asker debugs it
 pub record Begins (p : ℕ) (s : State) (c : Call) : Type 0 where
   pub granted : isGranted (step s c .answer .outcome) ≡ true
-  pub op : ((fieldsOf c .cmd ≡ 1) × (fieldsOf c .pid ≡ p)) ⊎ (fieldsOf c .cmd ≡ 12)
+  pub op : ((fieldsOf c .cmd ≡ DEBUG) × (fieldsOf c .pid ≡ p)) ⊎ (fieldsOf c .cmd ≡ CREATE)
   pub before : holder s p ≡ 0
   pub after : asker c ≡ by (holder (step s c .after) p)
 
 -- by a granted END DEBUG or DESTROY of the host that debugs it, nobody debugs it
 pub record Ends (p : ℕ) (s : State) (c : Call) : Type 0 where
   pub granted : isGranted (step s c .answer .outcome) ≡ true
-  pub op : (fieldsOf c .cmd ≡ 2) ⊎ (fieldsOf c .cmd ≡ 13)
+  pub op : (fieldsOf c .cmd ≡ END-DEBUG) ⊎ (fieldsOf c .cmd ≡ DESTROY)
   pub named : fieldsOf c .pid ≡ p
   pub before : asker c ≡ by (holder s p)
   pub after : holder (step s c .after) p ≡ 0

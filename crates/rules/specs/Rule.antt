@@ -13,6 +13,7 @@ use Rattle.process.specs.Local.{Local}
 use Rattle.state.specs.Slot.{extent}
 use Rattle.run_state.specs.RunState.{stoppedOrAtBreak, atBreak}
 use Rattle.process.specs.Request.{hasBreak, hasRoom, debugged, endDebugged, stopped, resumed, stepped, proceeded, examined, deposited, vectorDeposited, breakSet, breakRemoved, destroyed}
+use Rattle.ops.specs.Codes.{CREATE}
 
 -- all that anyone may know of a process: 'which processes are there, who debugs each'
 pub record Public : Type 0 where
@@ -173,4 +174,4 @@ names cmd = asks (op cmd) .pid
 
 -- CREATE PROCESS
 abbrev pub creates : ℕ → Bool
-creates cmd = eqb cmd 12
+creates cmd = eqb cmd CREATE

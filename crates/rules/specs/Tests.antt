@@ -15,6 +15,7 @@ use Rattle.run_state.specs.RunState.{accepts}
 use Rattle.state.specs.Records.{Records, processAt, lowestAbsent, soundTest}
 use Rattle.state.specs.Slot.{capacity}
 use Rattle.rules.specs.Rule.{Rule, Public, public, ruleOf, names, creates}
+use Rattle.format.specs.Sizes.{messageBytes}
 
 -- the gateway's eight records and the lent memory
 pub record State : Type 0 where
@@ -27,7 +28,7 @@ lent g memory = record { records = g; memory = memory }
 
 -- 1: 'memory not 32,768 bytes, or reply or notice buffer under 266'
 abbrev pub noRoom : List ℕ → List ℕ → Bool
-noRoom memory buffer = not (eqb (length memory) capacity) || ltb (length buffer) 266
+noRoom memory buffer = not (eqb (length memory) capacity) || ltb (length buffer) messageBytes
 
 -- 2: 'state not sound'
 abbrev pub unsound : State → Bool

@@ -31,28 +31,34 @@ pub fn changes(cmd: u8) -> bool
 }
 
 // One method of the process for each op code; k is the entry that BREAK or UNBREAK goes to.
-pub(crate) fn perform(h: Header, k: usize, p: Process, bytes: &mut [u8], string: &[u8]) -> Process
-    requires { ⌜ Tested p (now bytes) ⌝ }
-    requires { ⌜ firstFailing (ruleTests (ruleOf (h .cmd)) h p) ≡ 0 ⌝ }
-    requires { ⌜ k ≡ entryOf (h .cmd) (h .arg1) p ⌝ }
+pub(crate) fn perform(
+    h: Header,
+    k: usize,
+    process: Process,
+    bytes: &mut [u8],
+    string: &[u8],
+) -> Process
+    requires { ⌜ Tested process (now bytes) ⌝ }
+    requires { ⌜ firstFailing (ruleTests (ruleOf (h .cmd)) h process) ≡ 0 ⌝ }
+    requires { ⌜ k ≡ entryOf (h .cmd) (h .arg1) process ⌝ }
     requires { ⌜ length (now string) ≤ h .arg2 ⌝ }
-    ensures { λ r. ⌜ r ≡ ruleOf (h .cmd) .effect h (now (string .entry)) (local p (now (bytes .entry))) .process ⌝ }
-    ensures { λ _. ⌜ now (bytes .exit) ≡ ruleOf (h .cmd) .effect h (now (string .entry)) (local p (now (bytes .entry))) .bytes ⌝ }
+    ensures { λ r. ⌜ r ≡ ruleOf (h .cmd) .effect h (now (string .entry)) (local process (now (bytes .entry))) .process ⌝ }
+    ensures { λ _. ⌜ now (bytes .exit) ≡ ruleOf (h .cmd) .effect h (now (string .entry)) (local process (now (bytes .entry))) .bytes ⌝ }
 {
     let cmd = h.cmd;
     let at = h.arg1;
     match cmd {
-        DEBUG => p.debug(h.host),
-        END_DEBUG => p.end_debug(bytes),
-        STOP => p.stop(bytes),
-        DEPOSIT => p.deposit(bytes, at as usize, string),
-        RESUME => p.resume(),
-        DEPOSIT_VECTOR => p.deposit_vector(at as usize, string),
-        BREAK => p.set_break(k, at, h.arg2, bytes),
-        UNBREAK => p.remove_from(k, bytes),
-        SINGLE_STEP => p.single_step(bytes),
-        PROCEED => p.proceed(bytes),
-        DESTROY => p.destroy(),
-        _ => p,
+        DEBUG => process.debug(h.host),
+        END_DEBUG => process.end_debug(bytes),
+        STOP => process.stop(bytes),
+        DEPOSIT => process.deposit(bytes, at as usize, string),
+        RESUME => process.resume(),
+        DEPOSIT_VECTOR => process.deposit_vector(at as usize, string),
+        BREAK => process.set_break(k, at, h.arg2, bytes),
+        UNBREAK => process.remove_from(k, bytes),
+        SINGLE_STEP => process.single_step(bytes),
+        PROCEED => process.proceed(bytes),
+        DESTROY => process.destroy(),
+        _ => process,
     }
 }

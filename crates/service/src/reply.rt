@@ -17,11 +17,12 @@ ghost use Rattle.rules.specs.Rule.{ruleOf};
 ghost use Rattle.rules.specs.Tests.{ruleTests};
 ghost use Rattle.rules.specs.Step.{replyOf};
 ghost use Rattle.service.specs.At.{answer, cantBy};
-ghost use Rattle.format.specs.Sizes.{MESSAGE-BYTES, STRING-BYTES};
+ghost use Rattle.format.specs.Sizes.{messageBytes, stringBytes};
+ghost use Rattle.process.specs.Sizes.{memoryBytes};
 
 // Writes the reply that carries no string.
 pub fn reply_plain(h: Header, reply: &mut [u8]) -> Outcome
-    requires { ⌜ MESSAGE-BYTES ≤ length (now reply) ⌝ }
+    requires { ⌜ messageBytes ≤ length (now reply) ⌝ }
     ensures { λ r. ⌜ answer r (now (reply .exit)) ≡ replyOf h [] (now (reply .entry)) ⌝ }
 {
     write_reply(h, reply)
@@ -29,7 +30,7 @@ pub fn reply_plain(h: Header, reply: &mut [u8]) -> Outcome
 
 // Writes the CAN'T, and refuses with this number.
 pub fn refuse(h: Header, number: u8, reply: &mut [u8]) -> Outcome
-    requires { ⌜ MESSAGE-BYTES ≤ length (now reply) ⌝ }
+    requires { ⌜ messageBytes ≤ length (now reply) ⌝ }
     ensures { λ r. ⌜ answer r (now (reply .exit)) ≡ cantBy number h (now (reply .entry)) ⌝ }
 {
     write_reply(h.cant(), reply);
@@ -38,8 +39,8 @@ pub fn refuse(h: Header, number: u8, reply: &mut [u8]) -> Outcome
 
 // Writes the reply to EXAMINE: the bytes asked for, and the header in front of them.
 fn reply_contents(h: Header, process: Process, bytes: &[u8], reply: &mut [u8]) -> Outcome
-    requires { ⌜ (h .arg1 + h .arg2 ≤ length (now bytes)) × (h .arg2 ≤ STRING-BYTES) ⌝ }
-    requires { ⌜ MESSAGE-BYTES ≤ length (now reply) ⌝ }
+    requires { ⌜ (h .arg1 + h .arg2 ≤ length (now bytes)) × (h .arg2 ≤ stringBytes) ⌝ }
+    requires { ⌜ messageBytes ≤ length (now reply) ⌝ }
     ensures { λ r. ⌜ answer r (now (reply .exit)) ≡ replyOf h (examined (h .arg1) (h .arg2) (local process (now (bytes .entry)))) (now (reply .entry)) ⌝ }
 {
     let at = h.arg1 as usize;
@@ -50,9 +51,9 @@ fn reply_contents(h: Header, process: Process, bytes: &[u8], reply: &mut [u8]) -
 
 // Writes the reply to a request whose tests have passed.
 pub(crate) fn reply_to(h: Header, process: Process, bytes: &[u8], reply: &mut [u8]) -> Outcome
-    requires { ⌜ length (now bytes) ≡ 4096 ⌝ }
+    requires { ⌜ length (now bytes) ≡ memoryBytes ⌝ }
     requires { ⌜ firstFailing (ruleTests (ruleOf (h .cmd)) h process) ≡ 0 ⌝ }
-    requires { ⌜ MESSAGE-BYTES ≤ length (now reply) ⌝ }
+    requires { ⌜ messageBytes ≤ length (now reply) ⌝ }
     ensures { λ r. ⌜ answer r (now (reply .exit)) ≡ replyOf h (ruleOf (h .cmd) .shown h (local process (now (bytes .entry)))) (now (reply .entry)) ⌝ }
 {
     let cmd = h.cmd;

@@ -12,7 +12,7 @@ ghost use Rattle.process.specs.Local.{local, Tested};
 ghost use Rattle.rules.specs.Step.{noticeTo};
 ghost use Rattle.rules.specs.Tests.{badReport};
 ghost use Rattle.service.specs.At.{answer, served, reportAway, reportNumberAt, reportAt};
-ghost use Rattle.format.specs.Sizes.{MESSAGE-BYTES};
+ghost use Rattle.format.specs.Sizes.{messageBytes};
 
 // 14: there is no such kind, or there is a reason with a kind that is not TRAP.
 fn bad_report(kind: u8, reason: u16) -> bool
@@ -56,7 +56,7 @@ fn report_number_at(process: Process, kind: u8) -> u8
 
 // Writes the notice to this host, unless it is nobody.
 fn notify(host: u8, pid: u8, kind: u8, reason: u16, words: [u16; 9], notice: &mut [u8]) -> Outcome
-    requires { ⌜ MESSAGE-BYTES ≤ length (now notice) ⌝ }
+    requires { ⌜ messageBytes ≤ length (now notice) ⌝ }
     ensures { λ r. ⌜ answer r (now (notice .exit)) ≡ noticeTo host pid kind reason words (now (notice .entry)) ⌝ }
 {
     if host == 0 {
@@ -76,7 +76,7 @@ pub fn report_for_process(
     notice: &mut [u8],
 ) -> ServiceResult
     requires { ⌜ Tested «process» (now bytes) ⌝ }
-    requires { ⌜ MESSAGE-BYTES ≤ length (now notice) ⌝ }
+    requires { ⌜ messageBytes ≤ length (now notice) ⌝ }
     ensures { λ r. ⌜ served (r .outcome) (r .process) (now (bytes .exit)) (now (notice .exit)) ≡ reportAt pid kind reason words (now (notice .entry)) (local «process» (now (bytes .entry))) ⌝ }
 {
     let number = report_number_at(process, kind);

@@ -17,7 +17,8 @@ ghost use Rattle.rules.specs.Rule.{ruleOf};
 ghost use Rattle.rules.specs.Tests.{ruleTests};
 ghost use Rattle.checks.specs.Decision.{entryOf};
 ghost use Rattle.service.specs.At.{served, namedBy, namedAt, createdAt};
-ghost use Rattle.format.specs.Sizes.{MESSAGE-BYTES};
+ghost use Rattle.format.specs.Sizes.{messageBytes};
+ghost use Rattle.process.specs.Sizes.{memoryBytes};
 
 // Writes the reply to a request whose tests have passed, and does what it asks for.
 fn grant(
@@ -32,7 +33,7 @@ fn grant(
     requires { ⌜ firstFailing (ruleTests (ruleOf (h .cmd)) h process) ≡ 0 ⌝ }
     requires { ⌜ k ≡ entryOf (h .cmd) (h .arg1) process ⌝ }
     requires { ⌜ length (now string) ≤ h .arg2 ⌝ }
-    requires { ⌜ MESSAGE-BYTES ≤ length (now reply) ⌝ }
+    requires { ⌜ messageBytes ≤ length (now reply) ⌝ }
     ensures { λ r. ⌜ served (r .outcome) (r .process) (now (bytes .exit)) (now (reply .exit)) ≡ namedBy 0 h (now (string .entry)) (now (reply .entry)) (local process (now (bytes .entry))) ⌝ }
 {
     let outcome = reply_to(h, process, bytes, reply);
@@ -53,7 +54,7 @@ pub fn answer_for_process(
 ) -> ServiceResult
     requires { ⌜ Tested process (now bytes) ⌝ }
     requires { ⌜ length (now string) ≤ h .arg2 ⌝ }
-    requires { ⌜ MESSAGE-BYTES ≤ length (now reply) ⌝ }
+    requires { ⌜ messageBytes ≤ length (now reply) ⌝ }
     ensures { λ r. ⌜ served (r .outcome) (r .process) (now (bytes .exit)) (now (reply .exit)) ≡ namedAt h (now (string .entry)) (now (reply .entry)) (local process (now (bytes .entry))) ⌝ }
 {
     let decision = decide(h, process);
@@ -75,8 +76,8 @@ pub fn answer_create(
     reply: &mut [u8],
 ) -> ServiceResult
     requires { ⌜ pid < 8 ⌝ }
-    requires { ⌜ length (now bytes) ≡ 4096 ⌝ }
-    requires { ⌜ MESSAGE-BYTES ≤ length (now reply) ⌝ }
+    requires { ⌜ length (now bytes) ≡ memoryBytes ⌝ }
+    requires { ⌜ messageBytes ≤ length (now reply) ⌝ }
     ensures { λ r. ⌜ served (r .outcome) (r .process) (now (bytes .exit)) (now (reply .exit)) ≡ createdAt pid h (now (reply .entry)) ⌝ }
 {
     let created = process.create(h.host, bytes);

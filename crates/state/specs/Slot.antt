@@ -2,6 +2,7 @@
 use mathlib.Core.List.{List, [], _∷_, _++_}
 use Prim.Native.Nat.{ℕ}
 use lib.ListN.{take, drop, getD}
+use Rattle.process.specs.Sizes.{memoryBytes}
 
 -- 'lent as one buffer of 32,768 bytes'
 abbrev pub capacity : ℕ
@@ -9,7 +10,7 @@ capacity = 32768
 
 -- '4,096 bytes each': the number of bytes of process p
 abbrev pub extent : ℕ → ℕ
-extent p = 4096
+extent p = memoryBytes
 
 -- '4,096 bytes each, lent as one buffer of 32,768 bytes, process p from byte 4,096 × p'
 abbrev pub starts : List ℕ
@@ -21,8 +22,8 @@ startOf p = getD starts p 0
 
 -- the bytes of process p
 unfoldable pub slot : ℕ → List ℕ → List ℕ
-slot p memory = take 4096 (drop (startOf p) memory)
+slot p memory = take memoryBytes (drop (startOf p) memory)
 
 -- the memory with other bytes of process p
 unfoldable pub withSlot : ℕ → List ℕ → List ℕ → List ℕ
-withSlot p bytes memory = take (startOf p) memory ++ (bytes ++ drop 4096 (drop (startOf p) memory))
+withSlot p bytes memory = take (startOf p) memory ++ (bytes ++ drop memoryBytes (drop (startOf p) memory))

@@ -5,7 +5,8 @@ use mathlib.Core.List.{List}
 use Prim.Native.Nat.{ℕ, _*_, _<_}
 use lib.ListN.{length}
 use Rattle.state.specs.Records.{Records, processAt, SoundState, soundTest, freshStart}
-use Rattle.state.specs.Slot.{startOf, slot, withSlot}
+use Rattle.process.specs.Sizes.{memoryBytes}
+use Rattle.state.specs.Slot.{capacity, startOf, slot, withSlot}
 
 -- every record has its eight entries, as every record of the code does
 abbrev pub EightEntries : Records → Type 0
@@ -23,9 +24,9 @@ FreshIsSound = (there : List Bool) → length there ≡ 8 → SoundState (freshS
 -- each process has its own bytes
 pub record SlotsApart : Type 0 where
   -- 'process p from byte 4,096 × p'
-  pub starts : (p : ℕ) → p < 8 → startOf p ≡ 4096 * p
-  pub size : (p : ℕ) (memory : List ℕ) → p < 8 → length memory ≡ 32768 → length (slot p memory) ≡ 4096
-  pub kept : (p : ℕ) (bytes memory : List ℕ) → p < 8 → length memory ≡ 32768 → length bytes ≡ 4096 → length (withSlot p bytes memory) ≡ 32768
-  pub same : (p : ℕ) (bytes memory : List ℕ) → p < 8 → length memory ≡ 32768 → length bytes ≡ 4096 → slot p (withSlot p bytes memory) ≡ bytes
-  pub other : (p q : ℕ) (bytes memory : List ℕ) → p < 8 → q < 8 → (q ≡ p → ⊥) → length memory ≡ 32768 → length bytes ≡ 4096
+  pub starts : (p : ℕ) → p < 8 → startOf p ≡ memoryBytes * p
+  pub size : (p : ℕ) (memory : List ℕ) → p < 8 → length memory ≡ capacity → length (slot p memory) ≡ memoryBytes
+  pub kept : (p : ℕ) (bytes memory : List ℕ) → p < 8 → length memory ≡ capacity → length bytes ≡ memoryBytes → length (withSlot p bytes memory) ≡ capacity
+  pub same : (p : ℕ) (bytes memory : List ℕ) → p < 8 → length memory ≡ capacity → length bytes ≡ memoryBytes → slot p (withSlot p bytes memory) ≡ bytes
+  pub other : (p q : ℕ) (bytes memory : List ℕ) → p < 8 → q < 8 → (q ≡ p → ⊥) → length memory ≡ capacity → length bytes ≡ memoryBytes
       → slot q (withSlot p bytes memory) ≡ slot q memory

@@ -2,4 +2,5 @@
 mod slot;
 pub mod theorems;
 
+pub use slot::CAPACITY;
 pub use slot::start;

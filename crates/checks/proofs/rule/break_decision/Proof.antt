@@ -26,16 +26,16 @@ returns c =
     let g = c .before in
     let f = g .before .before in
     let a = f .before .args in
-    let at = found-index (entryFor (a .a) (a .p)) _ (sym (f .entry-for .ensures) ∙ g .found .given .1) in
-    rw (← entry-low (a .a) (a .p), lt-ltb _ _ (at .low), at .same)
+    let at = found-index (entryFor (a .a) (a .process)) _ (sym (f .entry-for .ensures) ∙ g .found .given .1) in
+    rw (← entry-low (a .a) (a .process), lt-ltb _ _ (at .low), at .same)
 
 returns-2 : tie.Need-returns-2
 unfolding entryDecision entryOf decisionBy firstFailing ruleOf
 returns-2 c =
     let f = c .before .before in
     let a = f .before .args in
-    let none = found-nowhere (entryFor (a .a) (a .p)) (sym (f .entry-for .ensures) ∙ c .enum-told .given .1) in
-    rw (← entry-low (a .a) (a .p), le-ltb _ _ none)
+    let none = found-nowhere (entryFor (a .a) (a .process)) (sym (f .entry-for .ensures) ∙ c .enum-told .given .1) in
+    rw (← entry-low (a .a) (a .process), le-ltb _ _ none)
 
 pub break-decision-spec : {M : Type 1} → statement M
 break-decision-spec = tie.close (tie.spec entry-for-requires enum-known-found enum-told returns returns-2)

@@ -21,7 +21,7 @@ returns-2 c = rw (c .before .if2 .taken) (c .unbreak-decision .ensures)
 
 returns-3 : tie.Need-returns-3
 unfolding entryDecision entryOf decisionBy firstFailing
-returns-3 c = let a = c .before .before .args in let r = coded (a .cmd) in rw (r .room (a .a) (a .p), r .found (a .a) (a .p), ne-eqb _ _ (c .before .if1 .left), ne-eqb _ _ (c .if2 .left))
+returns-3 c = let a = c .before .before .args in let r = coded (a .cmd) in rw (r .room (a .a) (a .process), r .found (a .a) (a .process), ne-eqb _ _ (c .before .if1 .left), ne-eqb _ _ (c .if2 .left))
 
 pub entry-decision-spec : {M : Type 1} → statement M
 entry-decision-spec =

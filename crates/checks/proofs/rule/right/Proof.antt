@@ -7,15 +7,15 @@ use Rattle.checks.proofs.rule.right.Tie as tie
 
 returns : tie.Need-returns
 unfolding public
-returns c = let a = c .before .before .args in rw (coded (a .cmd) .right (public (a .p)) (a .asker), ne-eqb _ _ (c .before .if1 .taken))
+returns c = let a = c .before .before .args in rw (coded (a .cmd) .right (public (a .process)) (a .asker), ne-eqb _ _ (c .before .if1 .taken))
 
 returns-2 : tie.Need-returns-2
 unfolding public
-returns-2 c = let a = c .before .before .before .args in rw (coded (a .cmd) .right (public (a .p)) (a .asker), eq-eqb _ _ (c .before .before .if1 .left), eq-eqb _ _ (c .if2 .taken))
+returns-2 c = let a = c .before .before .before .args in rw (coded (a .cmd) .right (public (a .process)) (a .asker), eq-eqb _ _ (c .before .before .if1 .left), eq-eqb _ _ (c .if2 .taken))
 
 returns-3 : tie.Need-returns-3
 unfolding public
-returns-3 c = let a = c .before .before .before .before .args in rw (coded (a .cmd) .right (public (a .p)) (a .asker), eq-eqb _ _ (c .before .before .before .if1 .left), ne-eqb _ _ (c .before .if2 .left))
+returns-3 c = let a = c .before .before .before .before .args in rw (coded (a .cmd) .right (public (a .process)) (a .asker), eq-eqb _ _ (c .before .before .before .if1 .left), ne-eqb _ _ (c .before .if2 .left))
 
 pub right-spec : {M : Type 1} → statement M
 right-spec = tie.close (tie.spec returns returns-2 returns-3)

@@ -27,7 +27,7 @@ returns c =
     let g = c .before in
     let f = g .before .before in
     let a = f .before .args in
-    let at = found-index (find (At (a .a)) (a .p)) _ (sym (f .find .ensures) ∙ g .found .given .1) in
+    let at = found-index (find (At (a .a)) (a .process)) _ (sym (f .find .ensures) ∙ g .found .given .1) in
     rw (lt-ltb _ _ (at .low), at .same)
 
 returns-2 : tie.Need-returns-2
@@ -35,7 +35,7 @@ unfolding entryDecision entryOf decisionBy firstFailing ruleOf hasBreak
 returns-2 c =
     let f = c .before .before in
     let a = f .before .args in
-    let none = found-nowhere (find (At (a .a)) (a .p)) (sym (f .find .ensures) ∙ c .enum-told .given .1) in
+    let none = found-nowhere (find (At (a .a)) (a .process)) (sym (f .find .ensures) ∙ c .enum-told .given .1) in
     rw (le-ltb _ _ none)
 
 pub unbreak-decision-spec : {M : Type 1} → statement M

@@ -1,4 +1,4 @@
--- `decimal::field::put_field` meets its contract: the number behind its mark. Assumes nothing.
+-- `decimal::field::put_field` meets its contract: the number after its mark. Assumes nothing.
 use mathlib.Core.List.{[], _∷_}
 use Prim.Native.Nat.{_+_}
 use native.Mathlib.Omega.{arith}

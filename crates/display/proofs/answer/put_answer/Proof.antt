@@ -1,4 +1,4 @@
--- `display::answer::put_answer` meets its contract: the three parts, one behind the other. Assumes nothing.
+-- `display::answer::put_answer` meets its contract: the three parts, one after the other. Assumes nothing.
 use Prim.Native.Nat.{_<_}
 use native.Mathlib.Omega.{arith}
 use borrow.Author.Needs.{needs}

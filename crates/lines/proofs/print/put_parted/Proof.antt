@@ -1,4 +1,4 @@
--- `lines::print::put_parted` meets its contract: the first pair, and the others behind it. Assumes nothing.
+-- `lines::print::put_parted` meets its contract: the first pair, and the others after it. Assumes nothing.
 use mathlib.Core.Path.{refl, ap, _∙_}
 use mathlib.Core.List.{List}
 use Prim.Native.Nat.{ℕ, _-_}

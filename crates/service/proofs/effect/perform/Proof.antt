@@ -23,7 +23,7 @@ cast-deposit : tie.Need-cast-deposit
 cast-deposit c = search needs
 
 deposit-requires : tie.Need-deposit-requires
-deposit-requires c κs = let m = c .before in let s = m .before .before .before in let a = s .args in (s .pre .0, deposit-within (a .h) (a .p) (s .pre .1 .0) _ (m .match .keys4) (s .pre .1 .1 .1))
+deposit-requires c κs = let m = c .before in let s = m .before .before .before in let a = s .args in (s .pre .0, deposit-within (a .h) (a .process) (s .pre .1 .0) _ (m .match .keys4) (s .pre .1 .1 .1))
 
 resume-requires : tie.Need-resume-requires
 resume-requires c κs = search needs
@@ -32,13 +32,13 @@ cast-deposit-vector : tie.Need-cast-deposit-vector
 cast-deposit-vector c = search needs
 
 deposit-vector-requires : tie.Need-deposit-vector-requires
-deposit-vector-requires c κs = let s = c .before .before .before in let a = s .args in vector-within (a .h) (a .p) (s .pre .1 .0) _ (c .match .keys6) (s .pre .1 .1 .1)
+deposit-vector-requires c κs = let s = c .before .before .before in let a = s .args in vector-within (a .h) (a .process) (s .pre .1 .0) _ (c .match .keys6) (s .pre .1 .1 .1)
 
 set-break-requires : tie.Need-set-break-requires
-set-break-requires c κs = let m = c .before in let s = m .before .before .before in let a = s .args in (break-low (a .h) (a .p) (s .pre .1 .0) (a .k) (s .pre .1 .1 .0) (m .match .keys7), break-is (a .h) (a .p) (s .pre .1 .0) (a .k) (s .pre .1 .1 .0) (m .match .keys7), rw (s .pre .0 .size) (break-within (a .h) (a .p) (s .pre .1 .0) (m .match .keys7)))
+set-break-requires c κs = let m = c .before in let s = m .before .before .before in let a = s .args in (break-low (a .h) (a .process) (s .pre .1 .0) (a .k) (s .pre .1 .1 .0) (m .match .keys7), break-is (a .h) (a .process) (s .pre .1 .0) (a .k) (s .pre .1 .1 .0) (m .match .keys7), rw (s .pre .0 .size) (break-within (a .h) (a .process) (s .pre .1 .0) (m .match .keys7)))
 
 remove-from-requires : tie.Need-remove-from-requires
-remove-from-requires c κs = let m = c .before in let s = m .before .before .before in let a = s .args in (unbreak-low (a .h) (a .p) (s .pre .1 .0) (a .k) (s .pre .1 .1 .0) (m .match .keys8), tested-inside (a .p) (a .bytes .now) (s .pre .0))
+remove-from-requires c κs = let m = c .before in let s = m .before .before .before in let a = s .args in (unbreak-low (a .h) (a .process) (s .pre .1 .0) (a .k) (s .pre .1 .1 .0) (m .match .keys8), tested-inside (a .process) (a .bytes .now) (s .pre .0))
 
 single-step-requires : tie.Need-single-step-requires
 single-step-requires c κs = search needs
@@ -111,7 +111,7 @@ returns-8 c =
     let m = d .before .before in
     let s = m .before .before .before in
     let a = s .args in
-    rw (m .match .keys8, ← unbreak-is (a .h) (a .p) (s .pre .1 .0) (a .k) (s .pre .1 .1 .0) (m .match .keys8)) (d .remove-from .ensures)
+    rw (m .match .keys8, ← unbreak-is (a .h) (a .process) (s .pre .1 .0) (a .k) (s .pre .1 .1 .0) (m .match .keys8)) (d .remove-from .ensures)
 
 same-length-6 : tie.Need-same-length-6
 same-length-6 c = search needs

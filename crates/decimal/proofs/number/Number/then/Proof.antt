@@ -1,4 +1,4 @@
--- `decimal::number::Number::then` meets its contract, by what stands behind the number before. Assumes nothing.
+-- `decimal::number::Number::then` meets its contract, by what stands after the number before. Assumes nothing.
 use mathlib.Core.Path.{ap, _∙_}
 use Prim.Native.Nat.{_+_}
 use native.Mathlib.Omega.{arith}
