@@ -166,6 +166,7 @@ module _ (m buffer : List ℕ) (s : State) (r : Ready s) (sent : Sent m) where
     fair = rule-fair (h .cmd) (ruleOf (h .cmd)) known h (stringOf m) (sent .asked .hosted) (sent .carried);
     named = λ P e. &&-right (names (h .cmd)) (P (h .pid)) (&&-right (leb 10 (length m)) (names (h .cmd) && P (h .pid)) e);
     reaches = inl (&&-both (leb 10 (length m)) _ long (&&-both (names (h .cmd)) _ n (eq-eqb (h .pid) (h .pid) refl)));
+    carries = λ l e. absurd (true≢false (sym (eq-eqb (h .cmd) 12 e) ∙ create-unnamed (h .cmd) n));
     told = λ d l q. rw (n, create-unnamed (h .cmd) n);
     turns = λ z. known .turns h refl (publicOf s (h .pid)) (not-false _ (head-passes 7 _ _ (rest-passes 6 _ _ z)));
   }
@@ -179,6 +180,7 @@ module _ (m buffer : List ℕ) (s : State) (r : Ready s) (sent : Sent m) where
     fair = create-fair h (lowestAbsent (s .records)) (sent .asked .hosted);
     named = λ P e. absurd (true≢false (sym (&&-left (names (h .cmd)) (P (h .pid)) (&&-right (leb 10 (length m)) (names (h .cmd) && P (h .pid)) e)) ∙ n));
     reaches = inr (eqb-true (h .cmd) 12 c);
+    carries = λ l e. refl;
     told = λ d l q. rw (n, c);
     turns = λ z. inr (inl (record { op = inr (eqb-true (h .cmd) 12 c); before = absent-unheld s r low; after = refl }));
   }
