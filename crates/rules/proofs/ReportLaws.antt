@@ -128,7 +128,7 @@ module _ (p x v : ℕ) where
     fair = store-fair;
     named = λ P e. e;
     reaches = inl (eq-eqb p p refl);
-      carries = λ l e. absurd (omega (arith, e));
+    carries = λ l e. absurd (omega (arith, e));
     told = λ d l q. store-silent d _ q ∙ sym (same-cond (eqb q p) (d q));
     turns = λ z. inl refl;
   }
