@@ -7,7 +7,10 @@ use mathlib.Core.Logic.{_⊎_}
 use Prim.Native.Nat.{ℕ, _<_}
 use lib.Dec.{eqb}
 use Rattle.format.specs.Outcome.{firstFailing}
+use lib.ListN.{getD}
+use Rattle.ops.specs.Codes.{CREATE}
 use Rattle.process.specs.Local.{Local}
+use Rattle.rules.specs.Outsider.{only}
 use Rattle.rules.specs.Rule.{Public}
 use Rattle.rules.specs.Tests.{State}
 use Rattle.rules.specs.Access.{nobody, Access, Place, nowhere, atProcess, grants, taken}
@@ -15,7 +18,6 @@ use Rattle.rules.specs.Step.{Answer, Call, step}
 use Rattle.rules.specs.Turn.{turnOf, bufferOf}
 use Rattle.rules.specs.Ready.{Ready}
 use Rattle.rules.specs.Isolation.{Processes, asker, subject, event, passedOver, fieldsOf, toldOf, publicOf}
-use Rattle.rules.specs.Rights.{Reaches}
 use Rattle.rules.specs.Total.{testsOf, numbersOf, oneOf}
 use Rattle.rules.proofs.RuleLaws.{Turns}
 use Rattle.rules.proofs.TurnLaws.{turnNumber}
@@ -36,7 +38,9 @@ pub record There (s : State) (c : Call) (p : ℕ) (a : Access) : Type 0 where
   pub fair : Fair (asker c) a then
   -- it goes to the process that it names, or it is a CREATE
   pub named : (P : Processes) → subject P c ≡ true → P p ≡ true
-  pub reaches : Reaches p c
+  pub reaches : (subject (only p) c ≡ true) ⊎ (fieldsOf c .cmd ≡ CREATE)
+  -- the reply to a CREATE carries the number of the process
+  pub carries : (l : Local) → fieldsOf c .cmd ≡ CREATE → getD (grants (a .reply l) (bufferOf c) .buffer) 5 0 ≡ p
   -- the call and its answer tell the public part after it
   pub told : (d : ℕ → Public) (l : Local) (q : ℕ) → toldOf d c (grants (a .reply l) (bufferOf c)) q ≡ cond (eqb q p) (then (d q)) (d q)
   -- when the right to debug begins and ends

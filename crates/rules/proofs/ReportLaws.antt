@@ -3,6 +3,7 @@ use mathlib.Core.Path.{_≡_, refl, sym, _∙_}
 use mathlib.Core.Bool.{true, not}
 use mathlib.Core.List.{List, []}
 use mathlib.Core.Logic.{_⊎_, inl, inr}
+use native.Mathlib.Omega.{arith}
 use Prim.Native.Nat.{ℕ, _<_}
 use borrow.Author.Tests.{eq-eqb, ltb-true, not-false}
 use lib.Dec.{eqb, ltb}
@@ -73,13 +74,14 @@ module _ (p kind reason : ℕ) (words : List ℕ) where
     report-silent d a q = same-cond (isGranted (a .outcome)) (d q)
 
     report-there : (s : State) → p < 8 → There s here p (reportAccess p kind reason words)
-    unfolding asker subject
+    unfolding asker subject fieldsOf
     report-there s low = record {
       low = low;
       then = kept;
       fair = report-fair;
       named = λ P e. e;
       reaches = inl (eq-eqb p p refl);
+      carries = λ l e. absurd (omega (arith, e));
       told = λ d l q. report-silent d _ q ∙ sym (same-cond (eqb q p) (d q));
       turns = λ z. inl refl;
     }
@@ -119,13 +121,14 @@ module _ (p x v : ℕ) where
   store-silent d a q = same-cond (isGranted (a .outcome)) (d q)
 
   store-there : (s : State) → p < 8 → There s (store p x v) p (storeAccess x v)
-  unfolding asker subject
+  unfolding asker subject fieldsOf
   store-there s low = record {
     low = low;
     then = kept;
     fair = store-fair;
     named = λ P e. e;
     reaches = inl (eq-eqb p p refl);
+    carries = λ l e. absurd (omega (arith, e));
     told = λ d l q. store-silent d _ q ∙ sym (same-cond (eqb q p) (d q));
     turns = λ z. inl refl;
   }

@@ -1,14 +1,14 @@
 -- The law of requests. Assumes nothing.
 use mathlib.Core.Path.{_≡_, refl, sym, ap, _∙_}
 use mathlib.Core.Bool.{Bool, true, false, not, _&&_, _||_, true≢false}
-use mathlib.Core.List.{List, []}
+use mathlib.Core.List.{List, [], _∷_, _++_}
 use mathlib.Core.Logic.{_⊎_, inl, inr}
-use Prim.Native.Nat.{ℕ, _≤_, _<_}
+use Prim.Native.Nat.{ℕ, zero, suc, _≤_, _<_}
 use native.Mathlib.Omega.{arith}
 use borrow.Author.Tests.{eq-eqb, ne-eqb, eqb-true, ltb-true, leb-true, le-leb, not-true, not-false}
-use lib.ListN.{length, take}
+use lib.ListN.{length, take, getD, length-append}
 use lib.Dec.{eqb, leb, lit<}
-use lib.Seq.{getD-take, length-take-le}
+use lib.Seq.{length-take-le}
 use Rattle.lists.specs.Buffer.{overlay}
 use Rattle.lists.proofs.Bool.{&&-left, &&-right, &&-both}
 use Rattle.lists.proofs.First.{first-passes, first-alike}
@@ -31,7 +31,7 @@ use Rattle.rules.specs.Access.{by, insider, numberAt}
 use Rattle.rules.specs.Step.{Call, request, step}
 use Rattle.rules.specs.Turn.{ruleAccess, createAccess, placeTests, requestPlace, messageTests, requestTurn, turnOf, bufferOf}
 use Rattle.rules.specs.Ready.{Ready}
-use Rattle.rules.specs.Isolation.{Processes, namesOne, deposits, asker, subject, event, passedOver, fieldsOf, isGranted, publicThen, toldOf, publicOf}
+use Rattle.rules.specs.Isolation.{Processes, namesOne, deposits, withoutString, asker, subject, event, passedOver, fieldsOf, isGranted, publicThen, toldOf, publicOf}
 use Rattle.rules.specs.Total.{testsOf, numbersOf, oneOf}
 use Rattle.rules.proofs.ProperLaws.{create-proper}
 use Rattle.rules.proofs.RuleLaws.{Open, Kept, Row, rule-row}
@@ -166,6 +166,7 @@ module _ (m buffer : List ℕ) (s : State) (r : Ready s) (sent : Sent m) where
     fair = rule-fair (h .cmd) (ruleOf (h .cmd)) known h (stringOf m) (sent .asked .hosted) (sent .carried);
     named = λ P e. &&-right (names (h .cmd)) (P (h .pid)) (&&-right (leb 10 (length m)) (names (h .cmd) && P (h .pid)) e);
     reaches = inl (&&-both (leb 10 (length m)) _ long (&&-both (names (h .cmd)) _ n (eq-eqb (h .pid) (h .pid) refl)));
+    carries = λ l e. absurd (true≢false (sym (eq-eqb (h .cmd) 12 e) ∙ create-unnamed (h .cmd) n));
     told = λ d l q. rw (n, create-unnamed (h .cmd) n);
     turns = λ z. known .turns h refl (publicOf s (h .pid)) (not-false _ (head-passes 7 _ _ (rest-passes 6 _ _ z)));
   }
@@ -179,6 +180,7 @@ module _ (m buffer : List ℕ) (s : State) (r : Ready s) (sent : Sent m) where
     fair = create-fair h (lowestAbsent (s .records)) (sent .asked .hosted);
     named = λ P e. absurd (true≢false (sym (&&-left (names (h .cmd)) (P (h .pid)) (&&-right (leb 10 (length m)) (names (h .cmd) && P (h .pid)) e)) ∙ n));
     reaches = inr (eqb-true (h .cmd) 12 c);
+    carries = λ l e. refl;
     told = λ d l q. rw (n, c);
     turns = λ z. inr (inl (record { op = inr (eqb-true (h .cmd) 12 c); before = absent-unheld s r low; after = refl }));
   }
@@ -198,18 +200,26 @@ module _ (m buffer : List ℕ) (s : State) (r : Ready s) (sent : Sent m) where
 
 -- ---- a request without its string
 
-header-take : (m : List ℕ) → headerOf (take 10 m) ≡ headerOf m
+-- a byte before ARG2 stays, also where the message is shorter
+before : (n : ℕ) (m : List ℕ) (i : ℕ) → i < n → getD (take n m ++ (0 ∷ 0 ∷ [])) i 0 ≡ getD m i 0
+before zero m i l = absurd (omega (arith, l))
+before (suc n) [] zero l = refl
+before (suc n) [] (suc zero) l = refl
+before (suc n) [] (suc (suc i)) l = refl
+before (suc n) (x ∷ m) zero l = refl
+before (suc n) (x ∷ m) (suc i) l = before n m i (omega (arith, l))
+
+over-host : (m : List ℕ) → headerOf (withoutString m) .host ≡ headerOf m .host
 unfolding headerOf
-header-take m =
-    rw (
-      getD-take 10 m 1 0 (lit< tt),
-      getD-take 10 m 4 0 (lit< tt),
-      getD-take 10 m 5 0 (lit< tt),
-      getD-take 10 m 6 0 (lit< tt),
-      getD-take 10 m 7 0 (lit< tt),
-      getD-take 10 m 8 0 (lit< tt),
-      getD-take 10 m 9 0 (lit< tt),
-    )
+over-host m = before 8 m 1 (lit< tt)
+
+over-cmd : (m : List ℕ) → headerOf (withoutString m) .cmd ≡ headerOf m .cmd
+unfolding headerOf
+over-cmd m = before 8 m 4 (lit< tt)
+
+over-pid : (m : List ℕ) → headerOf (withoutString m) .pid ≡ headerOf m .pid
+unfolding headerOf
+over-pid m = before 8 m 5 (lit< tt)
 
 deposit-is : (cmd : ℕ) (F : ℕ → Type 0) → F 4 → F 7 → deposits cmd ≡ true → F cmd
 deposit-is cmd F four seven = go (eqb cmd 4) refl
@@ -231,8 +241,10 @@ deposit-silent m buffer e d a q =
     rw (deposit-kept (headerOf m .cmd) e (headerOf m .host) (d q), deposit-creates (headerOf m .cmd) e, same-cond (names (headerOf m .cmd) && eqb q (headerOf m .pid)) (d q))
     (same-cond (isGranted (a .outcome)) (d q))
 
-long-take : (m : List ℕ) → leb 10 (length m) ≡ true → leb 10 (length (take 10 m)) ≡ true
-long-take m e = rw (length-take-le 10 m (leb-true 10 (length m) e))
+over-long : (m : List ℕ) → leb 10 (length m) ≡ true → leb 10 (length (withoutString m)) ≡ true
+over-long m e =
+    let eight : length (take 8 m) ≡ 8 = length-take-le 8 m (omega (arith, leb-true 10 (length m) e)) in
+    le-leb 10 (length (withoutString m)) (omega (arith, length-append (take 8 m) (0 ∷ 0 ∷ []), eight))
 
 -- ---- any request
 
@@ -251,8 +263,8 @@ module _ (m buffer : List ℕ) where
   unfolding subject passedOver namesOne
   request-over P e =
       by-test (λ (n : List ℕ). leb 10 (length n) && (names (headerOf n .cmd) && P (headerOf n .pid)) ≡ true) (deposits (headerOf m .cmd))
-      (λ d. rw (header-take m)
-      (&&-both (leb 10 (length (take 10 m))) _ (long-take m (&&-left (leb 10 (length m)) _ e)) (&&-right (leb 10 (length m)) (names (headerOf m .cmd) && P (headerOf m .pid)) e)))
+      (λ d. rw (over-cmd m, over-pid m)
+      (&&-both (leb 10 (length (withoutString m))) _ (over-long m (&&-left (leb 10 (length m)) _ e)) (&&-right (leb 10 (length m)) (names (headerOf m .cmd) && P (headerOf m .pid)) e)))
       (λ d. e)
 
   request-listed : (s : State) → oneOf (numbersOf (request m buffer)) (firstFailing (requestTests s m buffer)) ≡ true
@@ -278,8 +290,8 @@ module _ (m buffer : List ℕ) where
     placed = request-placed;
     event-asker = λ e. absurd (true≢false (sym e));
     event-silent = λ e. absurd (true≢false (sym e));
-    over-asker = by-test (λ (n : List ℕ). by (headerOf n .host) ≡ by (headerOf m .host)) (deposits (headerOf m .cmd)) (λ d. rw (header-take m)) (λ d. refl);
+    over-asker = by-test (λ (n : List ℕ). by (headerOf n .host) ≡ by (headerOf m .host)) (deposits (headerOf m .cmd)) (λ d. ap by (over-host m)) (λ d. refl);
     over-subject = request-over;
     over-silent = by-test (λ (n : List ℕ). (request n buffer ≡ request m buffer) ⊎ (Silent (request m buffer) × Silent (request n buffer))) (deposits (headerOf m .cmd))
-        (λ d. inr (deposit-silent m buffer d, deposit-silent (take 10 m) buffer (rw (header-take m) d))) (λ d. inl refl);
+        (λ d. inr (deposit-silent m buffer d, deposit-silent (withoutString m) buffer (rw (over-cmd m) d))) (λ d. inl refl);
   }

@@ -8,12 +8,16 @@ use borrow.Author.Tests.{eqb-true, eqb-false}
 use lib.Dec.{eqb}
 use Rattle.rules.specs.Rule.{Public}
 use Rattle.rules.specs.Tests.{State}
-use Rattle.rules.specs.Access.{Asker, nobody, by, Access, numberAt}
+use lib.ListN.{getD}
+use Rattle.ops.specs.Codes.{CREATE, DEBUG}
+use Rattle.rules.specs.Access.{Asker, nobody, by, Access, grants, numberAt}
+use Rattle.rules.specs.Turn.{bufferOf}
+use Rattle.rules.specs.Outsider.{only}
 use Rattle.rules.specs.Step.{StepResult, localOf, put, Call, step}
 use Rattle.rules.specs.Ready.{Ready}
 use Rattle.rules.specs.Run.{final}
-use Rattle.rules.specs.Isolation.{asker, fieldsOf, isGranted, publicOf}
-use Rattle.rules.specs.Rights.{holder, Allowed, MayChange, Begins, Ends, NoneEnds, NoneBegins, Rights}
+use Rattle.rules.specs.Isolation.{asker, subject, fieldsOf, isGranted, publicOf}
+use Rattle.rules.specs.Rights.{holder, Allowed, Creates, Reaches, MayChange, Begins, Ends, NoneEnds, NoneBegins, Rights}
 use Rattle.rules.proofs.RuleLaws.{Turns}
 use Rattle.rules.proofs.AccessLaws.{May, outer-zero}
 use Rattle.rules.proofs.CallLaws.{There}
@@ -34,6 +38,14 @@ module _ (s : State) (r : Ready s) (c : Call) (p : ℕ) (a : Access) (t : There 
   acts-turns : Turns (asker c) (fieldsOf c) p (publicOf s p) (publicOf (put p (a .effect (localOf s p)) s) p)
   acts-turns = rw (acts-public s r c p a t z) (t .turns (outer-zero a (localOf s p) z))
 
+-- the call reaches the process, as its answer tells
+acts-reaches : (s : State) (c : Call) (p : ℕ) (a : Access) (t : There s c p a) → Reaches p c (grants (a .reply (localOf s p)) (bufferOf c))
+acts-reaches s c p a t = go (t .reaches)
+  where
+    go : (subject (only p) c ≡ true) ⊎ (fieldsOf c .cmd ≡ CREATE) → Reaches p c (grants (a .reply (localOf s p)) (bufferOf c))
+    go (inl i) = inl i
+    go (inr e) = inr (e, t .carries (localOf s p) e)
+
 changes : (s : State) → Ready s → (c : Call) (p : ℕ) → p < 8 → (MayChange p s c → ⊥) → localOf (step s c .after) p ≡ localOf s p
 changes s r c p low out = go (done s r c)
   where
@@ -45,15 +57,19 @@ changes s r c p low out = go (done s r c)
         at : (b : Bool) → eqb p q ≡ b → localOf (step s c .after) p ≡ localOf s p
         at true i =
             let same = eqb-true p q i in
-            absurd (out (subst (λ (k : ℕ). MayChange k s c) (sym same) (t .reaches, rw e (acts-allowed s r c q a t z))))
+            absurd (out (subst (λ (k : ℕ). MayChange k s c) (sym same) rw e (acts-reaches s c q a t, acts-allowed s r c q a t z)))
         at false i = rw e (acts-changed s r c q a t z .else p low (eqb-false p q i))
 
 -- what a call with these fields does to the right, where it is granted
-begun : (s : State) (c : Call) (p : ℕ) → isGranted (step s c .answer .outcome) ≡ true
+begun : (s : State) (c : Call) (p : ℕ) → isGranted (step s c .answer .outcome) ≡ true → (fieldsOf c .cmd ≡ CREATE → getD (step s c .answer .buffer) 5 0 ≡ p)
     → Turns (asker c) (fieldsOf c) p (publicOf s p) (publicOf (step s c .after) p) → (holder (step s c .after) p ≡ holder s p) ⊎ (Begins p s c ⊎ Ends p s c)
-begun s c p g (inl e) = inl e
-begun s c p g (inr (inl b)) = inr (inl (record { granted = g; op = b .op; before = b .before; after = b .after }))
-begun s c p g (inr (inr b)) = inr (inr (record { granted = g; op = b .op; named = b .named; before = b .before; after = b .after }))
+begun s c p g n (inl e) = inl e
+begun s c p g n (inr (inl b)) = inr (inl (record { granted = g; op = go (b .op); before = b .before; after = b .after }))
+  where
+    go : ((fieldsOf c .cmd ≡ DEBUG) × (fieldsOf c .pid ≡ p)) ⊎ (fieldsOf c .cmd ≡ CREATE) → ((fieldsOf c .cmd ≡ DEBUG) × (fieldsOf c .pid ≡ p)) ⊎ Creates p c (step s c .answer)
+    go (inl d) = inl d
+    go (inr e) = inr (e, n e)
+begun s c p g n (inr (inr b)) = inr (inr (record { granted = g; op = b .op; named = b .named; before = b .before; after = b .after }))
 
 turns : (s : State) → Ready s → (c : Call) (p : ℕ) → p < 8 → (holder (step s c .after) p ≡ holder s p) ⊎ (Begins p s c ⊎ Ends p s c)
 unfolding isGranted
@@ -67,7 +83,7 @@ turns s r c p low = go (done s r c)
         at : (b : Bool) → eqb p q ≡ b → (holder (step s c .after) p ≡ holder s p) ⊎ (Begins p s c ⊎ Ends p s c)
         at true i =
             let same = eqb-true p q i in
-            begun s c p (ap (λ (x : StepResult). isGranted (x .answer .outcome)) e)
+            begun s c p (ap (λ (x : StepResult). isGranted (x .answer .outcome)) e) (λ i. rw (e, same) (t .carries (localOf s q) i))
             (subst (λ (k : ℕ). Turns (asker c) (fieldsOf c) k (publicOf s k) (publicOf (step s c .after) k)) (sym same) (rw e (acts-turns s r c q a t z)))
         at false i = inl (rw e (ap (λ (u : Public). u .host) (acts-else s r c q a t z p (eqb-false p q i))))
 

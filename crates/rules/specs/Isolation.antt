@@ -67,9 +67,13 @@ event (request m buffer) = false
 event (report p kind reason words buffer) = true
 event (store p x v) = true
 
--- the call without 'the strings in .. DEPOSIT and DEPOSIT STATE VECTOR requests'
+-- a message up to ARG1: ARG2, which counts the bytes of the string, is zero, and there is no string
+abbrev pub withoutString : List ℕ → List ℕ
+withoutString m = take 8 m ++ (0 ∷ 0 ∷ [])
+
+-- the call without 'the strings in .. DEPOSIT and DEPOSIT STATE VECTOR requests', nor how long they are
 unfoldable pub passedOver : Call → Call
-passedOver (request m buffer) = request (cond (deposits (cmdOf m)) (take 10 m) m) buffer
+passedOver (request m buffer) = request (cond (deposits (cmdOf m)) (withoutString m) m) buffer
 passedOver (report p kind reason words buffer) = report p kind reason words buffer
 passedOver (store p x v) = store p x v
 

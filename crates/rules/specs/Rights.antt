@@ -7,7 +7,8 @@ use Prim.Native.Nat.{ℕ, _<_}
 use Rattle.rules.specs.Tests.{State}
 use Rattle.rules.specs.Rule.{Public}
 use Rattle.rules.specs.Access.{Asker, nobody, by, insider}
-use Rattle.rules.specs.Step.{Call, step, localOf}
+use lib.ListN.{getD}
+use Rattle.rules.specs.Step.{Answer, Call, step, localOf}
 use Rattle.rules.specs.Ready.{Ready}
 use Rattle.rules.specs.Run.{final}
 use Rattle.rules.specs.Isolation.{asker, subject, fieldsOf, isGranted, publicOf}
@@ -23,18 +24,22 @@ unfoldable pub Allowed : Asker → Public → Public → Type 0
 Allowed nobody before after = Unit {0}
 Allowed (by host) before after = (insider before host ≡ true) ⊎ (insider after host ≡ true)
 
--- a call that names the process or is about it, or a CREATE
-abbrev pub Reaches : ℕ → Call → Type 0
-Reaches p c = (subject (only p) c ≡ true) ⊎ (fieldsOf c .cmd ≡ CREATE)
+-- the CREATE whose reply carries the number of the process: 'CREATED carries the new number in PID.'
+abbrev pub Creates : ℕ → Call → Answer → Type 0
+Creates p c a = (fieldsOf c .cmd ≡ CREATE) × (getD (a .buffer) 5 0 ≡ p)
 
--- a request that names it, or a CREATE, of the host that debugs it or does then; a report about it; a store into it
+-- a call that names the process or is about it, or the CREATE of it
+abbrev pub Reaches : ℕ → Call → Answer → Type 0
+Reaches p c a = (subject (only p) c ≡ true) ⊎ Creates p c a
+
+-- a request that names it, or the CREATE of it, of the host that debugs it or does then; a report about it; a store into it
 abbrev pub MayChange : ℕ → State → Call → Type 0
-MayChange p s c = Reaches p c × Allowed (asker c) (publicOf s p) (publicOf (step s c .after) p)
+MayChange p s c = Reaches p c (step s c .answer) × Allowed (asker c) (publicOf s p) (publicOf (step s c .after) p)
 
 -- by a granted DEBUG of a process that nobody debugs, or the granted CREATE of it, the asker debugs it
 pub record Begins (p : ℕ) (s : State) (c : Call) : Type 0 where
   pub granted : isGranted (step s c .answer .outcome) ≡ true
-  pub op : ((fieldsOf c .cmd ≡ DEBUG) × (fieldsOf c .pid ≡ p)) ⊎ (fieldsOf c .cmd ≡ CREATE)
+  pub op : ((fieldsOf c .cmd ≡ DEBUG) × (fieldsOf c .pid ≡ p)) ⊎ Creates p c (step s c .answer)
   pub before : holder s p ≡ 0
   pub after : asker c ≡ by (holder (step s c .after) p)
 
