@@ -1,4 +1,4 @@
--- The demands of document 01 on the code of this crate: its calls are the rules' steps, and the theorems about those are theorems about it.
+-- The demands of document 01 on the step that this crate's calls take: `Did` (Called) ties each call's bytes to it, these are its theorems.
 use mathlib.Core.Path.{_≡_}
 use mathlib.Core.List.{List, [], _∷_}
 use Prim.Native.Nat.{ℕ}
@@ -10,7 +10,7 @@ use Rattle.rules.specs.Rights.{Rights}
 use Rattle.rules.specs.Isolation.{Isolation}
 use Rattle.rules.specs.Outsider.{Outsiders}
 
--- one call with what it answered and left, as the contracts of `request` and `report` fix it, part by part
+-- one step with what it answered and left, in records
 pub record DidStep (s : State) (c : Call) (e : TraceItem) : Type 0 where
   pub call : e .call ≡ c
   pub outcome : e .answer .outcome ≡ step s c .answer .outcome
@@ -18,19 +18,19 @@ pub record DidStep (s : State) (c : Call) (e : TraceItem) : Type 0 where
   pub records : e .after .records ≡ step s c .after .records
   pub memory : e .after .memory ≡ step s c .after .memory
 
--- calls one after another, each on the state and memory that the one before it left
+-- steps one after another, each on the records and memory that the one before it left
 unfoldable pub Done : State → List Call → List TraceItem → Type 0
 Done s [] [] = Unit {0}
 Done s [] (e ∷ es) = ⊥
 Done s (c ∷ cs) [] = ⊥
 Done s (c ∷ cs) (e ∷ es) = DidStep s c e × Done (e .after) cs es
 
--- the demands hold of the calls of this crate
+-- the demands hold of the step and of its runs
 pub record Demands : Type 0 where
-  -- the definitions that the contracts of `request` and `report` cite are the rules' step
+  -- the two kinds of call have one step
   pub requests : (s : State) (m buffer : List ℕ) → step s (request m buffer) ≡ requestStep m buffer s
   pub reports : (s : State) (p kind reason : ℕ) (words buffer : List ℕ) → step s (report p kind reason words buffer) ≡ reportStep p kind reason words buffer s
-  -- so calls of the code, one after another, are a run of the rules
+  -- steps one after another are a run of the rules
   pub runs : (s : State) (l : List Call) (es : List TraceItem) → Done s l es → es ≡ run s l
   -- demand 1
   pub total : Total

@@ -3,7 +3,8 @@
 ghost use Rattle.gateway.specs.Demands.{Demands};
 ghost use Rattle.gateway.specs.Lengths.{Lengths};
 
-// Calls of `request` and `report`, one after another, are a run of the rules; so demand 1, the rights and demand 3 hold of them.
+// Steps on records, one after another, are a run of the rules; demand 1, the rights and demand 3 hold of every run. That each call is
+// such a step on the records that its bytes stand for is the contract of `request` and of `report`.
 pub fn demands()
     ensures { λ _. ⌜ Demands ⌝ }
 {}
