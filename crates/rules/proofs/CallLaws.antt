@@ -16,7 +16,7 @@ use Rattle.rules.specs.Tests.{State}
 use Rattle.rules.specs.Access.{nobody, Access, Place, nowhere, atProcess, grants, taken}
 use Rattle.rules.specs.Step.{Answer, Call, step}
 use Rattle.rules.specs.Turn.{turnOf, bufferOf}
-use Rattle.rules.specs.Ready.{Ready}
+use Rattle.rules.specs.Ready.{Ready, NineWords, Typed}
 use Rattle.rules.specs.Isolation.{Processes, asker, subject, event, passedOver, fieldsOf, toldOf, publicOf}
 use Rattle.rules.specs.Total.{testsOf, numbersOf, oneOf}
 use Rattle.rules.proofs.RuleLaws.{Turns}
@@ -36,6 +36,8 @@ pub record There (s : State) (c : Call) (p : ℕ) (a : Access) : Type 0 where
   pub low : p < 8
   pub then : Public → Public
   pub fair : Fair (asker c) a then
+  -- the vector keeps its nine words
+  pub words : Typed c → (l : Local) → NineWords (l .process) → NineWords (a .effect l .process)
   -- it goes to the process that it names, or it is a CREATE
   pub named : (P : Processes) → subject P c ≡ true → P p ≡ true
   pub reaches : (subject (only p) c ≡ true) ⊎ (fieldsOf c .cmd ≡ CREATE)

@@ -20,10 +20,11 @@ use Rattle.rules.specs.Tests.{State, reportTests, reportNumber}
 use Rattle.rules.specs.Access.{nobody, insider, numberAt}
 use Rattle.rules.specs.Step.{told, Call, report, store, step}
 use Rattle.rules.specs.Turn.{reportAccess, reportTurn, storeAccess, storeTurn, turnOf, bufferOf}
+use Rattle.rules.specs.Ready.{Typed}
 use Rattle.rules.specs.Isolation.{asker, subject, event, passedOver, fieldsOf, isGranted, toldOf}
 use Rattle.rules.specs.Total.{testsOf, numbersOf, oneOf}
 use Rattle.rules.proofs.ProperLaws.{report-proper, store-proper}
-use Rattle.rules.proofs.RuleLaws.{public-reported}
+use Rattle.rules.proofs.RuleLaws.{public-reported, count-reported}
 use Rattle.rules.proofs.NumberLaws.{by-test, same-cond, first-listed, orElse-zero}
 use Rattle.rules.proofs.TurnLaws.{report-number, report-turn, store-number, store-turn}
 use Rattle.rules.proofs.AccessLaws.{May, Sends, Discreet, Fair, outerNumber}
@@ -74,11 +75,12 @@ module _ (p kind reason : ℕ) (words : List ℕ) where
     report-silent d a q = same-cond (isGranted (a .outcome)) (d q)
 
     report-there : (s : State) → p < 8 → There s here p (reportAccess p kind reason words)
-    unfolding asker subject fieldsOf
+    unfolding asker subject fieldsOf reportAccess Typed
     report-there s low = record {
       low = low;
       then = kept;
       fair = report-fair;
+      words = λ t l n. count-reported kind words l ∙ t;
       named = λ P e. e;
       reaches = inl (eq-eqb p p refl);
       carries = λ l e. absurd (omega (arith, e));
@@ -121,11 +123,12 @@ module _ (p x v : ℕ) where
   store-silent d a q = same-cond (isGranted (a .outcome)) (d q)
 
   store-there : (s : State) → p < 8 → There s (store p x v) p (storeAccess x v)
-  unfolding asker subject fieldsOf
+  unfolding asker subject fieldsOf storeAccess
   store-there s low = record {
     low = low;
     then = kept;
     fair = store-fair;
+    words = λ t l n. n;
     named = λ P e. e;
     reaches = inl (eq-eqb p p refl);
     carries = λ l e. absurd (omega (arith, e));

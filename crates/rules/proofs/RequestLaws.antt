@@ -164,6 +164,7 @@ module _ (m buffer : List ℕ) (s : State) (r : Ready s) (sent : Sent m) where
     low = low;
     then = publicThen (h .cmd) (h .host);
     fair = rule-fair (h .cmd) (ruleOf (h .cmd)) known h (stringOf m) (sent .asked .hosted) (sent .carried);
+    words = λ t l n. known .words h (stringOf m) l n;
     named = λ P e. &&-right (names (h .cmd)) (P (h .pid)) (&&-right (leb 10 (length m)) (names (h .cmd) && P (h .pid)) e);
     reaches = inl (&&-both (leb 10 (length m)) _ long (&&-both (names (h .cmd)) _ n (eq-eqb (h .pid) (h .pid) refl)));
     carries = λ l e. absurd (true≢false (sym (eq-eqb (h .cmd) 12 e) ∙ create-unnamed (h .cmd) n));
@@ -173,11 +174,12 @@ module _ (m buffer : List ℕ) (s : State) (r : Ready s) (sent : Sent m) where
 
   place-created : names (headerOf m .cmd) ≡ false → creates (headerOf m .cmd) ≡ true → lowestAbsent (s .records) < 8
       → There s here (lowestAbsent (s .records)) (createAccess h (lowestAbsent (s .records)))
-  unfolding asker subject namesOne fieldsOf bufferOf toldOf isGranted createAccess overlay written createdOf
+  unfolding asker subject namesOne fieldsOf bufferOf toldOf isGranted createAccess overlay written createdOf created fresh
   place-created n c low = record {
     low = low;
     then = createdThen h;
     fair = create-fair h (lowestAbsent (s .records)) (sent .asked .hosted);
+    words = λ t l n. refl;
     named = λ P e. absurd (true≢false (sym (&&-left (names (h .cmd)) (P (h .pid)) (&&-right (leb 10 (length m)) (names (h .cmd) && P (h .pid)) e)) ∙ n));
     reaches = inr (eqb-true (h .cmd) 12 c);
     carries = λ l e. refl;

@@ -8,6 +8,7 @@ use native.Mathlib.Omega.{arith}
 use borrow.Author.Tests.{eqb-true, leb-true}
 use lib.ListN.{length, getD}
 use lib.Dec.{eqb, leb, ltb}
+use Rattle.lists.specs.Word.{vectorOf}
 use Rattle.lists.proofs.Bool.{&&-left, &&-right}
 use Rattle.ops.specs.Table.{ops}
 use Rattle.format.specs.declared.header.Header.{Header}
@@ -20,14 +21,15 @@ use Rattle.breakpoints.specs.Entry.{validBreakAddress}
 use Rattle.run_state.specs.RunState.{moving, stoppedOrAtBreak, atBreak}
 use Rattle.process.specs.Local.{Local, Proper}
 use Rattle.process.specs.Planting.{plantedIn, liftedIn, removedFrom, replanted, liftedAt}
-use Rattle.process.specs.Request.{pc, onRecord, hasBreak, hasRoom, endDebugged, stopped, resumed, stepped, proceeded, deposited, vectorDeposited, breakSet, breakRemoved, cleared, destroyed}
+use Rattle.process.specs.Request.{pc, onRecord, hasBreak, hasRoom, endDebugged, stopped, resumed, stepped, proceeded, deposited, vectorAfter, vectorDeposited, breakSet, breakRemoved, cleared, destroyed}
 use Rattle.process.specs.declared.report.Verdict.{Verdict}
 use Rattle.process.specs.declared.report.Verdict.the-variants.{Stops, CountsDown}
 use Rattle.process.specs.Report.{storeVectorAndReplant, verdictOf, passed, carriedOut, reported}
 use Rattle.rules.specs.Rule.{Public, public, Rule, rules, noRule, debugRule, endDebugRule, examineRule, breakRule, unbreakRule, plain, whileRun, inRange, upTo, ruleOf}
 use Rattle.rules.specs.Access.{Asker, by}
+use Rattle.rules.specs.Ready.{NineWords}
 use Rattle.rules.specs.Isolation.{publicThen}
-use Rattle.rules.proofs.ProperLaws.{end-debug-proper, stop-proper, step-proper, proceed-proper, deposit-proper, break-proper, unbreak-proper, destroy-proper, host-proper, resume-proper, vector-proper}
+use Rattle.rules.proofs.ProperLaws.{by-cond, end-debug-proper, stop-proper, step-proper, proceed-proper, deposit-proper, break-proper, unbreak-proper, destroy-proper, host-proper, resume-proper, vector-proper}
 
 -- all that the tests 7 to 12, and those of the layout, say of a request that passes them
 pub record Passing (r : Rule) (h : Header) (string : List ℕ) (p : Process) : Type 0 where
@@ -51,6 +53,10 @@ pub record Open (r : Rule) : Type 0 where
 -- what is done to a process leaves its public part
 abbrev Quiet : Rule → Type 0
 Quiet r = (h : Header) (string : List ℕ) (l : Local) → public (r .effect h string l .process) ≡ public (l .process)
+
+-- and the vector its nine words
+abbrev Wordy : Rule → Type 0
+Wordy r = (h : Header) (string : List ℕ) (l : Local) → NineWords (l .process) → NineWords (r .effect h string l .process)
 
 -- an op code that, when granted, changes nothing that is public
 unfoldable pub Kept : ℕ → Type 0
@@ -81,6 +87,8 @@ Turns w h p u v = (v .host ≡ u .host) ⊎ (BeginsBy w h p u v ⊎ EndsBy w h p
 pub record Row (cmd : ℕ) (r : Rule) : Type 0 where
   -- a sound process stays sound
   pub keeps : (h : Header) (string : List ℕ) (l : Local) → Proper l → Passing r h string (l .process) → Proper (r .effect h string l)
+  -- and its vector has nine words
+  pub words : Wordy r
   -- who may ask debugs the process, or will, and nothing else is asked
   pub guarded : (u : Public) (asker : ℕ) → r .right u asker ≡ true → (u .host ≡ asker) ⊎ Taking cmd r
   -- the public part stays, or nothing else is asked
@@ -113,13 +121,35 @@ public-reported kind words l = go (verdictOf kind (storeVectorAndReplant words l
     go Stops = public-replanted (onRecord (withVector words) l)
     go (CountsDown k) = public-replanted (onRecord (withVector words) l)
 
+-- ---- the words of the vector
+
+abbrev count : Local → ℕ
+count l = length (l .process .vector)
+
+count-replanted : (l : Local) → count (replanted l) ≡ count l
+unfolding replanted plantedIn
+count-replanted l = by-cond count (ltb (find Lifted (l .process)) 8) _ l (count l) refl refl
+
+count-liftedAt : (at : ℕ) (l : Local) → count (liftedAt at l) ≡ count l
+unfolding liftedAt liftedIn
+count-liftedAt at l = by-cond count (ltb (find (At at) (l .process)) 8) _ l (count l) refl refl
+
+pub count-reported : (kind : ℕ) (words : List ℕ) (l : Local) → count (reported kind words l) ≡ length words
+unfolding reported passed liftedIn storeVectorAndReplant
+count-reported kind words l = go (verdictOf kind (storeVectorAndReplant words l .process))
+  where
+    go : (v : Verdict) → count (carriedOut v kind (storeVectorAndReplant words l)) ≡ length words
+    go Stops = count-replanted (onRecord (withVector words) l)
+    go (CountsDown k) = count-replanted (onRecord (withVector words) l)
+
 -- ---- rows that ask the right, and leave the public part
 
-quiet-row : (cmd : ℕ) (r : Rule) → Kept cmd → ((u : Public) (asker : ℕ) → r .right u asker ≡ true → u .host ≡ asker) → Quiet r
+quiet-row : (cmd : ℕ) (r : Rule) → Kept cmd → ((u : Public) (asker : ℕ) → r .right u asker ≡ true → u .host ≡ asker) → Quiet r → Wordy r
     → ((h : Header) (string : List ℕ) (l : Local) → Proper l → Passing r h string (l .process) → Proper (r .effect h string l)) → Row cmd r
 unfolding Kept
-quiet-row cmd r kept right q keeps = record {
+quiet-row cmd r kept right q words keeps = record {
   keeps = keeps;
+  words = words;
   guarded = λ u asker e. inl (right u asker e);
   discreet = inl kept;
   publicly = λ h string l. q h string l ∙ sym (kept (h .host) (public (l .process)));
@@ -137,7 +167,7 @@ held u asker e = eqb-true (u .host) asker e
 -- ---- the rows
 
 no-row : (cmd : ℕ) → Kept cmd → Row cmd noRule
-no-row cmd kept = quiet-row cmd noRule kept held (λ h s l. refl) (λ h s l g p. g)
+no-row cmd kept = quiet-row cmd noRule kept held (λ h s l. refl) (λ h s l n. n) (λ h s l g p. g)
 
 debug-open : Open debugRule
 debug-open = record { runs = λ x. refl; range = λ h. refl; room = λ a p. refl; found = λ a p. refl; shown = λ h l. refl }
@@ -153,6 +183,7 @@ debug-row : Row 1 debugRule
 unfolding public publicThen
 debug-row = record {
   keeps = λ h s l g p. host-proper (h .host) l g (p .there) (p .asked);
+  words = λ h s l n. n;
   guarded = λ u asker e. inr (record { free = debug-open; takes = λ a v. refl });
   discreet = inr debug-open;
   publicly = λ h s l. refl;
@@ -170,6 +201,7 @@ end-debug-row : Row 2 endDebugRule
 unfolding endDebugged public publicThen
 end-debug-row = record {
   keeps = λ h s l g p. end-debug-proper l g;
+  words = λ h s l n. n;
   guarded = λ u asker e. inl (held u asker e);
   discreet = inr end-debug-open;
   publicly = λ h s l. refl;
@@ -181,25 +213,26 @@ unfolding stopped public
 stop-row =
     quiet-row 3 (plain (λ h s. stopped)) (by-others 3 refl refl refl) held
     (λ h s l. by-public (moving (l .process .run)) _ l _ (public-replanted l) refl)
+    (λ h s l n. by-cond count (moving (l .process .run)) _ l 9 (count-replanted l ∙ n) n)
     (λ h s l g p. stop-proper l g)
 
 deposit-row : Row 4 (inRange (upTo 4096) (λ h s. deposited (h .arg1) s))
 unfolding deposited public
 deposit-row =
-    quiet-row 4 (inRange (upTo 4096) (λ h s. deposited (h .arg1) s)) (by-others 4 refl refl refl) held (λ h s l. refl)
+    quiet-row 4 (inRange (upTo 4096) (λ h s. deposited (h .arg1) s)) (by-others 4 refl refl refl) held (λ h s l. refl) (λ h s l n. n)
     (λ h s l g p. deposit-proper l g (h .arg1) s (omega (arith, leb-true (h .arg1 + h .arg2) 4096 (p .range), p .carried)))
 
 resume-row : Row 5 (whileRun stoppedOrAtBreak (λ h s. resumed))
 unfolding public
-resume-row = quiet-row 5 (whileRun stoppedOrAtBreak (λ h s. resumed)) (by-others 5 refl refl refl) held (λ h s l. refl) (λ h s l g p. resume-proper l g)
+resume-row = quiet-row 5 (whileRun stoppedOrAtBreak (λ h s. resumed)) (by-others 5 refl refl refl) held (λ h s l. refl) (λ h s l n. n) (λ h s l g p. resume-proper l g)
 
 examine-row : Row 6 examineRule
-examine-row = quiet-row 6 examineRule (by-others 6 refl refl refl) held (λ h s l. refl) (λ h s l g p. g)
+examine-row = quiet-row 6 examineRule (by-others 6 refl refl refl) held (λ h s l. refl) (λ h s l n. n) (λ h s l g p. g)
 
 vector-row : Row 7 (inRange (upTo 18) (λ h s. vectorDeposited (h .arg1) s))
-unfolding public
+unfolding public vectorAfter vectorOf
 vector-row =
-    quiet-row 7 (inRange (upTo 18) (λ h s. vectorDeposited (h .arg1) s)) (by-others 7 refl refl refl) held (λ h s l. refl) (λ h s l g p. vector-proper _ l g)
+    quiet-row 7 (inRange (upTo 18) (λ h s. vectorDeposited (h .arg1) s)) (by-others 7 refl refl refl) held (λ h s l. refl) (λ h s l n. refl) (λ h s l g p. vector-proper _ l g)
 
 -- where there is none at the address there is room
 room-or : (t u : Bool) → t || u ≡ true → t ≡ false → u ≡ true
@@ -211,6 +244,7 @@ unfolding breakSet plantedIn public validBreakAddress
 break-row =
     quiet-row 8 breakRule (by-others 8 refl refl refl) held
     (λ h s l. by-public (hasBreak (h .arg1) (l .process)) _ _ _ refl refl)
+    (λ h s l n. by-cond count (hasBreak (h .arg1) (l .process)) _ _ 9 n n)
     (λ h s l g p.
     let even = eqb-true _ _ (&&-left (eqb (h .arg1 % 2) 0) _ (p .range)) in
     let low = leb-true _ _ (&&-right (eqb (h .arg1 % 2) 0) (leb (h .arg1) 4094) (p .range)) in
@@ -220,13 +254,14 @@ break-row =
 
 unbreak-row : Row 9 unbreakRule
 unfolding breakRemoved removedFrom public
-unbreak-row = quiet-row 9 unbreakRule (by-others 9 refl refl refl) held (λ h s l. refl) (λ h s l g p. unbreak-proper l g (h .arg1) (p .found))
+unbreak-row = quiet-row 9 unbreakRule (by-others 9 refl refl refl) held (λ h s l. refl) (λ h s l n. n) (λ h s l g p. unbreak-proper l g (h .arg1) (p .found))
 
 step-row : Row 10 (whileRun stoppedOrAtBreak (λ h s. stepped))
 unfolding stepped public
 step-row =
     quiet-row 10 (whileRun stoppedOrAtBreak (λ h s. stepped)) (by-others 10 refl refl refl) held
     (λ h s l. by-public (atBreak (l .process .run)) _ l _ (public-liftedAt (pc (l .process)) l) refl)
+    (λ h s l n. by-cond count (atBreak (l .process .run)) _ l 9 (count-liftedAt (pc (l .process)) l ∙ n) n)
     (λ h s l g p. step-proper l g (p .runs))
 
 proceed-row : Row 11 (whileRun atBreak (λ h s. proceeded))
@@ -234,6 +269,7 @@ unfolding proceeded public
 proceed-row =
     quiet-row 11 (whileRun atBreak (λ h s. proceeded)) (by-others 11 refl refl refl) held
     (λ h s l. public-liftedAt (pc (l .process)) l)
+    (λ h s l n. count-liftedAt (pc (l .process)) l ∙ n)
     (λ h s l g p. proceed-proper l g (p .runs))
 
 destroy-open : Open (plain (λ h s. destroyed))
@@ -243,6 +279,7 @@ destroy-row : Row 13 (plain (λ h s. destroyed))
 unfolding publicThen public cleared fresh
 destroy-row = record {
   keeps = λ h s l g p. destroy-proper l g;
+  words = λ h s l n. refl;
   guarded = λ u asker e. inl (held u asker e);
   discreet = inr destroy-open;
   publicly = λ h s l. refl;

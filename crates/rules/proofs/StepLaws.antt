@@ -1,16 +1,17 @@
 -- One call on a sound state: it is refused, goes to no process, or changes one process; the state after it is sound. Assumes nothing.
-use mathlib.Core.Path.{_≡_, refl, sym, subst}
+use mathlib.Core.Path.{_≡_, refl, sym, ap, _∙_, subst}
+use mathlib.Core.Bool.{Bool, true, false}
 use mathlib.Core.List.{List}
-use Prim.Native.Nat.{ℕ}
-use borrow.Author.Tests.{eqb-true}
+use Prim.Native.Nat.{ℕ, _<_}
+use borrow.Author.Tests.{eqb-true, eqb-false}
 use lib.Dec.{eqb}
 use Rattle.format.specs.Outcome.{firstFailing}
-use Rattle.process.specs.Local.{Proper}
+use Rattle.process.specs.Local.{Local, Proper}
 use Rattle.rules.specs.Tests.{State}
 use Rattle.rules.specs.Access.{Access, Place, nowhere, atProcess, numberAt, grants, refuses, reached, taken}
 use Rattle.rules.specs.Step.{StepResult, localOf, put, Call, step}
 use Rattle.rules.specs.Turn.{turnOf, bufferOf}
-use Rattle.rules.specs.Ready.{Ready}
+use Rattle.rules.specs.Ready.{Ready, NineWords, Worded, Typed}
 use Rattle.rules.proofs.StateLaws.{local-proper, Changed, put-changed, put-ready}
 pub use Rattle.rules.proofs.NumberLaws.{by-test}
 use Rattle.rules.proofs.CallLaws.{There, Nowhere, Placed}
@@ -56,3 +57,27 @@ step-ready s r c = go (done s r c)
     go (stays number bytes e) = rw e r
     go (idles bytes n e) = rw e r
     go (acts p a t z e) = rw e (acts-ready s r c p a t z)
+
+-- every vector keeps its nine words
+module _ (s : State) (r : Ready s) (w : Worded s) (c : Call) (typed : Typed c) where
+  acts-worded : (p : ℕ) (a : Access) → There s c p a → numberAt a (localOf s p) ≡ 0 → Worded (put p (a .effect (localOf s p)) s)
+  acts-worded p a t z q h = go (eqb q p) refl
+    where
+      after : State
+      after = put p (a .effect (localOf s p)) s
+
+      changed : Changed s after p (a .effect (localOf s p))
+      changed = acts-changed s r c p a t z
+
+      go : (b : Bool) → eqb q p ≡ b → NineWords (localOf after q .process)
+      go true e =
+          subst (λ (l : Local). NineWords (l .process)) (sym (ap (localOf after) (eqb-true q p e) ∙ changed .here)) (t .words typed (localOf s p) (w p (t .low)))
+      go false e = subst (λ (l : Local). NineWords (l .process)) (sym (changed .else q h (eqb-false q p e))) (w q h)
+
+  pub step-worded : Worded (step s c .after)
+  step-worded = go (done s r c)
+    where
+      go : Done s c (step s c) → Worded (step s c .after)
+      go (stays number bytes e) = rw e w
+      go (idles bytes n e) = rw e w
+      go (acts p a t z e) = rw e (acts-worded p a t z)

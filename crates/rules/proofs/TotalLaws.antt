@@ -23,7 +23,7 @@ use Rattle.rules.specs.Isolation.{isGranted}
 use Rattle.rules.specs.Total.{testsOf, First, cantOver, Total}
 use Rattle.rules.proofs.TurnLaws.{placeNumber, turnNumber}
 use Rattle.rules.proofs.LawfulLaws.{lawful}
-use Rattle.rules.proofs.StepLaws.{by-test, step-ready}
+use Rattle.rules.proofs.StepLaws.{by-test, step-ready, step-worded}
 
 -- ---- the first test that fails
 
@@ -123,4 +123,5 @@ total = record {
   request-past = λ s m buffer. told s (request m buffer) .past;
   report-past = λ s p kind reason words buffer. told s (report p kind reason words buffer) .past;
   sound-stays = step-ready;
+  words-stay = step-worded;
 }

@@ -1,11 +1,15 @@
--- The states that the theorems speak of.
+-- The states and calls that the theorems speak of.
 use mathlib.Core.Path.{_≡_}
 use mathlib.Core.Bool.{true}
+use Prim.Native.Nat.{ℕ, _<_}
 use lib.ListN.{length}
+use Rattle.process.specs.declared.record.Process.{Process}
+use Rattle.process.specs.Sizes.{vectorWords}
 use Rattle.state.specs.Records.{soundTest}
 use Rattle.state.specs.Slot.{capacity}
 use Rattle.state.specs.Theorems.{EightEntries}
-use Rattle.rules.specs.Tests.{State}
+use Rattle.rules.specs.Tests.{State, recordOf}
+use Rattle.rules.specs.Step.{Call, request, report, store}
 
 -- a sound state; records and entries have the sizes of the code's types, and with another memory every call is refused with 1
 pub record Ready (s : State) : Type 0 where
@@ -13,3 +17,17 @@ pub record Ready (s : State) : Type 0 where
   pub processes : length (s .records .processes) ≡ 8
   pub entries : EightEntries (s .records)
   pub sound : soundTest (s .records) ≡ true
+
+-- 'A state vector is the nine words', as it is in every record of the code
+abbrev pub NineWords : Process → Type 0
+NineWords p = length (p .vector) ≡ vectorWords
+
+-- so it is in every process of a state
+abbrev pub Worded : State → Type 0
+Worded s = (p : ℕ) → p < 8 → NineWords (recordOf s p)
+
+-- a call as the code's types allow it: a report has 'nine words'
+unfoldable pub Typed : Call → Type 0
+Typed (request m buffer) = Unit {0}
+Typed (report p kind reason words buffer) = length words ≡ vectorWords
+Typed (store p a v) = Unit {0}

@@ -14,7 +14,7 @@ use Rattle.format.specs.Answer.{cantOf}
 use Rattle.rules.specs.Tests.{State, requestTests, reportTests}
 use Rattle.rules.specs.Step.{Call, request, report, store, requestStep, reportStep, step}
 use Rattle.rules.specs.Turn.{bufferOf}
-use Rattle.rules.specs.Ready.{Ready}
+use Rattle.rules.specs.Ready.{Ready, Worded, Typed}
 use Rattle.rules.specs.Isolation.{isGranted}
 
 -- the tests of a call, in their order; a store has none
@@ -69,3 +69,5 @@ pub record Total : Type 0 where
       → drop n (reportStep p kind reason words buffer s .answer .buffer) ≡ drop n buffer
   -- a sound state stays sound
   pub sound-stays : (s : State) → Ready s → (c : Call) → Ready (step s c .after)
+  -- and its vectors have nine words
+  pub words-stay : (s : State) → Ready s → Worded s → (c : Call) → Typed c → Worded (step s c .after)
