@@ -1,48 +1,127 @@
--- Calls of the code, one after another, are a run of the rules. Assumes nothing.
-use mathlib.Core.Path.{_≡_, refl, ap}
+-- The demands hold of calls on bytes, since these are a run of the rules. Assumes nothing.
+use mathlib.Core.Path.{_≡_, refl, sym, ap, _∙_}
+use mathlib.Core.Bool.{Bool, true, false, cond}
 use mathlib.Core.List.{List, [], _∷_}
-use Rattle.rules.specs.Tests.{State}
-use Rattle.rules.specs.Step.{Call, step}
-use Rattle.rules.specs.Run.{TraceItem, traceItem, run}
+use Prim.Native.Nat.{ℕ}
+use lib.ListN.{getD}
+use Rattle.format.specs.declared.outcome.Outcome.{Outcome}
+use Rattle.format.specs.declared.outcome.Outcome.the-variants.{Granted, Refused}
+use Rattle.format.specs.Outcome.{numberOf}
+use Rattle.rules.specs.Tests.{State, noRoom}
+use Rattle.rules.specs.Step.{Call, request, report, store, step, localOf}
+use Rattle.rules.specs.Turn.{bufferOf}
+use Rattle.rules.specs.Run.{TraceItem, run, leave}
+use Rattle.rules.specs.Total.{oneOf, numbersOf}
+use Rattle.rules.specs.Isolation.{isGranted, heard, theirs}
 use Rattle.rules.specs.Outsider.{Outsiders}
 use Rattle.rules.proofs.TotalLaws.{total}
 use Rattle.rules.proofs.RightsLaws.{rights}
 use Rattle.rules.proofs.ListLaws.{claim}
 use Rattle.rules.proofs.DebuggerLaws.{debuggers}
 use Rattle.rules.proofs.OutsiderLaws.{outsider}
-use Rattle.gateway.specs.Demands.{DidStep, Done, Demands}
+use Rattle.state_bytes.specs.State.{stateOf, stateFormed, stateSound}
+use Rattle.gateway.specs.Called.{Called, finished, lentOn, refusedBy, callOn, machineStored, Did}
+use Rattle.gateway.specs.Sequence.{Begins, Made, readFrom}
+use Rattle.gateway.specs.Demands.{TotalOnBytes, ListsOnBytes, Demands}
+use Rattle.gateway.proofs.LentLaws.{request-unfit, report-unfit}
+use Rattle.gateway.proofs.SequenceLaws.{did-begins, done-run, fresh-begins, passed-begins}
 
-did-after : (s : State) (c : Call) (e : TraceItem) → DidStep s c e → e .after ≡ step s c .after
-did-after s c e d =
-    let same : e .after ≡ record { records = step s c .after .records; memory = step s c .after .memory } = rw (← d .records, ← d .memory) in
-    same
+-- ---- demand 1 on any bytes
 
-did-answer : (s : State) (c : Call) (e : TraceItem) → DidStep s c e → e .answer ≡ step s c .answer
-did-answer s c e d =
-    let same : e .answer ≡ record { outcome = step s c .answer .outcome; buffer = step s c .answer .buffer } = rw (← d .outcome, ← d .buffer) in
-    same
+-- a call that was answered with a number of its list, and that changed nothing if it was refused
+record Answered (state memory : List ℕ) (numbers : List ℕ) (x : Called) : Type 0 where
+  listed : oneOf numbers (numberOf (x .outcome)) ≡ true
+  refused : (numberOf (x .outcome) ≡ 0 → ⊥) → (x .state ≡ state) × (x .memory ≡ memory)
 
-did-traceItem : (s : State) (c : Call) (e : TraceItem) → DidStep s c e → e ≡ traceItem s c
-did-traceItem s c e d = rw (← did-answer s c e d, ← did-after s c e d, ← d .call)
+-- bytes that are no state's are refused with 1 or 2
+unformed : (state memory buffer numbers : List ℕ) → oneOf numbers 1 ≡ true → oneOf numbers 2 ≡ true → stateFormed state ≡ false
+    → Answered state memory numbers (refusedBy (lentOn state memory buffer) state memory buffer)
+unfolding lentOn stateSound numberOf
+unformed state memory buffer numbers one two f = record { listed = rw f (go (noRoom memory buffer)); refused = λ n. (refl, refl) }
+  where
+    go : (t : Bool) → oneOf numbers (cond t 1 2) ≡ true
+    go true = one
+    go false = two
 
-done-run : (s : State) (l : List Call) (es : List TraceItem) → Done s l es → es ≡ run s l
-unfolding Done run
-done-run s [] [] d = refl
-done-run s [] (e ∷ es) d = absurd d
-done-run s (c ∷ cs) [] d = absurd d
-done-run s (c ∷ cs) (e ∷ es) d =
-    rw (did-traceItem s c e (d .0)) (ap (λ (xs : List TraceItem). traceItem s c ∷ xs) (done-run (step s c .after) cs es (rw (did-after s c e (d .0)) at (d .1))))
+module _ (state memory : List ℕ) (c : Call) where
+  abbrev s : State
+  s = readFrom state memory
+
+  stays : (numberOf (step s c .answer .outcome) ≡ 0 → ⊥) → isGranted (step s c .answer .outcome) ≡ false
+  unfolding numberOf isGranted
+  stays n = go (step s c .answer .outcome) n (total .granted s c)
+    where
+      go : (o : Outcome) → (numberOf o ≡ 0 → ⊥) → (numberOf o ≡ 0 → isGranted o ≡ true) → isGranted o ≡ false
+      go (Granted k) z g = absurd (z refl)
+      go (Refused k) z g = refl
+
+  formed : Answered state memory (numbersOf c) (finished state (step s c))
+  unfolding finished
+  formed = record {
+    listed = total .listed s c;
+    refused = λ n. (rw (stays n), ap (λ (t : State). t .memory) (total .refused s c n));
+  }
+
+  call-answered : oneOf (numbersOf c) 1 ≡ true → oneOf (numbersOf c) 2 ≡ true → (x : Called) → x ≡ callOn state memory c → Answered state memory (numbersOf c) x
+  unfolding callOn
+  call-answered one two x e = rw e (go (stateFormed state) refl)
+    where
+      go : (t : Bool) → stateFormed state ≡ t → Answered state memory (numbersOf c) (callOn state memory c)
+      go true f = rw f formed
+      go false f = rw f (unformed state memory (bufferOf c) (numbersOf c) one two f)
+
+answered : (state memory : List ℕ) (c : Call) (x : Called) → Did state memory c x → Answered state memory (numbersOf c) x
+unfolding Did numbersOf machineStored numberOf
+answered state memory (request m buffer) x d = call-answered state memory (request m buffer) refl refl x d
+answered state memory (report p kind reason words buffer) x d = call-answered state memory (report p kind reason words buffer) refl refl x d
+answered state memory (store p a v) x d = rw d (record { listed = refl; refused = λ n. absurd (n refl) })
+
+total-on-bytes : TotalOnBytes
+unfolding Did
+total-on-bytes = record {
+  listed = λ state memory c x d. answered state memory c x d .listed;
+  refused = λ state memory c x d. answered state memory c x d .refused;
+  unfit-request = λ state memory m buffer x d n. d ∙ sym (request-unfit state memory buffer m (lentOn state memory buffer) refl n);
+  unfit-report = λ state memory p kind reason words buffer x d n.
+      d ∙ sym (report-unfit state memory buffer p kind reason words (lentOn state memory buffer) refl n);
+}
+
+-- ---- lists
+
+-- calls that are a run of the rules, however they are made
+module _ (made : List ℕ → List ℕ → List Call → List TraceItem → Type 0)
+    (runs : (state memory : List ℕ) → Begins state memory → (l : List Call) (es : List TraceItem) → made state memory l es → es ≡ run (readFrom state memory) l) where
+  one-after : (state memory : List ℕ) → Begins state memory → (c : Call) (e : TraceItem) → made state memory (c ∷ []) (e ∷ []) → e .after ≡ step (readFrom state memory) c .after
+  unfolding run
+  one-after state memory b c e m = ap (λ (es : List TraceItem). getD es 0 e .after) (runs state memory b (c ∷ []) (e ∷ []) m)
+
+  pub lists-on-bytes : ListsOnBytes made
+  lists-on-bytes = record {
+    runs = runs;
+    changes = λ state memory b c e m p low none.
+        ap (λ (after : State). localOf after p) (one-after state memory b c e m) ∙ rights .changes (readFrom state memory) (b .ready) c p low none;
+    same-heard = λ H P s₁ m₁ s₂ m₂ b₁ b₂ apart l₁ l₂ alike away es₁ es₂ d₁ d₂.
+        ap (heard H) (runs s₁ m₁ b₁ l₁ es₁ d₁)
+        ∙ claim H P .same-heard (readFrom s₁ m₁) (readFrom s₂ m₂) (b₁ .ready) (b₂ .ready) apart l₁ l₂ alike away
+        ∙ ap (heard H) (sym (runs s₂ m₂ b₂ l₂ es₂ d₂));
+    left-out = λ H P state memory b l away marks es fewer d f.
+        runs state memory b (leave (theirs H P) marks l) fewer f
+        ∙ claim H P .left-out (readFrom state memory) (b .ready) l away marks
+        ∙ ap (leave (λ (i : TraceItem). theirs H P (i .call)) marks) (sym (runs state memory b l es d));
+  }
+
+made-runs : (state memory : List ℕ) → Begins state memory → (l : List Call) (es : List TraceItem) → Made state memory l es → es ≡ run (readFrom state memory) l
+made-runs state memory b l es m = m .trace ∙ done-run state memory b l (m .typed) (m .answers) (m .done)
 
 outsiders : Outsiders
 unfolding Outsiders
 outsiders = outsider
 
 pub demands : Demands
-unfolding step
 demands = record {
-  requests = λ s m buffer. refl;
-  reports = λ s p kind reason words buffer. refl;
-  runs = done-run;
+  starts = record { fresh = λ there state memory long. fresh-begins there long state memory; passed = passed-begins; after = did-begins };
+  total-on-bytes = total-on-bytes;
+  lists = lists-on-bytes Made made-runs;
   total = total;
   rights = rights;
   isolation = record { debuggers = debuggers; claim = claim };

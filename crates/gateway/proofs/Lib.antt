@@ -6,4 +6,5 @@ pub mod ReportLaws
 pub mod LentLaws
 pub mod FinishLaws
 pub mod LengthLaws
+pub mod SequenceLaws
 pub mod DemandLaws

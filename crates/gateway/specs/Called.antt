@@ -1,7 +1,7 @@
 -- A call on a state that is kept as bytes: what it answers, and state, memory and output buffer after it.
 use mathlib.Core.Path.{_≡_}
 use mathlib.Core.Bool.{Bool, cond}
-use mathlib.Core.List.{List}
+use mathlib.Core.List.{List, []}
 use Prim.Native.Nat.{ℕ}
 use lib.ListN.{length}
 use lib.Dec.{eqb}
@@ -9,7 +9,7 @@ use Rattle.format.specs.declared.outcome.Outcome.{Outcome}
 use Rattle.format.specs.declared.outcome.Outcome.the-variants.{Granted, Refused}
 use Rattle.state.specs.Records.{freshStart}
 use Rattle.rules.specs.Tests.{lent, noRoom}
-use Rattle.rules.specs.Step.{StepResult, Call, step}
+use Rattle.rules.specs.Step.{StepResult, Call, request, report, store, stored, step}
 use Rattle.rules.specs.Turn.{bufferOf}
 use Rattle.rules.specs.Isolation.{isGranted}
 use Rattle.state_bytes.specs.Widths.{stateWidth}
@@ -45,9 +45,15 @@ callOn state memory c =
     cond (stateFormed state) (finished state (step (lent (stateOf state) memory) c))
     (refusedBy (lentOn state memory (bufferOf c)) state memory (bufferOf c))
 
--- a call of the code on these bytes of a state and this memory answered and left this
+-- what the machine leaves when it stores a byte: it changes memory alone and is told nothing
+unfoldable pub machineStored : ℕ → ℕ → ℕ → List ℕ → List ℕ → Called
+machineStored p a v state memory = called (Granted 0) state (stored p a v (lent (stateOf state) memory) .memory) []
+
+-- a call of the code on these bytes of a state and this memory answered and left this; or the machine stored a byte
 unfoldable pub Did : List ℕ → List ℕ → Call → Called → Type 0
-Did state memory c x = x ≡ callOn state memory c
+Did state memory (request m buffer) x = x ≡ callOn state memory (request m buffer)
+Did state memory (report p kind reason words buffer) x = x ≡ callOn state memory (report p kind reason words buffer)
+Did state memory (store p a v) x = x ≡ machineStored p a v state memory
 
 -- what a fresh start answers, and the bytes of the state after it
 pub record StartResult : Type 0 where

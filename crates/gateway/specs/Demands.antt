@@ -1,38 +1,70 @@
--- The demands of document 01 on the step that this crate's calls take: `Did` (Called) ties each call's bytes to it, these are its theorems.
+-- The demands of document 01 on the calls of this crate, over lists of any length and on the bytes that the calls are given.
 use mathlib.Core.Path.{_≡_}
+use mathlib.Core.Bool.{Bool, true}
 use mathlib.Core.List.{List, [], _∷_}
-use Prim.Native.Nat.{ℕ}
-use Rattle.rules.specs.Tests.{State}
-use Rattle.rules.specs.Step.{Call, request, report, requestStep, reportStep, step}
-use Rattle.rules.specs.Run.{TraceItem, run}
-use Rattle.rules.specs.Total.{Total}
-use Rattle.rules.specs.Rights.{Rights}
-use Rattle.rules.specs.Isolation.{Isolation}
+use Prim.Native.Nat.{ℕ, _<_}
+use lib.ListN.{length}
+use Rattle.format.specs.Outcome.{numberOf}
+use Rattle.state.specs.Slot.{capacity}
+use Rattle.rules.specs.Step.{Call, request, report, localOf}
+use Rattle.rules.specs.Ready.{Typed}
+use Rattle.rules.specs.Run.{TraceItem, run, leave}
+use Rattle.rules.specs.Total.{Total, oneOf, numbersOf}
+use Rattle.rules.specs.Rights.{Rights, MayChange}
+use Rattle.rules.specs.Isolation.{Isolation, Hosts, Processes, Alike, Apart, NeverDebugs, heard, theirs}
 use Rattle.rules.specs.Outsider.{Outsiders}
+use Rattle.state_bytes.specs.Widths.{stateWidth}
+use Rattle.gateway.specs.Called.{Called, Did, lentOn, refusedBy, startOn}
+use Rattle.gateway.specs.Sequence.{Begins, Made, readFrom}
 
--- one step with what it answered and left, in records
-pub record DidStep (s : State) (c : Call) (e : TraceItem) : Type 0 where
-  pub call : e .call ≡ c
-  pub outcome : e .answer .outcome ≡ step s c .answer .outcome
-  pub buffer : e .answer .buffer ≡ step s c .answer .buffer
-  pub records : e .after .records ≡ step s c .after .records
-  pub memory : e .after .memory ≡ step s c .after .memory
+-- where lists begin
+pub record Starts : Type 0 where
+  -- after a fresh start, with a memory of the right size
+  pub fresh : (there : List Bool) (state memory : List ℕ) → length there ≡ 8 → length state ≡ stateWidth → length memory ≡ capacity
+      → Begins (startOn there state .state) memory
+  -- wherever the tests 1 and 2 pass
+  pub passed : (state memory buffer : List ℕ) → lentOn state memory buffer ≡ 0 → Begins state memory
+  -- and after each call of a list
+  pub after : (state memory : List ℕ) → Begins state memory → (c : Call) → Typed c → (x : Called) → Did state memory c x → Begins (x .state) (x .memory)
 
--- steps one after another, each on the records and memory that the one before it left
-unfoldable pub Done : State → List Call → List TraceItem → Type 0
-Done s [] [] = Unit {0}
-Done s [] (e ∷ es) = ⊥
-Done s (c ∷ cs) [] = ⊥
-Done s (c ∷ cs) (e ∷ es) = DidStep s c e × Done (e .after) cs es
+-- demand 1 of a call, on any bytes at all
+pub record TotalOnBytes : Type 0 where
+  -- 'Numbers returned': every number is one of the list
+  pub listed : (state memory : List ℕ) (c : Call) (x : Called) → Did state memory c x → oneOf (numbersOf c) (numberOf (x .outcome)) ≡ true
+  -- 'State and memory are unchanged by a refusal'
+  pub refused : (state memory : List ℕ) (c : Call) (x : Called) → Did state memory c x → (numberOf (x .outcome) ≡ 0 → ⊥)
+      → (x .state ≡ state) × (x .memory ≡ memory)
+  -- tests 1 and 2: 'nothing' is written where one fails, and no call does more
+  pub unfit-request : (state memory m buffer : List ℕ) (x : Called) → Did state memory (request m buffer) x → (lentOn state memory buffer ≡ 0 → ⊥)
+      → x ≡ refusedBy (lentOn state memory buffer) state memory buffer
+  pub unfit-report : (state memory : List ℕ) (p kind reason : ℕ) (words buffer : List ℕ) (x : Called)
+      → Did state memory (report p kind reason words buffer) x → (lentOn state memory buffer ≡ 0 → ⊥)
+      → x ≡ refusedBy (lentOn state memory buffer) state memory buffer
 
--- the demands hold of the step and of its runs
+-- what holds of lists of calls on bytes, however they are made: `made state memory calls trace` says that they were, and what came of it
+pub record ListsOnBytes (made : List ℕ → List ℕ → List Call → List TraceItem → Type 0) : Type 0 where
+  -- they are a run of the rules, so that whatever holds of runs holds of them
+  pub runs : (state memory : List ℕ) → Begins state memory → (l : List Call) (es : List TraceItem) → made state memory l es
+      → es ≡ run (readFrom state memory) l
+  -- a call changes no process but by the rights
+  pub changes : (state memory : List ℕ) → Begins state memory → (c : Call) (e : TraceItem) → made state memory (c ∷ []) (e ∷ []) → (p : ℕ) → p < 8
+      → (MayChange p (readFrom state memory) c → ⊥) → localOf (e .after) p ≡ localOf (readFrom state memory) p
+  -- demand 3, part one: what these hosts are answered is the same in both gateways
+  pub same-heard : (H : Hosts) (P : Processes) (state₁ memory₁ state₂ memory₂ : List ℕ) → Begins state₁ memory₁ → Begins state₂ memory₂
+      → Apart P (readFrom state₁ memory₁) (readFrom state₂ memory₂)
+      → (l₁ l₂ : List Call) → Alike H P l₁ l₂ → NeverDebugs H P (readFrom state₁ memory₁) l₁
+      → (es₁ es₂ : List TraceItem) → made state₁ memory₁ l₁ es₁ → made state₂ memory₂ l₂ es₂ → heard H es₁ ≡ heard H es₂
+  -- part two: without some or all of their requests that name one of the processes, every other call answers and leaves the same
+  pub left-out : (H : Hosts) (P : Processes) (state memory : List ℕ) → Begins state memory → (l : List Call) → NeverDebugs H P (readFrom state memory) l
+      → (marks : List Bool) (es fewer : List TraceItem) → made state memory l es → made state memory (leave (theirs H P) marks l) fewer
+      → fewer ≡ leave (λ (e : TraceItem). theirs H P (e .call)) marks es
+
+-- the demands hold of the calls
 pub record Demands : Type 0 where
-  -- the two kinds of call have one step
-  pub requests : (s : State) (m buffer : List ℕ) → step s (request m buffer) ≡ requestStep m buffer s
-  pub reports : (s : State) (p kind reason : ℕ) (words buffer : List ℕ) → step s (report p kind reason words buffer) ≡ reportStep p kind reason words buffer s
-  -- steps one after another are a run of the rules
-  pub runs : (s : State) (l : List Call) (es : List TraceItem) → Done s l es → es ≡ run s l
-  -- demand 1
+  pub starts : Starts
+  pub total-on-bytes : TotalOnBytes
+  pub lists : ListsOnBytes Made
+  -- the rules that the lists are runs of: demand 1
   pub total : Total
   -- no host beside another, and none that takes a process from another
   pub rights : Rights

@@ -2,4 +2,5 @@
 pub mod Stage
 pub mod Called
 pub mod Lengths
+pub mod Sequence
 pub mod Demands

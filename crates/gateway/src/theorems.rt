@@ -3,8 +3,9 @@
 ghost use Rattle.gateway.specs.Demands.{Demands};
 ghost use Rattle.gateway.specs.Lengths.{Lengths};
 
-// Steps on records, one after another, are a run of the rules; demand 1, the rights and demand 3 hold of every run. That each call is
-// such a step on the records that its bytes stand for is the contract of `request` and of `report`.
+// Calls of this crate on bytes, one after another with stores by the machine between them, are a run of the rules, from a fresh start or
+// wherever the tests 1 and 2 pass; so demand 1, the rights and demand 3 hold of them. What one call answers and leaves is `Did`, which the
+// contracts of `request` and `report` ensure.
 pub fn demands()
     ensures { λ _. ⌜ Demands ⌝ }
 {}

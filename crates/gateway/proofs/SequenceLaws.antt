@@ -1,0 +1,184 @@
+-- Calls on bytes, one after another, are a run of the rules. Assumes nothing.
+use mathlib.Core.Path.{_≡_, refl, sym, ap, ap₂, _∙_, subst}
+use mathlib.Core.Bool.{Bool, true, false, cond, _&&_, true≢false}
+use mathlib.Core.List.{List, [], _∷_, map}
+use Prim.Native.Nat.{ℕ, zero, suc, _<_}
+use native.Mathlib.Nat.{not-suc-le-zero}
+use native.Mathlib.Omega.{arith}
+use borrow.Author.Tests.{eqb-true, eq-eqb}
+use lib.ListN.{length, getD}
+use lib.Seq.{set-getD}
+use lib.Dec.{eqb, ltb}
+use Rattle.lists.specs.Word.{vectorOf}
+use Rattle.lists.proofs.Bool.{&&-left, &&-right}
+use Rattle.format.specs.declared.outcome.Outcome.{Outcome}
+use Rattle.format.specs.Outcome.{numberOf}
+use Rattle.run_state.specs.declared.Run.the-variants.{Running}
+use Rattle.process.specs.declared.record.Process.{Process}
+use Rattle.process.specs.Record.{fresh}
+use Rattle.state.specs.Records.{Records, nobody, processAt, freshStart, soundTest, SoundState}
+use Rattle.state.specs.Slot.{capacity}
+use Rattle.state.specs.Theorems.{EightEntries, FreshIsSound}
+use Rattle.state.proofs.RecordsLaws.{state-passes, fresh-is-sound}
+use Rattle.rules.specs.Tests.{State, lent, noRoom}
+use Rattle.rules.specs.Step.{Answer, StepResult, Call, request, report, store, stored, put, step}
+use Rattle.rules.specs.Ready.{Ready, Worded, Typed}
+use Rattle.rules.specs.Run.{TraceItem, traceItem, run}
+use Rattle.rules.specs.Isolation.{isGranted}
+use Rattle.rules.proofs.StepLaws.{by-test}
+use Rattle.rules.proofs.TotalLaws.{total}
+use Rattle.state_bytes.specs.Chunk.{chunks}
+use Rattle.state_bytes.specs.Process.{processOf}
+use Rattle.state_bytes.specs.Entry.{entryOf}
+use Rattle.state_bytes.specs.State.{stateBytes, stateOf, stateFormed, stateSound}
+use Rattle.state_bytes.specs.Theorems.{Sized}
+use Rattle.state_bytes.specs.Widths.{processCount, processWidth, stateWidth}
+use Rattle.state_bytes.proofs.ChunkLaws.{length-chunks, getD-chunks}
+use Rattle.state_bytes.proofs.StateLaws.{inverse, eight-at}
+use Rattle.gateway.specs.Called.{Called, called, finished, callOn, machineStored, lentOn, startOn, Did}
+use Rattle.gateway.specs.Sequence.{Begins, Done, AllTyped, item, items, readFrom}
+use Rattle.gateway.proofs.LentLaws.{lent-formed, lent-fits}
+
+-- ---- what is read from any bytes has the sizes of the code's types
+
+process-sizes : (m : List ℕ) → (length (processOf m .vector) ≡ 9) × (length (processOf m .breaks) ≡ 8)
+unfolding processOf vectorOf chunks
+process-sizes m = (refl, refl)
+
+at-sizes : (m : List ℕ) (p : ℕ) → p < 8 → (length (processAt (stateOf m) p .vector) ≡ 9) × (length (processAt (stateOf m) p .breaks) ≡ 8)
+unfolding stateOf
+at-sizes m p h = rw (getD-chunks processWidth processOf processCount p m nobody h) (process-sizes _)
+
+pub read-worded : (state memory : List ℕ) → Worded (readFrom state memory)
+read-worded state memory p h = at-sizes state p h .0
+
+pub read-eight : (state : List ℕ) → EightEntries (stateOf state)
+read-eight state p h = at-sizes state p h .1
+
+sized-of : (s : State) → Ready s → Worded s → Sized (s .records)
+sized-of s r w = record { processes = r .processes; vectors = w; entries = r .entries }
+
+-- ---- one call
+
+-- a call that answered and left what the step does
+pub record Follows (state memory : List ℕ) (c : Call) (x : Called) : Type 0 where
+  pub answer : item c x .answer ≡ step (readFrom state memory) c .answer
+  pub after : readFrom (x .state) (x .memory) ≡ step (readFrom state memory) c .after
+  pub formed : stateFormed (x .state) ≡ true
+
+module _ (state memory : List ℕ) (b : Begins state memory) (c : Call) (typed : Typed c) where
+  abbrev s : State
+  s = readFrom state memory
+
+  abbrev y : StepResult
+  y = step s c
+
+  sized : Sized (y .after .records)
+  sized = sized-of (y .after) (total .sound-stays s (b .ready) c) (total .words-stay s (b .ready) (read-worded state memory) c typed)
+
+  -- a refused step leaves the state
+  unmoved : isGranted (y .answer .outcome) ≡ false → y .after ≡ s
+  unmoved e = total .refused s c (λ z. true≢false (sym (total .granted s c z) ∙ e))
+
+  left : (t : Bool) → isGranted (y .answer .outcome) ≡ t
+      → (lent (stateOf (cond t (stateBytes (y .after .records)) state)) (y .after .memory) ≡ y .after) × (stateFormed (cond t (stateBytes (y .after .records)) state) ≡ true)
+  left true e = (ap (λ (g : Records). lent g (y .after .memory)) (inverse .written-is-read (y .after .records) sized), inverse .written-is-formed (y .after .records) sized)
+  left false e = (ap (λ (t : State). lent (s .records) (t .memory)) (unmoved e) ∙ sym (unmoved e), b .formed)
+
+  finished-follows : (x : Called) → x ≡ finished state y → Follows state memory c x
+  unfolding finished
+  finished-follows x e = rw e (record {
+    answer = refl;
+    after = left (isGranted (y .answer .outcome)) refl .0;
+    formed = left (isGranted (y .answer .outcome)) refl .1;
+  })
+
+  call-follows : (x : Called) → x ≡ callOn state memory c → Follows state memory c x
+  unfolding callOn
+  call-follows x e = finished-follows x (rw (b .formed) at e)
+
+-- the records stay when the machine stores
+stored-records : (p a v : ℕ) (before : State) → stored p a v before .records ≡ before .records
+unfolding stored put
+stored-records p a v before = by-test (λ (t : State). t .records ≡ before .records) (ltb p 8) (λ e. ap (λ (ps : List Process). record { processes = ps }) (set-getD (before .records .processes) p nobody)) (λ e. refl)
+
+store-follows : (state memory : List ℕ) → Begins state memory → (p a v : ℕ) (x : Called) → x ≡ machineStored p a v state memory → Follows state memory (store p a v) x
+unfolding machineStored step
+store-follows state memory b p a v x e = rw e (record {
+  answer = refl;
+  after = ap (λ (g : Records). lent g (stored p a v (readFrom state memory) .memory)) (sym (stored-records p a v (readFrom state memory)));
+  formed = b .formed;
+})
+
+pub did-follows : (state memory : List ℕ) → Begins state memory → (c : Call) → Typed c → (x : Called) → Did state memory c x → Follows state memory c x
+unfolding Did
+did-follows state memory b (request m buffer) t x d = call-follows state memory b (request m buffer) t x d
+did-follows state memory b (report p kind reason words buffer) t x d = call-follows state memory b (report p kind reason words buffer) t x d
+did-follows state memory b (store p a v) t x d = store-follows state memory b p a v x d
+
+-- ---- whole lists
+
+pub did-begins : (state memory : List ℕ) → Begins state memory → (c : Call) → Typed c → (x : Called) → Did state memory c x → Begins (x .state) (x .memory)
+did-begins state memory b c t x d =
+    let f = did-follows state memory b c t x d in
+    record { formed = f .formed; ready = subst Ready (sym (f .after)) (total .sound-stays (readFrom state memory) (b .ready) c) }
+
+pub done-run : (state memory : List ℕ) → Begins state memory → (l : List Call) → AllTyped l → (xs : List Called) → Done state memory l xs → items l xs ≡ run (readFrom state memory) l
+unfolding Done AllTyped items run
+done-run state memory b [] ts [] d = refl
+done-run state memory b [] ts (x ∷ xs) d = absurd d
+done-run state memory b (c ∷ cs) ts [] d = absurd d
+done-run state memory b (c ∷ cs) ts (x ∷ xs) d =
+    let f = did-follows state memory b c (ts .0) x (d .0) in
+    let rest = done-run (x .state) (x .memory) (did-begins state memory b c (ts .0) x (d .0)) cs (ts .1) xs (d .1) in
+    let here : item c x ≡ traceItem (readFrom state memory) c = ap₂ (λ (a : Answer) (t : State). record { call = c; answer = a; after = t }) (f .answer) (f .after) in
+    ap₂ (λ (e : TraceItem) (es : List TraceItem). e ∷ es) here (rest ∙ ap (λ (t : State). run t cs) (f .after))
+
+-- ---- where lists begin
+
+fresh-many : (ts : List Bool) → length (map (λ (t : Bool). fresh t 0 Running) ts) ≡ length ts
+fresh-many [] = refl
+fresh-many (t ∷ ts) = ap suc (fresh-many ts)
+
+fresh-sizes : (ts : List Bool) (p : ℕ) → p < length ts
+    → (length (getD (map (λ (t : Bool). fresh t 0 Running) ts) p nobody .vector) ≡ 9) × (length (getD (map (λ (t : Bool). fresh t 0 Running) ts) p nobody .breaks) ≡ 8)
+unfolding fresh
+fresh-sizes [] p h = absurd (not-suc-le-zero h)
+fresh-sizes (t ∷ ts) zero h = (refl, refl)
+fresh-sizes (t ∷ ts) (suc p) h = fresh-sizes ts p (omega arith)
+
+module _ (ts : List Bool) (long : length ts ≡ 8) where
+  fresh-sized : Sized (freshStart ts)
+  unfolding freshStart
+  fresh-sized = record {
+    processes = fresh-many ts ∙ long;
+    vectors = λ p h. fresh-sizes ts p (omega (arith, h, long)) .0;
+    entries = λ p h. fresh-sizes ts p (omega (arith, h, long)) .1;
+  }
+
+  fresh-sound : SoundState (freshStart ts)
+  unfolding FreshIsSound
+  fresh-sound = fresh-is-sound ts long
+
+  fresh-ready : (memory : List ℕ) → length memory ≡ capacity → Ready (lent (freshStart ts) memory)
+  fresh-ready memory size = record {
+    memory = size;
+    processes = fresh-sized .processes;
+    entries = fresh-sized .entries;
+    sound = state-passes (freshStart ts) (fresh-sized .entries) fresh-sound;
+  }
+
+  pub fresh-begins : (state memory : List ℕ) → length state ≡ stateWidth → length memory ≡ capacity → Begins (startOn ts state .state) memory
+  unfolding startOn
+  fresh-begins state memory wide size = rw (eq-eqb (length state) stateWidth wide) (record {
+    formed = inverse .written-is-formed (freshStart ts) fresh-sized;
+    ready = subst (λ (g : Records). Ready (lent g memory)) (sym (inverse .written-is-read (freshStart ts) fresh-sized)) (fresh-ready memory size);
+  })
+
+pub passed-begins : (state memory buffer : List ℕ) → lentOn state memory buffer ≡ 0 → Begins state memory
+passed-begins state memory buffer e =
+    let fits = lent-fits state memory buffer e in
+    record {
+      formed = lent-formed state memory buffer e;
+      ready = record { memory = fits .memory; processes = eight-at state; entries = read-eight state; sound = fits .sound };
+    }
