@@ -2,3 +2,4 @@
 pub mod SignLaws
 pub mod ShortLaws
 pub mod ReturnLaws
+pub mod LibraryLaws

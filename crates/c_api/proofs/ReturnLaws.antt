@@ -5,14 +5,10 @@ use Prim.Native.Nat.{ℕ}
 use lib.IntN.{ℤ}
 use Rattle.format.specs.declared.outcome.Outcome.{Outcome}
 use Rattle.rules.specs.Step.{Call}
-use Rattle.gateway.specs.Called.{Called, StartResult, called, started, callOn, Did}
+use Rattle.gateway.specs.Called.{Called, StartResult, called, started, callOn}
 use Rattle.c_api.specs.Called.{signed, Short, Returns, Starts}
 
-module _ (o : Outcome) (state memory buffer before lent : List ℕ) (c : Call) (did : Did before lent c (called o state memory buffer)) where
-  same : called o state memory buffer ≡ callOn before lent c
-  unfolding Did
-  same = did
-
+module _ (o : Outcome) (state memory buffer before lent : List ℕ) (c : Call) (same : called o state memory buffer ≡ callOn before lent c) where
   pub call-short : Short (callOn before lent c .outcome) → Short o
   call-short s = subst Short (sym (ap (λ (x : Called). x .outcome) same)) s
 

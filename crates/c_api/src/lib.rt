@@ -2,3 +2,4 @@
 // the number of the refusal.
 mod calls;
 mod result;
+pub mod theorems;

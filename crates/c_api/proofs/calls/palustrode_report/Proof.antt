@@ -8,6 +8,7 @@ use Rattle.rules.specs.Step.{report}
 use Rattle.c_api.specs.Called.{signed, reportOn}
 use Rattle.c_api.proofs.ShortLaws.{nine-words, report-short}
 use Rattle.c_api.proofs.ReturnLaws.{call-short, call-returns}
+use Rattle.gateway.specs.Called.{Did}
 use borrow.Author.Needs.{needs}
 use Rattle.c_api.proofs.calls.palustrode_report.Statement.{statement}
 use Rattle.c_api.proofs.calls.palustrode_report.Tie as tie
@@ -29,6 +30,7 @@ report-requires : tie.Need-report-requires
 report-requires c κs = search needs
 
 signed-requires : tie.Need-signed-requires
+unfolding Did
 signed-requires c κs =
     let a = c .before .before .before .before .before .before .before .before .before .before .before .before .before .before .before .before .args in
     let w = c .before .before .before .before .before .before .before .before .words-of .result in
@@ -45,7 +47,7 @@ same-length-3 : tie.Need-same-length-3
 same-length-3 c = search needs
 
 returns-2 : tie.Need-returns-2
-unfolding reportOn
+unfolding reportOn Did
 returns-2 c =
     let a = c .before .before .before .before .before .before .before .before .before .before .before .before .before .before .before .before .before .args in
     let same : toZ w64 (ofZ w64 (c .signed .result)) ≡ c .signed .result = search needs in

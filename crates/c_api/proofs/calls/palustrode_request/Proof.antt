@@ -5,6 +5,7 @@ use mir.Val.{toZ, ofZ}
 use Rattle.rules.specs.Step.{request}
 use Rattle.c_api.proofs.ShortLaws.{request-short}
 use Rattle.c_api.proofs.ReturnLaws.{call-short, call-returns}
+use Rattle.gateway.specs.Called.{Did}
 use borrow.Author.Needs.{needs}
 use Rattle.c_api.proofs.calls.palustrode_request.Statement.{statement}
 use Rattle.c_api.proofs.calls.palustrode_request.Tie as tie
@@ -13,6 +14,7 @@ request-requires : tie.Need-request-requires
 request-requires c κs = search needs
 
 signed-requires : tie.Need-signed-requires
+unfolding Did
 signed-requires c κs =
     let a = c .before .before .before .before .before .before .before .before .before .before .before .before .before .before .args in
     call-short _ _ _ _ _ _ (request (a .message .now) (a .reply .now)) (c .before .before .before .before .before .before .request .ensures) (request-short (a .state .now) (a .memory .now) (a .message .now) (a .reply .now))
@@ -27,6 +29,7 @@ same-length-3 : tie.Need-same-length-3
 same-length-3 c = search needs
 
 returns : tie.Need-returns
+unfolding Did
 returns c =
     let a = c .before .before .before .before .before .before .before .before .before .before .before .before .before .before .before .args in
     let same : toZ w64 (ofZ w64 (c .signed .result)) ≡ c .signed .result = search needs in

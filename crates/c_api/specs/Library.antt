@@ -1,0 +1,99 @@
+-- Calls of the library, one after another on the bytes of a state, as the contracts of the exported functions promise them.
+use mathlib.Core.Path.{_≡_}
+use mathlib.Core.List.{List, [], _∷_, map}
+use Prim.Native.Nat.{ℕ, suc}
+use lib.IntN.{ℤ, pos, negsuc}
+use lib.ListN.{length}
+use Rattle.lists.specs.Word.{vectorOf}
+use Rattle.format.specs.declared.outcome.Outcome.{Outcome}
+use Rattle.format.specs.declared.outcome.Outcome.the-variants.{Granted, Refused}
+use Rattle.state.specs.Slot.{capacity}
+use Rattle.rules.specs.Step.{Call, request, report, store}
+use Rattle.rules.specs.Run.{TraceItem}
+use Rattle.state_bytes.specs.Widths.{stateWidth}
+use Rattle.gateway.specs.Called.{callOn, machineStored, startOn}
+use Rattle.gateway.specs.Sequence.{Begins, readFrom}
+use Rattle.gateway.specs.Demands.{ListsOnBytes}
+use Rattle.c_api.specs.Called.{Returns, Starts, reportOn, bitsOf}
+
+-- a call of the library, or a store by the machine between two
+pub data LibraryCall : Type 0 where
+  requested : (message reply : List ℕ) → LibraryCall
+  reported : (process kind reason : ℕ) (words notice : List ℕ) → LibraryCall
+  stored : (process address value : ℕ) → LibraryCall
+
+-- what it returned, and the bytes that it left
+pub record Returned : Type 0 where
+  pub result : ℤ
+  pub state : List ℕ
+  pub memory : List ℕ
+  pub buffer : List ℕ
+
+-- by its contract, or by what the machine does
+unfoldable pub DidReturn : List ℕ → List ℕ → LibraryCall → Returned → Type 0
+DidReturn state memory (requested m reply) y = Returns (callOn state memory (request m reply)) (y .result) (y .state) (y .memory) (y .buffer)
+DidReturn state memory (reported p kind reason words notice) y =
+    Returns (reportOn state memory p kind reason words notice) (y .result) (y .state) (y .memory) (y .buffer)
+DidReturn state memory (stored p a v) y = Returns (machineStored p a v state memory) (y .result) (y .state) (y .memory) (y .buffer)
+
+-- each on the bytes that the one before it left
+unfoldable pub DoneByLibrary : List ℕ → List ℕ → List LibraryCall → List Returned → Type 0
+DoneByLibrary state memory [] [] = Unit {0}
+DoneByLibrary state memory [] (y ∷ ys) = ⊥
+DoneByLibrary state memory (c ∷ cs) [] = ⊥
+DoneByLibrary state memory (c ∷ cs) (y ∷ ys) = DidReturn state memory c y × DoneByLibrary (y .state) (y .memory) cs ys
+
+-- ---- as a run of the rules
+
+-- the call of the rules
+unfoldable pub callOf : LibraryCall → Call
+callOf (requested m reply) = request m reply
+callOf (reported p kind reason words notice) = report p kind reason (vectorOf words) notice
+callOf (stored p a v) = store p a v
+
+-- the nine words of a report are 18 bytes; with others it is refused with 1, and no call of the rules
+unfoldable pub Whole : LibraryCall → Type 0
+Whole (requested m reply) = Unit {0}
+Whole (reported p kind reason words notice) = length words ≡ 18
+Whole (stored p a v) = Unit {0}
+
+-- each of a list
+unfoldable pub AllWhole : List LibraryCall → Type 0
+AllWhole [] = Unit {0}
+AllWhole (c ∷ cs) = Whole c × AllWhole cs
+
+-- the outcome that a returned number tells: the length granted, or minus the number of the refusal
+unfoldable pub outcomeOf : ℤ → Outcome
+outcomeOf (pos n) = Granted n
+outcomeOf (negsuc n) = Refused (suc n)
+
+-- a call with what it returned, and the state that the bytes after it stand for
+abbrev pub returnedItem : LibraryCall → Returned → TraceItem
+returnedItem c y = record {
+  call = callOf c;
+  answer = record { outcome = outcomeOf (y .result); buffer = y .buffer };
+  after = readFrom (y .state) (y .memory);
+}
+
+-- the same of a list
+unfoldable pub returnedItems : List LibraryCall → List Returned → List TraceItem
+returnedItems [] ys = []
+returnedItems (c ∷ cs) [] = []
+returnedItems (c ∷ cs) (y ∷ ys) = returnedItem c y ∷ returnedItems cs ys
+
+-- a list of calls of the rules was made by the library on these bytes, and this came of it
+pub record MadeByLibrary (state memory : List ℕ) (l : List Call) (es : List TraceItem) : Type 0 where
+  pub calls : List LibraryCall
+  pub whole : AllWhole calls
+  pub are : l ≡ map callOf calls
+  pub returned : List Returned
+  pub done : DoneByLibrary state memory calls returned
+  pub trace : es ≡ returnedItems calls returned
+
+-- ---- the theorem
+
+-- calls of the library in a row are a run of the rules, from a fresh start of its own, and the demands hold of them
+pub record LibraryDemands : Type 0 where
+  pub fresh : (there : ℕ) (before state memory : List ℕ) (r : ℤ) → Starts (startOn (bitsOf there) before) r state → length before ≡ stateWidth
+      → length memory ≡ capacity → Begins state memory
+  pub lists : ListsOnBytes MadeByLibrary
