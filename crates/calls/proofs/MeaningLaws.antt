@@ -21,7 +21,7 @@ use Rattle.rules.specs.Tests.{State, lent, noRoom, unsound, requestNumber}
 use Rattle.rules.specs.Step.{answers, refused, requestStep, step, stored}
 use Rattle.rules.specs.Step.{put as putLocal}
 use Rattle.state_bytes.specs.State.{stateOf}
-use Rattle.gateway.specs.Called.{Called, called, callOn}
+use Rattle.gateway.specs.Called.{Called, called, callOn, machineStored}
 use Rattle.rules.specs.Turn.{bufferOf}
 use Rattle.lines.specs.Hex.{pairsLine}
 use Rattle.lines.specs.declared.scan.Phase.{Phase}
@@ -84,8 +84,8 @@ module _ (p : ℕ) (m : List ℕ) (low : p < 8) (size : length m ≡ 32768) wher
       ∙ ap (λ (l : List ℕ). l ++ drop s (set m (s + a) v)) front
       ∙ ap (λ (l : List ℕ). take s m ++ l) (behind ∙ inner)
 
-  pub stores : (a v : ℕ) (s : List ℕ) → a < 4096 → set m (4096 * p + a) v ≡ stored p a v (lent (stateOf s) m) .memory
-  unfolding stored putLocal
+  pub stores : (a v : ℕ) (s : List ℕ) → a < 4096 → set m (4096 * p + a) v ≡ machineStored p a v s m .memory
+  unfolding machineStored stored putLocal
   stores a v s h = rw (lt-ltb p 8 low) (set-slot a v h)
 
   -- some of them

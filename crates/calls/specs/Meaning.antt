@@ -7,10 +7,9 @@ use Rattle.format.specs.declared.outcome.Outcome.{Outcome}
 use Rattle.format.specs.Outcome.{numberOf}
 use Rattle.state.specs.Records.{processAt}
 use Rattle.state.specs.Slot.{slot}
-use Rattle.rules.specs.Tests.{lent}
-use Rattle.rules.specs.Step.{request, report, stored}
+use Rattle.rules.specs.Step.{request, report}
 use Rattle.state_bytes.specs.State.{stateOf}
-use Rattle.gateway.specs.Called.{Called, callOn, startOn}
+use Rattle.gateway.specs.Called.{Called, callOn, machineStored, startOn}
 use Rattle.gateway.specs.Lengths.{replyLength, noticeLength}
 use Rattle.lines.specs.declared.scan.Phase.{Phase}
 use Rattle.lines.specs.Hex.{pairsLine}
@@ -85,7 +84,7 @@ module _ (line : List ℕ) where
   unfoldable pub storeEffect : List ℕ → List ℕ → Effect
   storeEffect s m =
       ifRight (endsLine line storeByte)
-      (effect s (stored (storeP .value) (storeAddress .value) (storeByte .value) (lent (stateOf s) m) .memory) (111 ∷ 107 ∷ 10 ∷ [])) s m
+      (effect s (machineStored (storeP .value) (storeAddress .value) (storeByte .value) s m .memory) (111 ∷ 107 ∷ 10 ∷ [])) s m
 
 -- memory P ADDRESS COUNT: no byte after the process's last
 module _ (line : List ℕ) where
