@@ -1,6 +1,6 @@
 -- An entry of a process, and the entries that differ from it in one field. Nothing else writes an entry anew.
 use mathlib.Core.Bool.{Bool, true, false, _&&_}
-use Prim.Native.Nat.{ℕ, _%_}
+use Prim.Native.Nat.{ℕ, _+_, _%_}
 use lib.Dec.{eqb, leb}
 use Rattle.breakpoints.specs.declared.entry.Breakpoint.{Breakpoint}
 
@@ -28,10 +28,6 @@ withLifted b = record { used = b .used; lifted = true; address = b .address; cou
 abbrev pub withPlanted : Breakpoint → Breakpoint
 withPlanted b = record { used = b .used; lifted = false; address = b .address; count = b .count; low = b .low; high = b .high }
 
--- the address of the last word of a process
-abbrev pub lastBreakAddress : ℕ
-lastBreakAddress = 4094
-
--- 'even and at most 4,094'
-unfoldable pub validBreakAddress : ℕ → Bool
-validBreakAddress a = eqb (a % 2) 0 && leb a lastBreakAddress
+-- 'even'; 'BREAK at most size − 2'
+unfoldable pub validBreakAddress : ℕ → ℕ → Bool
+validBreakAddress size a = eqb (a % 2) 0 && leb (a + 2) size

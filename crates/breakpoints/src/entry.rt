@@ -2,9 +2,6 @@
 ghost use mathlib.Core.Path.{_≡_};
 ghost use Rattle.breakpoints.specs.Entry.{free, breakpointAt, withCount, withSaved, withLifted, withPlanted, validBreakAddress};
 
-// The address of the last word of a process.
-const LAST_BREAK_ADDRESS: u16 = 4094;
-
 // One of the eight entries of a process. A planted breakpoint, that is one in use and not lifted, has 3, 0 stored at its
 // address and the word that was there saved; a lifted one has its word back in memory until the process next stops.
 pub struct Breakpoint {
@@ -75,12 +72,12 @@ impl Breakpoint {
     }
 }
 
-// Whether a breakpoint may stand at this address: it is even, and the word there is inside memory.
-pub fn valid_break_address(a: u16) -> bool
-    ensures { λ r. ⌜ r ≡ validBreakAddress a ⌝ }
+// Whether a breakpoint may stand at this address of a process of this size: it is even, and the word there is inside.
+pub fn valid_break_address(size: u16, a: u16) -> bool
+    ensures { λ r. ⌜ r ≡ validBreakAddress size a ⌝ }
 {
     if a % 2 == 0 {
-        a <= LAST_BREAK_ADDRESS
+        a as usize + 2 <= size as usize
     } else {
         false
     }

@@ -15,7 +15,7 @@ use Rattle.breakpoints.specs.Entry.{free}
 use Rattle.process.specs.Record.{entry, withEntry}
 use Rattle.process.specs.Find.{find}
 use Rattle.breakpoints.specs.Seen.{bptStored}
-use Rattle.process.specs.Local.{Local, local, Inside}
+use Rattle.process.specs.Local.{Local, local, extent, Inside}
 use Rattle.process.specs.Planting.{plantedIn, liftedIn, removedFrom, replanted, liftedAt}
 use Rattle.process.proofs.FindLaws.{find-matches, matches-lifted}
 use Rattle.breakpoints.proofs.SeenLaws.{length-restored}
@@ -61,6 +61,24 @@ eight-replanted l = go (ltb (find Lifted (l .process)) 8)
   where
     go : (t : Bool) → length (cond t (plantedIn (find Lifted (l .process)) (entry (l .process) (find Lifted (l .process))) l) l .process .breaks) ≡ length (l .process .breaks)
     go true = simp length-set
+    go false = refl
+
+-- ---- the process has as many bytes as before
+
+pub extent-replanted : (l : Local) → extent (replanted l .process) ≡ extent (l .process)
+unfolding replanted plantedIn
+extent-replanted l = go (ltb (find Lifted (l .process)) 8)
+  where
+    go : (t : Bool) → extent (cond t (plantedIn (find Lifted (l .process)) (entry (l .process) (find Lifted (l .process))) l) l .process) ≡ extent (l .process)
+    go true = refl
+    go false = refl
+
+pub extent-liftedAt : (pc : ℕ) (l : Local) → extent (liftedAt pc l .process) ≡ extent (l .process)
+unfolding liftedAt liftedIn
+extent-liftedAt pc l = go (ltb (find (At pc) (l .process)) 8)
+  where
+    go : (t : Bool) → extent (cond t (liftedIn (find (At pc) (l .process)) l) l .process) ≡ extent (l .process)
+    go true = refl
     go false = refl
 
 -- ---- breakpoints within the bytes

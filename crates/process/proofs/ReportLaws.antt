@@ -18,12 +18,12 @@ use Rattle.process.specs.declared.report.Verdict.the-variants.{Stops, Co
 use Rattle.breakpoints.specs.declared.entry_query.EntryQuery.the-variants.{At}
 use Rattle.process.specs.Record.{entry, withEntry, withVector}
 use Rattle.process.specs.Find.{find}
-use Rattle.process.specs.Local.{Local, local}
+use Rattle.process.specs.Local.{Local, local, extent}
 use Rattle.process.specs.Planting.{liftedIn}
 use Rattle.process.specs.Request.{pc, onRecord, hasBreak}
 use Rattle.process.specs.Report.{storeVectorAndReplant, passes, verdictOf, passed, carriedOut, reported, toldBy, recipientOf}
 use Rattle.process.proofs.FindLaws.{matches-at, find-matches}
-use Rattle.process.proofs.PlantingLaws.{length-liftedIn, length-replanted, eight-replanted}
+use Rattle.process.proofs.PlantingLaws.{length-liftedIn, length-replanted, eight-replanted, extent-replanted}
 
 -- a report that passes a breakpoint is at one whose count is above 0
 module _ (kind : ℕ) (p : Process) (e : passes kind p ≡ true) where
@@ -88,6 +88,14 @@ eight-reported kind words l = go (verdictOf kind (storeVectorAndReplant words l 
     go : (v : Verdict) → length (carriedOut v kind (storeVectorAndReplant words l) .process .breaks) ≡ length (l .process .breaks)
     go Stops = eight-replanted (onRecord (withVector words) l)
     go (CountsDown k) = simp length-set (eight-replanted (onRecord (withVector words) l))
+
+pub extent-reported : (kind : ℕ) (words : List ℕ) (l : Local) → extent (reported kind words l .process) ≡ extent (l .process)
+unfolding reported storeVectorAndReplant passed liftedIn
+extent-reported kind words l = go (verdictOf kind (storeVectorAndReplant words l .process))
+  where
+    go : (v : Verdict) → extent (carriedOut v kind (storeVectorAndReplant words l) .process) ≡ extent (l .process)
+    go Stops = extent-replanted (onRecord (withVector words) l)
+    go (CountsDown k) = extent-replanted (onRecord (withVector words) l)
 
 -- the entry that is passed is written once, with its count and its mark
 pub passed-once : (k : ℕ) (l : Local) → k < length (l .process .breaks)

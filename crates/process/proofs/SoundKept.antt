@@ -2,7 +2,7 @@
 use mathlib.Core.Path.{_≡_, refl, sym, ap, _∙_}
 use mathlib.Core.Bool.{Bool, true, false, not, cond, true≢false}
 use mathlib.Core.List.{List}
-use Prim.Native.Nat.{ℕ, _≤_, _<_, _%_}
+use Prim.Native.Nat.{ℕ, _+_, _≤_, _<_, _%_}
 use native.Mathlib.Omega.{arith}
 use borrow.Author.Tests.{ltb-true, ltb-false, eqb-true, eqb-false}
 use lib.ListN.{length, getD, set}
@@ -11,17 +11,17 @@ use lib.Dec.{ltb, eqb}
 use Rattle.breakpoints.specs.declared.entry.Breakpoint.{Breakpoint}
 use Rattle.process.specs.declared.record.Process.{Process}
 use Rattle.breakpoints.specs.declared.entry_query.EntryQuery.the-variants.{Lifted, At}
-use Rattle.breakpoints.specs.Entry.{free, lastBreakAddress, withLifted, withCount}
+use Rattle.breakpoints.specs.Entry.{free, withLifted, withCount}
 use Rattle.breakpoints.specs.Seen.{planted}
 use Rattle.process.specs.Record.{entry, withEntry}
 use Rattle.process.specs.Find.{find}
 use Rattle.process.specs.Sound.{Sound}
 use Rattle.run_state.specs.RunState.{moving}
-use Rattle.process.specs.Local.{Local, local, Proper}
+use Rattle.process.specs.Local.{Local, local, extent, Proper}
 use Rattle.process.specs.Planting.{plantedIn, liftedIn, replanted, liftedAt}
 use Rattle.process.proofs.FindLaws.{matches-lifted, matches-at, find-matches, find-before, lifted-matches}
 use Rattle.process.proofs.SoundLaws.{sound-kept, sound-apart, sound-entry}
-use Rattle.process.proofs.PlantingLaws.{length-replanted, eight-replanted}
+use Rattle.process.proofs.PlantingLaws.{length-replanted, eight-replanted, extent-replanted}
 use Rattle.process.proofs.SoundTestLaws.{sound-passes}
 
 -- no breakpoint is lifted
@@ -39,7 +39,7 @@ module _ (p : Process) (s : Sound p) (eight : length (p .breaks) ≡ 8) where
   sound-removed k h = sound-entry p s eight k h free (λ u. absurd (true≢false (sym u))) (λ j i n v u. absurd (true≢false (sym u)))
 
   -- planted at an address that no other entry has
-  pub sound-planted : (k : ℕ) (b : Breakpoint) (m : List ℕ) → k < 8 → (p .host ≡ 0 → ⊥) → b .address % 2 ≡ 0 → b .address ≤ lastBreakAddress
+  pub sound-planted : (k : ℕ) (b : Breakpoint) (m : List ℕ) → k < 8 → (p .host ≡ 0 → ⊥) → b .address % 2 ≡ 0 → b .address + 2 ≤ p .size
       → ((j : ℕ) → j < 8 → (j ≡ k → ⊥) → entry p j .used ≡ true → entry p j .address ≡ b .address → ⊥) → Sound (withEntry k (planted m b) p)
   sound-planted k b m h host even within apart =
       sound-entry p s eight k h (planted m b)
@@ -119,13 +119,13 @@ module _ (p : Process) (s : Sound p) (eight : length (p .breaks) ≡ 8) where
           find-before Lifted p j (omega (arith, ltb-false (find Lifted p) 8 e)) (lifted-matches (entry p j) u x)
 
 -- the whole of a process after a lifted breakpoint is planted again
-pub proper-replanted : (l : Local) → Sound (l .process) → length (l .process .breaks) ≡ 8 → length (l .bytes) ≡ 4096 → Proper (replanted l)
+pub proper-replanted : (l : Local) → Sound (l .process) → length (l .process .breaks) ≡ 8 → length (l .bytes) ≡ extent (l .process) → Proper (replanted l)
 proper-replanted l s eight size =
     let e = eight-replanted l ∙ eight in
     record {
       tested = record {
         sound = sound-passes (replanted l .process) e (sound-replanted (l .process) s eight (l .bytes));
-        size = length-replanted l ∙ size;
+        size = length-replanted l ∙ size ∙ sym (extent-replanted l);
       };
       eight = e;
     }

@@ -2,7 +2,7 @@
 use mathlib.Core.Path.{_≡_, refl, sym, ap, _∙_}
 use mathlib.Core.Bool.{Bool, true, false, true≢false}
 use mathlib.Core.List.{List}
-use Prim.Native.Nat.{ℕ, _≤_, _<_, _%_}
+use Prim.Native.Nat.{ℕ, _+_, _≤_, _<_, _%_}
 use native.Mathlib.Nat.{lt-irrefl}
 use native.Mathlib.Omega.{arith}
 use borrow.Author.Tests.{eqb-true, eqb-false, ltb-true, ltb-false}
@@ -14,13 +14,14 @@ use Rattle.breakpoints.specs.declared.entry.Breakpoint.{Breakpoint}
 use Rattle.process.specs.declared.record.Process.{Process}
 use Rattle.breakpoints.specs.Entry.{free}
 use Rattle.process.specs.Record.{noBreaks, entry, withHost, withRun, withVector, withBreaks, withEntry}
-use Rattle.process.specs.Sound.{Sound, NoBreakpoints}
+use Rattle.process.specs.Sound.{Sound, SizeRight, NoBreakpoints}
 use Rattle.run_state.specs.RunState.{moving}
 
 -- ---- fields other than the entries
 
 pub sound-vector : (v : List ℕ) (p : Process) → Sound p → Sound (withVector v p)
 sound-vector v p s = record {
+  sized = s .sized;
   absent = s .absent;
   unhosted = s .unhosted;
   different = s .different;
@@ -33,6 +34,7 @@ sound-vector v p s = record {
 -- a run state in which what is lifted may be
 pub sound-run : (r : Run) (p : Process) → ((k : ℕ) → k < 8 → entry p k .used ≡ true → entry p k .lifted ≡ true → moving r ≡ true) → Sound p → Sound (withRun r p)
 sound-run r p m s = record {
+  sized = s .sized;
   absent = s .absent;
   unhosted = s .unhosted;
   different = s .different;
@@ -45,6 +47,7 @@ sound-run r p m s = record {
 -- a host for a process that is there
 pub sound-host : (h : ℕ) (p : Process) → p .there ≡ true → (h ≡ 0 → ⊥) → Sound p → Sound (withHost h p)
 sound-host h p t n s = record {
+  sized = s .sized;
   absent = λ e. absurd (true≢false (sym t ∙ e));
   unhosted = λ e. absurd (n e);
   different = s .different;
@@ -60,11 +63,12 @@ no-entry : (k : ℕ) → k < 8 → getD noBreaks k free .used ≡ false
 no-entry k h = ap (λ (b : Breakpoint). b .used) (getD-replicate 8 k free free h)
 
 -- a record with free entries is sound, if an absent one has no host
-pub sound-free : (p : Process) → p .breaks ≡ noBreaks → (p .there ≡ false → p .host ≡ 0) → Sound p
-sound-free p e a =
+pub sound-free : (p : Process) → SizeRight (p .size) → p .breaks ≡ noBreaks → (p .there ≡ false → p .host ≡ 0) → Sound p
+sound-free p n e a =
     let none : NoBreakpoints p = λ k h. rw e (no-entry k h) in
     let never : (k : ℕ) → k < 8 → entry p k .used ≡ true → ⊥ = λ k h u. true≢false (sym u ∙ none k h) in
     record {
+      sized = n;
       absent = λ t. (a t, none);
       unhosted = λ z. none;
       different = λ j k l h v u q. never k h u;
@@ -85,6 +89,7 @@ pub record Alike (b c : Breakpoint) : Type 0 where
 -- a record whose entries are alike is as sound
 pub sound-alike : (bs : List Breakpoint) (p : Process) → ((k : ℕ) → k < 8 → Alike (getD bs k free) (entry p k)) → Sound p → Sound (withBreaks bs p)
 sound-alike bs p a s = record {
+  sized = s .sized;
   absent = λ t. (s .absent t .0, λ k h. a k h .used ∙ s .absent t .1 k h);
   unhosted = λ z k h. a k h .used ∙ s .unhosted z k h;
   different = λ j k l h v u e.
@@ -106,7 +111,7 @@ sound-alike bs p a s = record {
 pub record Kept (p : Process) (b : Breakpoint) : Type 0 where
   pub hosted : p .host ≡ 0 → ⊥
   pub even : b .address % 2 ≡ 0
-  pub within : b .address ≤ 4094
+  pub within : b .address + 2 ≤ p .size
   pub moves : b .lifted ≡ true → moving (p .run) ≡ true
 
 -- and of two
@@ -187,6 +192,7 @@ module _ (p : Process) (s : Sound p) (eight : length (p .breaks) ≡ 8) (k : ℕ
 
   pub sound-entry : Sound (withEntry k b p)
   sound-entry = record {
+    sized = s .sized;
     absent = λ t. (s .absent t .0, none-at (s .absent t .0));
     unhosted = none-at;
     different = λ i j l m u v. apart-at i j l m u v .different;

@@ -2,20 +2,21 @@
 -- if lifted, the first that is lifted; the rule speaks of any two. Assumes nothing.
 use mathlib.Core.Path.{_≡_, refl, sym, _∙_}
 use mathlib.Core.Bool.{Bool, true, false, not, _&&_, _||_, true≢false}
-use Prim.Native.Nat.{ℕ, _≤_, _<_, _%_}
+use Prim.Native.Nat.{ℕ, _+_, _≤_, _<_, _%_}
 use borrow.Author.Tests.{eqb-true, eqb-false, leb-true, eq-eqb, ne-eqb, le-leb, not-true}
 use lib.ListN.{length}
-use lib.Dec.{eqb}
+use lib.Dec.{eqb, leb}
 use Rattle.lists.specs.Every.{below}
 use Rattle.lists.proofs.Bool.{&&-left, &&-right, &&-both}
 use Rattle.lists.proofs.Every.{below-at, below-all}
 use Rattle.process.specs.declared.record.Process.{Process}
 use Rattle.breakpoints.specs.declared.entry_query.EntryQuery.the-variants.{Lifted, At}
+use Rattle.process.specs.Sizes.{validSize}
 use Rattle.process.specs.Record.{entry}
 use Rattle.breakpoints.specs.EntryQuery.{matches}
 use Rattle.process.specs.Find.{find}
 use Rattle.breakpoints.specs.Entry.{validBreakAddress}
-use Rattle.process.specs.Sound.{Sound, NoBreakpoints, absentHasNoHost, liftSound, usedSound, entrySound, soundTest}
+use Rattle.process.specs.Sound.{Sound, SizeRight, NoBreakpoints, absentHasNoHost, liftSound, usedSound, entrySound, keepsRules, soundTest}
 use Rattle.run_state.specs.RunState.{moving}
 use Rattle.process.specs.Theorems.{TestIsSound}
 use Rattle.process.proofs.FindLaws.{lifted-matches, at-matches, find-before, find-is}
@@ -23,29 +24,41 @@ use Rattle.process.proofs.FindLaws.{lifted-matches, at-matches, find-be
 -- ---- from the test to the rule
 
 module _ (p : Process) (s : soundTest p ≡ true) where
+  sized : SizeRight (p .size)
+  unfolding soundTest validSize
+  sized =
+      let n = p .size in
+      let whole = &&-left (validSize n) _ s in
+      let both = &&-right (eqb (n % 2) 0) (leb 2 n && leb n 4096) whole in
+      record { even = eqb-true _ _ (&&-left (eqb (n % 2) 0) _ whole); least = leb-true _ _ (&&-left (leb 2 n) _ both); most = leb-true _ _ (&&-right (leb 2 n) (leb n 4096) both) }
+
+  others : absentHasNoHost p && below (entrySound p) 8 ≡ true
+  unfolding soundTest keepsRules
+  others = &&-right (validSize (p .size)) _ s
+
   module _ (k : ℕ) (h : k < 8) (u : entry p k .used ≡ true) where
     kept : usedSound p k ≡ true
     unfolding soundTest entrySound
-    kept = rw u at (below-at (entrySound p) 8 k h (&&-right (absentHasNoHost p) (below (entrySound p) 8) s))
+    kept = rw u at (below-at (entrySound p) 8 k h (&&-right (absentHasNoHost p) (below (entrySound p) 8) others))
 
     there-is-host : p .host ≡ 0 → ⊥
     unfolding usedSound
     there-is-host = eqb-false (p .host) 0 (not-true (eqb (p .host) 0) (&&-left (not (eqb (p .host) 0)) _ kept))
 
-    rest : validBreakAddress (entry p k .address) && (eqb (find (At (entry p k .address)) p) k && liftSound p k) ≡ true
+    rest : validBreakAddress (p .size) (entry p k .address) && (eqb (find (At (entry p k .address)) p) k && liftSound p k) ≡ true
     unfolding usedSound
     rest = &&-right (not (eqb (p .host) 0)) _ kept
 
     even : entry p k .address % 2 ≡ 0
     unfolding validBreakAddress
-    even = eqb-true _ _ (&&-left (eqb (entry p k .address % 2) 0) _ (&&-left (validBreakAddress (entry p k .address)) _ rest))
+    even = eqb-true _ _ (&&-left (eqb (entry p k .address % 2) 0) _ (&&-left (validBreakAddress (p .size) (entry p k .address)) _ rest))
 
-    within : entry p k .address ≤ 4094
+    within : entry p k .address + 2 ≤ p .size
     unfolding validBreakAddress
-    within = leb-true _ _ (&&-right (eqb (entry p k .address % 2) 0) _ (&&-left (validBreakAddress (entry p k .address)) _ rest))
+    within = leb-true _ _ (&&-right (eqb (entry p k .address % 2) 0) _ (&&-left (validBreakAddress (p .size) (entry p k .address)) _ rest))
 
     firsts : eqb (find (At (entry p k .address)) p) k && liftSound p k ≡ true
-    firsts = &&-right (validBreakAddress (entry p k .address)) _ rest
+    firsts = &&-right (validBreakAddress (p .size) (entry p k .address)) _ rest
 
     first-there : find (At (entry p k .address)) p ≡ k
     first-there = eqb-true _ _ (&&-left (eqb (find (At (entry p k .address)) p) k) _ firsts)
@@ -69,11 +82,12 @@ module _ (p : Process) (s : soundTest p ≡ true) where
       go false u = refl
 
   absent : p .there ≡ false → p .host ≡ 0
-  unfolding soundTest absentHasNoHost
-  absent e = eqb-true _ _ (rw e at (&&-left (absentHasNoHost p) _ s))
+  unfolding absentHasNoHost
+  absent e = eqb-true _ _ (rw e at (&&-left (absentHasNoHost p) _ others))
 
   pub passes-sound : Sound p
   passes-sound = record {
+    sized = sized;
     absent = λ e. (absent e, unused (absent e));
     unhosted = unused;
     different = λ j k l h v u e. find-before (At (entry p k .address)) p j (rw (first-there k h u) l) (at-matches (entry p k .address) (entry p j) v e);
@@ -139,8 +153,10 @@ module _ (p : Process) (eight : length (p .breaks) ≡ 8) (s : Sound p) where
       go false u = refl
 
   pub sound-passes : soundTest p ≡ true
-  unfolding soundTest absentHasNoHost
-  sound-passes = rw (below-all (entrySound p) 8 entry-sound) (go (p .there) refl)
+  unfolding soundTest keepsRules absentHasNoHost validSize
+  sound-passes =
+      let n = s .sized in
+      rw (eq-eqb _ _ (n .even), le-leb _ _ (n .least), le-leb _ _ (n .most), below-all (entrySound p) 8 entry-sound) (go (p .there) refl)
     where
       go : (t : Bool) → p .there ≡ t → (t || eqb (p .host) 0) && true ≡ true
       go true e = refl

@@ -1,6 +1,6 @@
 -- What the gateway's tests say of a process and its bytes. Assumes nothing.
-use mathlib.Core.Path.{_≡_, _∙_}
-use mathlib.Core.Bool.{true}
+use mathlib.Core.Path.{_≡_, refl, sym, _∙_}
+use mathlib.Core.Bool.{Bool, true, false, true≢false}
 use mathlib.Core.List.{List, map}
 use Prim.Native.Nat.{ℕ, _+_, _<_}
 use native.Mathlib.Omega.{arith}
@@ -19,9 +19,20 @@ module _ (p : Process) (bytes : List ℕ) (t : Tested p bytes) where
   pub tested-sound : Sound p
   tested-sound = passes-sound p (t .sound)
 
+  -- a process with a breakpoint is there
+  used-there : (k : ℕ) → k < 8 → entry p k .used ≡ true → p .there ≡ true
+  used-there k h u = go (p .there) refl
+    where
+      go : (b : Bool) → p .there ≡ b → b ≡ true
+      go true e = refl
+      go false e = absurd (true≢false (sym u ∙ tested-sound .absent e .1 k h))
+
   -- a breakpoint's word is within the process's bytes
   pub tested-inside : (k : ℕ) → k < 8 → entry p k .used ≡ true → entry p k .address + 1 < length bytes
-  tested-inside k h u = omega (arith, tested-sound .within k h u, t .size)
+  tested-inside k h u =
+      let here : p .there ≡ true = used-there k h u in
+      let size : length bytes ≡ p .size = rw here at (t .size) in
+      omega (arith, tested-sound .within k h u, size)
 
   -- and meets no other's
   pub tested-spaced : length (p .breaks) ≡ 8 → AllSpaced (p .breaks)
@@ -35,8 +46,8 @@ module _ (p : Process) (bytes : List ℕ) (t : Tested p bytes) where
       }
 
 -- after the exchange of saved words and memory the tests still hold, for any bytes of the same number
-pub tested-exchanged : (p : Process) (m s : List ℕ) → Tested p m → length (p .breaks) ≡ 8 → length s ≡ 4096 → Tested (withBreaks (map (savedFrom m) (p .breaks)) p) s
+pub tested-exchanged : (p : Process) (m s : List ℕ) → Tested p m → length (p .breaks) ≡ 8 → length s ≡ length m → Tested (withBreaks (map (savedFrom m) (p .breaks)) p) s
 tested-exchanged p m s t eight size =
     let eight′ : length (map (savedFrom m) (p .breaks)) ≡ 8 = length-map (p .breaks) (savedFrom m) ∙ eight in
     let sound = sound-alike (map (savedFrom m) (p .breaks)) p (λ k h. map-alike m (p .breaks) k (omega arith)) (tested-sound p m t) in
-    record { sound = sound-passes (withBreaks (map (savedFrom m) (p .breaks)) p) eight′ sound; size = size }
+    record { sound = sound-passes (withBreaks (map (savedFrom m) (p .breaks)) p) eight′ sound; size = size ∙ t .size }

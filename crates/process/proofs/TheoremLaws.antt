@@ -21,10 +21,10 @@ use Rattle.breakpoints.specs.declared.entry_query.EntryQuery.the-variants.{Free
 use Rattle.breakpoints.specs.Entry.{free, breakpointAt, withCount}
 use Rattle.process.specs.Record.{noBreaks, entry, fresh, withHost, withRun, withVector, withBreaks, withEntry}
 use Rattle.process.specs.Find.{find}
-use Rattle.process.specs.Sound.{Sound}
+use Rattle.process.specs.Sound.{Sound, SizeRight}
 use Rattle.run_state.specs.RunState.{moving, stoppedOrAtBreak, atBreak, released, accepts, runAfter}
 use Rattle.breakpoints.specs.Seen.{putWord, isPlanted, restored, seen, savedFrom}
-use Rattle.process.specs.Local.{Local, local, Proper}
+use Rattle.process.specs.Local.{Local, local, extent, Proper}
 use Rattle.process.specs.Planting.{plantedIn, liftedIn, removedFrom, replanted, liftedAt}
 use Rattle.process.specs.Request.{pc, onRecord, hasBreak, hasRoom, endDebugged, stopped, stepped, proceeded, examined, toBeSeen, deposited, breakSet, breakRemoved, created, cleared}
 use Rattle.process.specs.Report.{storeVectorAndReplant, verdictOf, passed, carriedOut, reported}
@@ -51,15 +51,15 @@ unfolding deposited
 whole at string l g =
     sheltered-seen (l .process .breaks) (l .bytes) (toBeSeen at string l) (tested-spaced (l .process) (l .bytes) (g .tested) (g .eight))
 
-room : (at : ℕ) (string : List ℕ) (l : Local) → Proper l → at + length string ≤ 4096 → at + length string ≤ length (seenOf l)
+room : (at : ℕ) (string : List ℕ) (l : Local) → Proper l → at + length string ≤ length (l .bytes) → at + length string ≤ length (seenOf l)
 room at string l g h = omega (arith, length-seen (l .process .breaks) (l .bytes), g .tested .size)
 
-read-back : (at : ℕ) (string : List ℕ) (l : Local) → Proper l → at + length string ≤ 4096 → examined at (length string) (deposited at string l) ≡ string
+read-back : (at : ℕ) (string : List ℕ) (l : Local) → Proper l → at + length string ≤ length (l .bytes) → examined at (length string) (deposited at string l) ≡ string
 unfolding examined
 read-back at string l g h =
     ap (λ (m : List ℕ). take (length string) (drop at m)) (whole at string l g) ∙ part-paste at string (seenOf l) (room at string l g h)
 
-elsewhere : (at : ℕ) (string : List ℕ) (l : Local) (i : ℕ) → Proper l → at + length string ≤ 4096 → (i < at) ⊎ (at + length string ≤ i)
+elsewhere : (at : ℕ) (string : List ℕ) (l : Local) (i : ℕ) → Proper l → at + length string ≤ length (l .bytes) → (i < at) ⊎ (at + length string ≤ i)
     → getD (seenOf (deposited at string l)) i 0 ≡ getD (seenOf l) i 0
 elsewhere at string l i g h o =
     ap (λ (m : List ℕ). getD m i 0) (whole at string l g)
@@ -110,7 +110,7 @@ vector-proper words l g =
     proper-replanted (onRecord (withVector words) l) (sound-vector words (l .process) (sound-of l g)) (g .eight) (g .tested .size)
 
 -- a process whose parts are as they should be
-proper : (p : Process) (m : List ℕ) → Sound p → length (p .breaks) ≡ 8 → length m ≡ 4096 → Proper (local p m)
+proper : (p : Process) (m : List ℕ) → Sound p → length (p .breaks) ≡ 8 → length m ≡ extent p → Proper (local p m)
 proper p m s eight size = record { tested = record { sound = sound-passes p eight s; size = size }; eight = eight }
 
 stored-seen : (words : List ℕ) (l : Local) → Proper l → seenOf (storeVectorAndReplant words l) ≡ seenOf l
@@ -207,7 +207,7 @@ store-is-unseen l k i v h p c = under (l .process .breaks) (l .bytes) k i v h p 
 end-debug-sound : (l : Local) → Proper l → Sound (endDebugged l .process)
 unfolding endDebugged
 end-debug-sound l g =
-    sound-free (withRun (released (l .process .run)) (withHost 0 (withBreaks noBreaks (l .process)))) refl (λ t. refl)
+    sound-free (withRun (released (l .process .run)) (withHost 0 (withBreaks noBreaks (l .process)))) (sound-of l g .sized) refl (λ t. refl)
 
 stop-sound : (l : Local) → Proper l → Sound (stopped l .process)
 unfolding stopped
@@ -259,7 +259,7 @@ deposit-sound at string l g =
     sound-alike (map (savedFrom (toBeSeen at string l)) (l .process .breaks)) (l .process)
     (λ k h. map-alike (toBeSeen at string l) (l .process .breaks) k (omega arith)) (sound-of l g)
 
-break-sound : (a n : ℕ) (l : Local) → Proper l → (l .process .host ≡ 0 → ⊥) → a % 2 ≡ 0 → a ≤ 4094
+break-sound : (a n : ℕ) (l : Local) → Proper l → (l .process .host ≡ 0 → ⊥) → a % 2 ≡ 0 → a + 2 ≤ l .process .size
     → (hasBreak a (l .process) ≡ false → hasRoom (l .process) ≡ true) → Sound (breakSet a n l .process)
 unfolding breakSet plantedIn hasBreak hasRoom
 break-sound a n l g host even within room = go (ltb (find (At a) (l .process)) 8) refl
@@ -279,13 +279,16 @@ unbreak-sound : (a : ℕ) (l : Local) → Proper l → hasBreak a (l .process) �
 unfolding breakRemoved removedFrom hasBreak
 unbreak-sound a l g e = sound-removed (l .process) (sound-of l g) (g .eight) (find (At a) (l .process)) (ltb-true _ _ e)
 
+whole-size : SizeRight 4096
+whole-size = record { even = refl; least = omega arith; most = omega arith }
+
 create-sound : (host : ℕ) → Sound (created host .process)
 unfolding created fresh
-create-sound host = sound-free (fresh true host Stopped) refl (λ t. absurd (true≢false t))
+create-sound host = sound-free (fresh true host Stopped 4096) whole-size refl (λ t. absurd (true≢false t))
 
 destroy-sound : Sound cleared
 unfolding cleared fresh
-destroy-sound = sound-free (fresh false 0 Running) refl (λ t. refl)
+destroy-sound = sound-free (fresh false 0 Running 4096) whole-size refl (λ t. refl)
 
 -- ---- a report
 

@@ -14,24 +14,24 @@ abbrev pub noBreaks : List Breakpoint
 noBreaks = replicate entryCount free
 
 -- a record with a zero vector and no breakpoints
-unfoldable pub fresh : Bool → ℕ → Run → Process
-fresh t h r = record { there = t; host = h; run = r; vector = replicate vectorWords 0; breaks = noBreaks }
+unfoldable pub fresh : Bool → ℕ → Run → ℕ → Process
+fresh t h r n = record { there = t; host = h; run = r; size = n; vector = replicate vectorWords 0; breaks = noBreaks }
 
 -- debugged by another host
 abbrev pub withHost : ℕ → Process → Process
-withHost h p = record { there = p .there; host = h; run = p .run; vector = p .vector; breaks = p .breaks }
+withHost h p = record { there = p .there; host = h; run = p .run; size = p .size; vector = p .vector; breaks = p .breaks }
 
 -- in another run state
 abbrev pub withRun : Run → Process → Process
-withRun r p = record { there = p .there; host = p .host; run = r; vector = p .vector; breaks = p .breaks }
+withRun r p = record { there = p .there; host = p .host; run = r; size = p .size; vector = p .vector; breaks = p .breaks }
 
 -- with another vector
 abbrev pub withVector : List ℕ → Process → Process
-withVector v p = record { there = p .there; host = p .host; run = p .run; vector = v; breaks = p .breaks }
+withVector v p = record { there = p .there; host = p .host; run = p .run; size = p .size; vector = v; breaks = p .breaks }
 
 -- with other entries
 abbrev pub withBreaks : List Breakpoint → Process → Process
-withBreaks bs p = record { there = p .there; host = p .host; run = p .run; vector = p .vector; breaks = bs }
+withBreaks bs p = record { there = p .there; host = p .host; run = p .run; size = p .size; vector = p .vector; breaks = bs }
 
 -- entry k of a process
 abbrev pub entry : Process → ℕ → Breakpoint

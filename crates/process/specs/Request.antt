@@ -1,6 +1,6 @@
 -- 'What each request does' to the process that it names, and the tests that rest on the process.
 use mathlib.Core.Bool.{Bool, true, false, cond}
-use mathlib.Core.List.{List, map}
+use mathlib.Core.List.{List, [], map}
 use Prim.Native.Nat.{ℕ}
 use lib.ListN.{length, take, drop, getD, replicate}
 use lib.Seq.{paste}
@@ -119,12 +119,12 @@ breakRemoved a l = removedFrom (find (At a) (l .process)) l
 
 -- 'all 4,096 bytes of its memory are zero, vector zero, stopped, debugged by the asker'
 unfoldable pub created : ℕ → Local
-created host = local (fresh true host Stopped) (replicate memoryBytes 0)
+created host = local (fresh true host Stopped memoryBytes) (replicate memoryBytes 0)
 
--- a cleared record: 'absent, running, all else zero'
+-- a cleared record: 'absent, running, all else zero', but 'a cleared record give[s] 4,096'
 unfoldable pub cleared : Process
-cleared = fresh false 0 Running
+cleared = fresh false 0 Running memoryBytes
 
--- 'the process is absent, its record cleared; memory bytes stay'
+-- 'the process is absent, its record cleared': it has no bytes, so 'memory bytes stay'
 abbrev pub destroyed : Local → Local
-destroyed = onRecord (λ p. cleared)
+destroyed l = local cleared []

@@ -1,14 +1,14 @@
 -- When a process record is sound: document 01's sentence, and a test that can be run. They are proved to be the same.
 use mathlib.Core.Path.{_≡_}
 use mathlib.Core.Bool.{Bool, true, false, not, _&&_, _||_}
-use Prim.Native.Nat.{ℕ, _≤_, _<_, _%_}
+use Prim.Native.Nat.{ℕ, _+_, _≤_, _<_, _%_}
 use lib.Dec.{eqb}
 use Rattle.lists.specs.Every.{below}
 use Rattle.run_state.specs.RunState.{moving}
 use Rattle.process.specs.declared.record.Process.{Process}
 use Rattle.breakpoints.specs.declared.entry_query.EntryQuery.the-variants.{Lifted, At}
-use Rattle.breakpoints.specs.Entry.{lastBreakAddress, validBreakAddress}
-use Rattle.process.specs.Sizes.{entryCount}
+use Rattle.breakpoints.specs.Entry.{validBreakAddress}
+use Rattle.process.specs.Sizes.{entryCount, memoryBytes, validSize}
 use Rattle.process.specs.Record.{entry}
 use Rattle.process.specs.Find.{find}
 
@@ -16,16 +16,24 @@ use Rattle.process.specs.Find.{find}
 abbrev pub NoBreakpoints : Process → Type 0
 NoBreakpoints p = (k : ℕ) → k < entryCount → entry p k .used ≡ false
 
+-- 'a size, even, 2 to 4,096'
+pub record SizeRight (n : ℕ) : Type 0 where
+  pub even : n % 2 ≡ 0
+  pub least : 2 ≤ n
+  pub most : n ≤ memoryBytes
+
 -- 'A state is sound when:', for one process; the entries are those in use
 pub record Sound (p : Process) : Type 0 where
+  -- 'Each process gets a size, even, 2 to 4,096'; '2 covers a bad size'
+  pub sized : SizeRight (p .size)
   -- 'an absent process has no host and no breakpoints'
   pub absent : p .there ≡ false → (p .host ≡ 0) × NoBreakpoints p
   -- 'a process with no host has none either'
   pub unhosted : p .host ≡ 0 → NoBreakpoints p
-  -- 'addresses within a process are different, even and at most 4,094'
+  -- 'addresses within a process are different, even', and a breakpoint past the size is unsound
   pub different : (j k : ℕ) → j < k → k < entryCount → entry p j .used ≡ true → entry p k .used ≡ true → entry p j .address ≡ entry p k .address → ⊥
   pub even : (k : ℕ) → k < entryCount → entry p k .used ≡ true → entry p k .address % 2 ≡ 0
-  pub within : (k : ℕ) → k < entryCount → entry p k .used ≡ true → entry p k .address ≤ lastBreakAddress
+  pub within : (k : ℕ) → k < entryCount → entry p k .used ≡ true → entry p k .address + 2 ≤ p .size
   -- 'at most one is lifted'
   pub one-lifted : (j k : ℕ) → j < k → k < entryCount → entry p j .used ≡ true → entry p k .used ≡ true → entry p j .lifted ≡ true → entry p k .lifted ≡ true → ⊥
   -- 'and only while running or stepping'
@@ -47,7 +55,7 @@ liftSound p k = not (entry p k .lifted) || (moving (p .run) && eqb (find Lifted 
 unfoldable pub usedSound : Process → ℕ → Bool
 usedSound p k =
     not (eqb (p .host) 0)
-    && (validBreakAddress (entry p k .address)
+    && (validBreakAddress (p .size) (entry p k .address)
     && (addressIsUnique p k
     && liftSound p k))
 
@@ -55,6 +63,10 @@ usedSound p k =
 unfoldable pub entrySound : Process → ℕ → Bool
 entrySound p k = not (entry p k .used) || usedSound p k
 
+-- an absent process has no host, and every entry keeps the rules
+unfoldable pub keepsRules : Process → Bool
+keepsRules p = absentHasNoHost p && below (entrySound p) entryCount
+
 -- the test of soundness
 unfoldable pub soundTest : Process → Bool
-soundTest p = absentHasNoHost p && below (entrySound p) entryCount
+soundTest p = validSize (p .size) && keepsRules p

@@ -8,8 +8,7 @@ use lib.ListN.{length, getD, set}
 use lib.Seq.{paste}
 use Rattle.process.specs.declared.record.Process.{Process}
 use Rattle.run_state.specs.declared.Run.the-variants.{Running}
-use Rattle.breakpoints.specs.Entry.{lastBreakAddress}
-use Rattle.process.specs.Sizes.{entryCount, memoryBytes}
+use Rattle.process.specs.Sizes.{entryCount}
 use Rattle.process.specs.Record.{entry, withHost, withRun, withVector}
 use Rattle.process.specs.Sound.{Sound, NoBreakpoints, soundTest}
 use Rattle.breakpoints.specs.Seen.{isPlanted, seen}
@@ -30,9 +29,9 @@ seenOf l = seen (l .process .breaks) (l .bytes)
 -- what is deposited is examined, and nothing else that is seen changes
 pub record DepositIsSeen : Type 0 where
   pub whole : (at : ℕ) (string : List ℕ) (l : Local) → Proper l → seenOf (deposited at string l) ≡ paste (seenOf l) at string (length string)
-  pub read-back : (at : ℕ) (string : List ℕ) (l : Local) → Proper l → at + length string ≤ memoryBytes
+  pub read-back : (at : ℕ) (string : List ℕ) (l : Local) → Proper l → at + length string ≤ length (l .bytes)
       → examined at (length string) (deposited at string l) ≡ string
-  pub elsewhere : (at : ℕ) (string : List ℕ) (l : Local) (i : ℕ) → Proper l → at + length string ≤ memoryBytes → (i < at) ⊎ (at + length string ≤ i)
+  pub elsewhere : (at : ℕ) (string : List ℕ) (l : Local) (i : ℕ) → Proper l → at + length string ≤ length (l .bytes) → (i < at) ⊎ (at + length string ≤ i)
       → getD (seenOf (deposited at string l)) i 0 ≡ getD (seenOf l) i 0
 
 -- no breakpoint that is set, removed, lifted, passed or planted again changes what is seen
@@ -65,7 +64,7 @@ pub record SoundStays : Type 0 where
   pub proceed : (l : Local) → Proper l → atBreak (l .process .run) ≡ true → Sound (proceeded l .process)
   pub deposit : (at : ℕ) (string : List ℕ) (l : Local) → Proper l → Sound (deposited at string l .process)
   pub deposit-vector : (v : List ℕ) (p : Process) → Sound p → Sound (withVector v p)
-  pub break : (a n : ℕ) (l : Local) → Proper l → (l .process .host ≡ 0 → ⊥) → a % 2 ≡ 0 → a ≤ lastBreakAddress
+  pub break : (a n : ℕ) (l : Local) → Proper l → (l .process .host ≡ 0 → ⊥) → a % 2 ≡ 0 → a + 2 ≤ l .process .size
       → (hasBreak a (l .process) ≡ false → hasRoom (l .process) ≡ true) → Sound (breakSet a n l .process)
   pub unbreak : (a : ℕ) (l : Local) → Proper l → hasBreak a (l .process) ≡ true → Sound (breakRemoved a l .process)
   pub create : (host : ℕ) → Sound (created host .process)

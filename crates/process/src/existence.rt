@@ -16,10 +16,10 @@ impl Process {
     {
         let zeros = [0u8; MEMORY_BYTES];
         bytes::copy(&zeros, bytes);
-        Process::fresh(true, host, Run::Stopped)
+        Process::fresh(true, host, Run::Stopped, 4096)
     }
 
-    // Clears the record; memory bytes stay.
+    // Clears the record; memory bytes stay, and are no process's.
     pub fn destroy(self) -> Self
         ensures { λ r. ⌜ r ≡ cleared ⌝ }
     {
@@ -30,6 +30,6 @@ impl Process {
     pub fn cleared() -> Self
         ensures { λ r. ⌜ r ≡ cleared ⌝ }
     {
-        Process::fresh(false, 0, Run::Running)
+        Process::fresh(false, 0, Run::Running, 4096)
     }
 }

@@ -18,3 +18,4 @@ pub use record::MEMORY_BYTES;
 pub use record::Process;
 pub use record::VECTOR_BYTES;
 pub use report::ReportResult;
+pub use sound::valid_size;

@@ -5,7 +5,7 @@ use words::vector_of;
 ghost use mathlib.Core.Path.{_≡_};
 ghost use Prim.Native.Nat.{_+_, _≤_};
 ghost use lib.ListN.{length};
-ghost use Rattle.process.specs.Sizes.{memoryBytes, vectorBytes};
+ghost use Rattle.process.specs.Sizes.{vectorBytes};
 ghost use Rattle.process.specs.Local.{local, Tested};
 ghost use Rattle.process.specs.Record.{withVector};
 ghost use Rattle.process.specs.Request.{examined, deposited, vectorAfter};
@@ -24,7 +24,7 @@ impl Process {
     // Makes a string what is seen from address at on.
     pub fn deposit(self, bytes: &mut [u8], at: usize, string: &[u8]) -> Self
         requires { ⌜ Tested self (now bytes) ⌝ }
-        requires { ⌜ at + length (now string) ≤ memoryBytes ⌝ }
+        requires { ⌜ at + length (now string) ≤ length (now bytes) ⌝ }
         ensures { λ r. ⌜ r ≡ deposited at (now (string .entry)) (local self (now (bytes .entry))) .process ⌝ }
         ensures { λ _. ⌜ now (bytes .exit) ≡ deposited at (now (string .entry)) (local self (now (bytes .entry))) .bytes ⌝ }
     {

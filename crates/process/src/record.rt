@@ -7,26 +7,27 @@ ghost use Rattle.process.specs.Sizes.{entryCount};
 ghost use Rattle.process.specs.Record.{fresh, withRun, withHost, withVector, withEntry, withBreaks, noBreaks};
 ghost use Rattle.process.specs.Request.{pc};
 
-// The number of entries of a process, of its bytes, and of its vector's bytes.
+// The number of entries of a process, of its bytes at the most, and of its vector's bytes.
 pub const ENTRIES: usize = 8;
 
 pub const MEMORY_BYTES: usize = 4096;
 
 pub const VECTOR_BYTES: usize = 18;
 
-// What is known of a process. Host 0 means nobody; the vector is R0 to R5, SP, PC, PS.
+// What is known of a process. Host 0 means nobody; its bytes are as many as its size says; the vector is R0 to R5, SP, PC, PS.
 pub struct Process {
     pub there: bool,
     pub host: u8,
     pub run: Run,
     pub vector: [u16; 9],
     pub breaks: [Breakpoint; ENTRIES],
+    pub size: u16,
 }
 
 impl Process {
     // A record with a zero vector and no breakpoints.
-    pub fn fresh(there: bool, host: u8, run: Run) -> Self
-        ensures { λ r. ⌜ r ≡ fresh there host run ⌝ }
+    pub fn fresh(there: bool, host: u8, run: Run, size: u16) -> Self
+        ensures { λ r. ⌜ r ≡ fresh there host run size ⌝ }
     {
         let none = Breakpoint::free();
         let vector = [0u16; 9];
@@ -37,6 +38,7 @@ impl Process {
             run: run,
             vector: vector,
             breaks: breaks,
+            size: size,
         }
     }
 
@@ -64,6 +66,7 @@ impl Process {
             run: run,
             vector: vector,
             breaks: breaks,
+            size: self.size,
         }
     }
 

@@ -10,11 +10,32 @@ ghost use Prim.Native.Nat.{_<_};
 ghost use lib.Dec.{ltb};
 ghost use Rattle.breakpoints.specs.declared.entry_query.EntryQuery.the-variants.{Lifted};
 ghost use Rattle.process.specs.Find.{find};
-ghost use Rattle.process.specs.Sizes.{entryCount};
+ghost use Rattle.process.specs.Sizes.{entryCount, validSize};
 ghost use Rattle.process.specs.Record.{entry};
-ghost use Rattle.process.specs.Sound.{absentHasNoHost, addressIsUnique, liftSound, entrySound, soundTest};
+ghost use Rattle.process.specs.Local.{extent};
+ghost use Rattle.process.specs.Sound.{absentHasNoHost, addressIsUnique, liftSound, entrySound, keepsRules, soundTest};
+
+// Whether a process may have this size: it is even, and 2 to 4,096.
+pub fn valid_size(size: u16) -> bool
+    ensures { λ r. ⌜ r ≡ validSize size ⌝ }
+{
+    if size % 2 != 0 {
+        return false;
+    }
+    if size < 2 {
+        return false;
+    }
+    size <= 4096
+}
 
 impl Process {
+    // How many bytes the process has: as many as its size says, or none if it is absent.
+    pub fn extent(self) -> usize
+        ensures { λ r. ⌜ r ≡ extent self ⌝ }
+    {
+        if self.there { self.size as usize } else { 0 }
+    }
+
     fn absent_has_no_host(self) -> bool
         ensures { λ r. ⌜ r ≡ absentHasNoHost self ⌝ }
     {
@@ -68,7 +89,7 @@ impl Process {
         if self.host == 0 {
             return false;
         }
-        if !valid_break_address(b.address) {
+        if !valid_break_address(self.size, b.address) {
             return false;
         }
         if !self.address_is_unique(k, b.address) {
@@ -78,8 +99,8 @@ impl Process {
     }
 
     // Every entry is read once, and what is asked of it is handed on, also that one was lifted: an entry read anew costs a copy of all eight.
-    pub fn sound(self) -> bool
-        ensures { λ r. ⌜ r ≡ soundTest self ⌝ }
+    fn keeps_rules(self) -> bool
+        ensures { λ r. ⌜ r ≡ keepsRules self ⌝ }
     {
         if !self.absent_has_no_host() {
             return false;
@@ -96,5 +117,15 @@ impl Process {
             k += 1;
         }
         true
+    }
+
+    // Whether the record is sound.
+    pub fn sound(self) -> bool
+        ensures { λ r. ⌜ r ≡ soundTest self ⌝ }
+    {
+        if !valid_size(self.size) {
+            return false;
+        }
+        self.keeps_rules()
     }
 }

@@ -42,7 +42,7 @@ exchange-requires-2 c κs =
     let m = s .args .bytes .now in
     let string = s .args .string .now in
     let eight = simp length-map at (s .good .0 .1 .1 .1 .1 .1 .1 .0 .1 .0 .1) in
-    let whole = length-seen (p .breaks) m ∙ s .pre .0 .size in
+    let whole = length-seen (p .breaks) m in
     let fits : s .args .at + length string ≤ length (seen (p .breaks) m) = omega (arith, s .pre .1, whole) in
     let size = length-paste (seen (p .breaks) m) (s .args .at) string (length string) fits (omega arith) ∙ whole in
     rw (e .exchange .ensures .0, k .copy .ensures .1, paste-within (s .args .at) string (e .exchange .last .1 .0), e .exchange .ensures .1)

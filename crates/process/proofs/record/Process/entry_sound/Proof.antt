@@ -77,7 +77,7 @@ returns-4 c =
     rw (
       used (a .b) e (s .pre .1 .0) _ (not-false (a .b .used) (i .if1 .left)),
       ne-eqb _ _ (h .if2 .left),
-      ap validBreakAddress (sym (address (a .b) e (s .pre .1 .0))) ∙ sym (p .valid-break-address .ensures) ∙ not-false (p .valid-break-address .result) (j .if3 .left),
+      ap (validBreakAddress (a .self .size)) (sym (address (a .b) e (s .pre .1 .0))) ∙ sym (p .valid-break-address .ensures) ∙ not-false (p .valid-break-address .result) (j .if3 .left),
       ← f .address-is-unique .ensures,
       not-true (f .address-is-unique .result) (c .if4 .taken),
     )
@@ -105,7 +105,7 @@ returns-5 c =
     rw (
       used (a .b) e (s .pre .1 .0) _ (not-false (a .b .used) (i .if1 .left)),
       ne-eqb _ _ (h .if2 .left),
-      ap validBreakAddress (sym (address (a .b) e (s .pre .1 .0))) ∙ sym (p .valid-break-address .ensures) ∙ not-false (p .valid-break-address .result) (j .if3 .left),
+      ap (validBreakAddress (a .self .size)) (sym (address (a .b) e (s .pre .1 .0))) ∙ sym (p .valid-break-address .ensures) ∙ not-false (p .valid-break-address .result) (j .if3 .left),
       ← f .address-is-unique .ensures,
       not-false (f .address-is-unique .result) (g .if4 .left),
     )
