@@ -1,19 +1,24 @@
 -- Laws of the eight records. Assumes nothing.
 use mathlib.Core.Path.{_≡_, refl}
-use mathlib.Core.Bool.{Bool, true, false}
-use mathlib.Core.List.{List, [], _∷_, map}
-use Prim.Native.Nat.{ℕ, zero, suc, _<_}
+use mathlib.Core.Bool.{Bool, true, false, not, _&&_, _||_}
+use mathlib.Core.List.{List, [], _∷_}
+use Prim.Native.Nat.{ℕ, zero, suc, _<_, _%_}
 use native.Mathlib.Nat.{not-suc-le-zero}
 use native.Mathlib.Omega.{arith}
-use lib.ListN.{length, getD}
+use borrow.Author.Tests.{eqb-true, leb-true}
+use lib.ListN.{length, drop, getD}
+use lib.Dec.{eqb, leb}
+use Rattle.lists.proofs.Bool.{&&-left, &&-right}
 use Rattle.lists.proofs.Every.{below-at, below-all}
 use Rattle.run_state.specs.declared.Run.the-variants.{Running}
+use Rattle.process.specs.Sizes.{validSize}
 use Rattle.process.specs.Record.{fresh}
-use Rattle.process.specs.Sound.{Sound}
+use Rattle.process.specs.Request.{cleared}
+use Rattle.process.specs.Sound.{Sound, SizeRight}
 use Rattle.process.specs.Sound.{soundTest as soundProcess}
 use Rattle.process.proofs.SoundTestLaws.{passes-sound, sound-passes}
 use Rattle.process.proofs.SoundLaws.{sound-free}
-use Rattle.state.specs.Records.{Records, nobody, processAt, SoundState, soundTest, freshStart}
+use Rattle.state.specs.Records.{Records, nobody, processAt, SoundState, soundTest, freshProcess, freshProcesses, freshStart, sizesRight}
 use Rattle.state.specs.Theorems.{EightEntries, TestIsSound, FreshIsSound}
 
 pub state-sound : (g : Records) → soundTest g ≡ true → SoundState g
@@ -27,16 +32,25 @@ state-passes g eight s = below-all (λ (q : ℕ). soundProcess (processAt g q)) 
 pub test-is-sound : TestIsSound
 test-is-sound = record { passes-sound = state-sound; sound-passes = state-passes }
 
--- a fresh record is sound: it has no host and no breakpoints
-fresh-sound : (t : Bool) → Sound (fresh t 0 Running)
-unfolding fresh
-fresh-sound t = sound-free (fresh t 0 Running) refl (λ e. refl)
+-- a fresh record is sound: it has no host and no breakpoints, and its size is right
+size-right : (n : ℕ) → validSize n ≡ true → SizeRight n
+unfolding validSize
+size-right n e =
+    let both = &&-right (eqb (n % 2) 0) (leb 2 n && leb n 4096) e in
+    record { even = eqb-true _ _ (&&-left (eqb (n % 2) 0) _ e); least = leb-true _ _ (&&-left (leb 2 n) _ both); most = leb-true _ _ (&&-right (leb 2 n) (leb n 4096) both) }
 
-getD-fresh : (ts : List Bool) (p : ℕ) → p < length ts → getD (map (λ (t : Bool). fresh t 0 Running) ts) p nobody ≡ fresh (getD ts p false) 0 Running
-getD-fresh [] p h = absurd (not-suc-le-zero h)
-getD-fresh (t ∷ ts) zero h = refl
-getD-fresh (t ∷ ts) (suc p) h = getD-fresh ts p (omega arith)
+fresh-sound : (t : Bool) (n : ℕ) → not t || validSize n ≡ true → Sound (freshProcess t n)
+unfolding freshProcess fresh cleared validSize
+fresh-sound true n e = sound-free (fresh true 0 Running n) (size-right n e) refl (λ i. refl)
+fresh-sound false n e = sound-free (fresh false 0 Running 4096) (size-right 4096 refl) refl (λ i. refl)
+
+fresh-sounds : (ts : List Bool) (ns : List ℕ) → sizesRight ts ns ≡ true → (p : ℕ) → p < length ts → Sound (getD (freshProcesses ts ns) p nobody)
+unfolding freshProcesses sizesRight
+fresh-sounds [] ns e p h = absurd (not-suc-le-zero h)
+fresh-sounds (t ∷ ts) ns e zero h = fresh-sound t (getD ns 0 0) (&&-left (not t || validSize (getD ns 0 0)) _ e)
+fresh-sounds (t ∷ ts) ns e (suc p) h =
+    fresh-sounds ts (drop 1 ns) (&&-right (not t || validSize (getD ns 0 0)) (sizesRight ts (drop 1 ns)) e) p (omega arith)
 
 pub fresh-is-sound : FreshIsSound
 unfolding FreshIsSound freshStart
-fresh-is-sound ts long p h = rw (getD-fresh ts p (omega arith)) (fresh-sound (getD ts p false))
+fresh-is-sound ts ns long e p h = fresh-sounds ts ns e p (omega (arith, h, long))

@@ -1,18 +1,37 @@
 -- Laws of a process's bytes in the lent memory: a change of one process's bytes leaves every other's. Assumes nothing.
 use mathlib.Core.Path.{_≡_, refl, ap, _∙_}
 use mathlib.Core.Bool.{Bool, true, false}
-use mathlib.Core.List.{List, _++_}
+use mathlib.Core.List.{List, [], _∷_, _++_}
 use mathlib.Core.Logic.{_⊎_, inl, inr}
-use Prim.Native.Nat.{ℕ, _+_, _*_, _≤_, _<_}
+use Prim.Native.Nat.{ℕ, zero, suc, _+_, _*_, _≤_, _<_}
+use native.Mathlib.Nat.{not-suc-le-zero}
 use native.Mathlib.Omega.{arith}
 use borrow.Author.Tests.{eqb-true, ltb-true, ltb-false}
 use lib.ListN.{length, take, drop, take-append-drop}
 use lib.Dec.{eqb, ltb}
+use Rattle.lists.specs.Buffer.{overlay}
 use Rattle.lists.specs.Every.{below}
 use Rattle.lists.proofs.Every.{below-at}
 use Rattle.lists.proofs.Part.{length-part, length-replaced, part-same, part-other}
 use Rattle.state.specs.Slot.{startOf, slot, withSlot}
 use Rattle.state.specs.Theorems.{SlotsApart}
+
+-- ---- a part put back
+
+-- where fewer are taken than asked for, none are left
+part-back : (n : ℕ) (d : List ℕ) → take n d ++ drop (length (take n d)) d ≡ d
+part-back zero d = refl
+part-back (suc n) [] = refl
+part-back (suc n) (x ∷ d) = ap (λ (xs : List ℕ). x ∷ xs) (part-back n d)
+
+part-over : (n : ℕ) (bytes d : List ℕ) → length bytes ≤ length (take n d)
+    → (bytes ++ drop (length bytes) (take n d)) ++ drop (length (bytes ++ drop (length bytes) (take n d))) d ≡ bytes ++ drop (length bytes) d
+part-over n [] d low = part-back n d
+part-over zero (b ∷ bytes) d low = absurd (not-suc-le-zero low)
+part-over (suc n) (b ∷ bytes) [] low = absurd (not-suc-le-zero low)
+part-over (suc n) (b ∷ bytes) (x ∷ d) low = ap (λ (xs : List ℕ). b ∷ xs) (part-over n bytes d (omega (arith, low)))
+
+-- ---- where the bytes lie
 
 -- the rule of the table, by one test that is computed over all of it
 right : ℕ → Bool
@@ -27,40 +46,47 @@ unfolding right
 startOf-is p h = eqb-true (startOf p) (4096 * p) (below-at right 8 p h all-right)
 
 -- the bytes of a process are within the memory
-inside : (p : ℕ) (memory : List ℕ) → p < 8 → length memory ≡ 32768 → startOf p + 4096 ≤ length memory
-inside p memory h size = omega (arith, startOf-is p h)
+inside : (p n : ℕ) (memory : List ℕ) → p < 8 → length memory ≡ 32768 → n ≤ 4096 → startOf p + n ≤ length memory
+inside p n memory h size low = omega (arith, startOf-is p h)
 
-pub length-slot : (p : ℕ) (memory : List ℕ) → p < 8 → length memory ≡ 32768 → length (slot p memory) ≡ 4096
+pub length-slot : (p n : ℕ) (memory : List ℕ) → p < 8 → length memory ≡ 32768 → n ≤ 4096 → length (slot p n memory) ≡ n
 unfolding slot
-length-slot p memory h size = length-part (startOf p) 4096 memory (inside p memory h size)
+length-slot p n memory h size low = length-part (startOf p) n memory (inside p n memory h size low)
 
-pub length-withSlot : (p : ℕ) (bytes memory : List ℕ) → p < 8 → length memory ≡ 32768 → length bytes ≡ 4096 → length (withSlot p bytes memory) ≡ 32768
+pub length-withSlot : (p : ℕ) (bytes memory : List ℕ) → p < 8 → length memory ≡ 32768 → length bytes ≤ 4096 → length (withSlot p bytes memory) ≡ 32768
 unfolding withSlot
-length-withSlot p bytes memory h size long = length-replaced (startOf p) 4096 memory (inside p memory h size) bytes long ∙ size
+length-withSlot p bytes memory h size low = length-replaced (startOf p) (length bytes) memory (inside p (length bytes) memory h size low) bytes refl ∙ size
 
-pub slot-same : (p : ℕ) (bytes memory : List ℕ) → p < 8 → length memory ≡ 32768 → length bytes ≡ 4096 → slot p (withSlot p bytes memory) ≡ bytes
+pub slot-same : (p : ℕ) (bytes memory : List ℕ) → p < 8 → length memory ≡ 32768 → length bytes ≤ 4096 → slot p (length bytes) (withSlot p bytes memory) ≡ bytes
 unfolding slot withSlot
-slot-same p bytes memory h size long = part-same (startOf p) 4096 memory (inside p memory h size) bytes long
+slot-same p bytes memory h size low = part-same (startOf p) (length bytes) memory (inside p (length bytes) memory h size low) bytes refl
 
--- the bytes of a process put back are the memory
-pub withSlot-slot : (p : ℕ) (memory : List ℕ) → withSlot p (slot p memory) memory ≡ memory
+-- the bytes of a process put back are the memory, also where there are fewer than asked for
+pub withSlot-slot : (p n : ℕ) (memory : List ℕ) → withSlot p (slot p n memory) memory ≡ memory
 unfolding slot withSlot
-withSlot-slot p memory =
-    ap (λ (xs : List ℕ). take (startOf p) memory ++ xs) (take-append-drop 4096 (drop (startOf p) memory)) ∙ take-append-drop (startOf p) memory
+withSlot-slot p n memory =
+    ap (λ (xs : List ℕ). take (startOf p) memory ++ xs) (part-back n (drop (startOf p) memory)) ∙ take-append-drop (startOf p) memory
+
+-- bytes laid over those of a process: only these change
+pub withSlot-over : (p n : ℕ) (bytes memory : List ℕ) → length bytes ≤ length (slot p n memory)
+    → withSlot p (overlay bytes (slot p n memory)) memory ≡ withSlot p bytes memory
+unfolding slot withSlot overlay
+withSlot-over p n bytes memory low =
+    ap (λ (xs : List ℕ). take (startOf p) memory ++ xs) (part-over n bytes (drop (startOf p) memory) low)
 
 -- the bytes of two processes do not meet
-apart : (p q : ℕ) → p < 8 → q < 8 → (q ≡ p → ⊥) → (startOf q + 4096 ≤ startOf p) ⊎ (startOf p + 4096 ≤ startOf q)
-apart p q h i n = go (ltb q p) refl
+apart : (p q m n : ℕ) → p < 8 → q < 8 → (q ≡ p → ⊥) → m ≤ 4096 → n ≤ 4096 → (startOf q + n ≤ startOf p) ⊎ (startOf p + m ≤ startOf q)
+apart p q m n h i other low few = go (ltb q p) refl
   where
-    go : (t : Bool) → ltb q p ≡ t → (startOf q + 4096 ≤ startOf p) ⊎ (startOf p + 4096 ≤ startOf q)
+    go : (t : Bool) → ltb q p ≡ t → (startOf q + n ≤ startOf p) ⊎ (startOf p + m ≤ startOf q)
     go true e = inl (omega (arith, startOf-is p h, startOf-is q i, ltb-true q p e))
     go false e = inr (omega (arith, startOf-is p h, startOf-is q i, ltb-false q p e))
 
-pub slot-other : (p q : ℕ) (bytes memory : List ℕ) → p < 8 → q < 8 → (q ≡ p → ⊥) → length memory ≡ 32768 → length bytes ≡ 4096
-    → slot q (withSlot p bytes memory) ≡ slot q memory
+pub slot-other : (p q n : ℕ) (bytes memory : List ℕ) → p < 8 → q < 8 → (q ≡ p → ⊥) → length memory ≡ 32768 → length bytes ≤ 4096 → n ≤ 4096
+    → slot q n (withSlot p bytes memory) ≡ slot q n memory
 unfolding slot withSlot
-slot-other p q bytes memory h i n size long =
-    part-other (startOf p) 4096 memory (inside p memory h size) bytes long (startOf q) 4096 (apart p q h i n)
+slot-other p q n bytes memory h i other size low few =
+    part-other (startOf p) (length bytes) memory (inside p (length bytes) memory h size low) bytes refl (startOf q) n (apart p q (length bytes) n h i other low few)
 
 pub slots-apart : SlotsApart
 slots-apart = record { starts = startOf-is; size = length-slot; kept = length-withSlot; same = slot-same; other = slot-other }

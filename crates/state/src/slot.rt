@@ -1,4 +1,4 @@
-// Where a process's 4,096 bytes lie in the lent memory.
+// Where a process's bytes lie in the lent memory.
 ghost use mathlib.Core.Path.{_≡_};
 ghost use Prim.Native.Nat.{_<_};
 ghost use Rattle.state.specs.Slot.{startOf};

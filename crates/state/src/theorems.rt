@@ -7,12 +7,12 @@ pub fn test_is_sound()
     ensures { λ _. ⌜ TestIsSound ⌝ }
 {}
 
-// Every fresh start is sound.
+// Every fresh start with right sizes is sound.
 pub fn fresh_is_sound()
     ensures { λ _. ⌜ FreshIsSound ⌝ }
 {}
 
-// Each process has its own 4,096 bytes of the lent memory.
+// Each process has its own bytes of the lent memory, at most 4,096.
 pub fn slots_are_apart()
     ensures { λ _. ⌜ SlotsApart ⌝ }
 {}
