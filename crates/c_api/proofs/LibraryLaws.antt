@@ -8,7 +8,7 @@ use lib.IntN.{negsuc, +ℤ-idl}
 use lib.ListN.{length}
 use Rattle.format.specs.declared.outcome.Outcome.{Outcome}
 use Rattle.format.specs.declared.outcome.Outcome.the-variants.{Granted, Refused}
-use Rattle.format.specs.Outcome.{numberOf}
+use Rattle.format.specs.Outcome.{numberOf, lengthOf}
 use Rattle.rules.specs.Tests.{State}
 use Rattle.rules.specs.Step.{Answer, Call, request, report, store, step}
 use Rattle.rules.specs.Ready.{Typed}
@@ -27,7 +27,7 @@ use Rattle.c_api.proofs.ShortLaws.{nine-words}
 
 -- where a number of 0 says that the call was granted
 told : (o : Outcome) → (numberOf o ≡ 0 → isGranted o ≡ true) → outcomeOf (signed o) ≡ o
-unfolding signed outcomeOf numberOf isGranted
+unfolding signed outcomeOf numberOf lengthOf isGranted
 told (Granted n) g = refl
 told (Refused zero) g = absurd (true≢false (sym (g refl)))
 told (Refused (suc n)) g = ap outcomeOf (+ℤ-idl (negsuc n))

@@ -16,13 +16,16 @@ use Rattle.process.specs.Request.{examined}
 use Rattle.breakpoints.proofs.SeenLaws.{length-seen}
 use Rattle.state.specs.Slot.{startOf, slot}
 use Rattle.rules.specs.Rule.{ruleOf, names, creates}
+use Rattle.format.specs.Outcome.{outcome, lengthOf}
 use Rattle.format.specs.Layout.{headerOf}
+use Rattle.format.proofs.OutcomeLaws.{lengthOf-none}
 use Rattle.rules.specs.Tests.{State, lent, requestNumber, reportNumber}
 use Rattle.rules.specs.Step.{Answer, StepResult, request, report, step, localOf, grantedNamed, grantedCreate, granted, refused, requestStep, told, noticeTo, notified, reportStep}
 use Rattle.rules.proofs.StepLaws.{by-test}
 use Rattle.checks.proofs.OpLaws.{coded}
 use Rattle.state_bytes.specs.State.{stateOf, stateFormed}
-use Rattle.gateway.specs.Called.{Called, finished, callOn, startOn}
+use Rattle.rules.specs.Turn.{bufferOf}
+use Rattle.gateway.specs.Called.{Called, lentOn, finished, callOn}
 use Rattle.c_api.specs.Called.{Short}
 
 slot-short : (p : ℕ) (m : List ℕ) → length (slot p m) ≤ 4096
@@ -42,26 +45,30 @@ shown-short h s = rw (coded (h .cmd) .shown h (localOf s (h .pid))) (go (eqb (h 
     go true = omega (arith, examined-short (h .arg1) (h .arg2) (localOf s (h .pid)), slot-short (h .pid) (s .memory))
     go false = omega arith
 
+-- what is refused has no length
+refused-short : (n : ℕ) → Short (outcome n 0)
+refused-short n = rw (lengthOf-none n) (omega arith)
+
 abbrev ShortStep : StepResult → Type 0
 ShortStep x = Short (x .answer .outcome)
 
 requestStep-short : (m buffer : List ℕ) (s : State) → Short (requestStep m buffer s .answer .outcome)
-unfolding requestStep granted grantedNamed grantedCreate refused
+unfolding requestStep granted grantedNamed grantedCreate refused lengthOf
 requestStep-short m buffer s =
     by-test ShortStep (eqb (requestNumber s m buffer) 0)
     (λ e. by-test ShortStep (names (headerOf m .cmd))
     (λ n. omega (arith, shown-short (headerOf m) s))
     (λ n. by-test ShortStep (creates (headerOf m .cmd)) (λ c. omega arith) (λ c. omega arith)))
-    (λ e. tt)
+    (λ e. refused-short (requestNumber s m buffer))
 
 reportStep-short : (p kind reason : ℕ) (words buffer : List ℕ) (s : State) → length words ≡ 9 → Short (reportStep p kind reason words buffer s .answer .outcome)
-unfolding reportStep notified noticeTo
+unfolding reportStep notified noticeTo lengthOf
 reportStep-short p kind reason words buffer s nine =
     by-test ShortStep (eqb (reportNumber s p kind reason buffer) 0)
     (λ e. by-test (λ (x : Answer). Short (x .outcome)) (told kind words (localOf s p))
     (λ t. omega (arith, length-lowFirst words, nine))
     (λ t. omega arith))
-    (λ e. tt)
+    (λ e. refused-short (reportNumber s p kind reason buffer))
 
 -- words that are read are nine
 pub nine-words : (m : List ℕ) → length (vectorOf m) ≡ 9
@@ -73,10 +80,10 @@ ShortCall x = Short (x .outcome)
 
 module _ (state memory : List ℕ) where
   pub request-short : (m buffer : List ℕ) → Short (callOn state memory (request m buffer) .outcome)
-  unfolding callOn finished step
-  request-short m buffer = by-test ShortCall (stateFormed state) (λ f. requestStep-short m buffer (lent (stateOf state) memory)) (λ f. tt)
+  unfolding callOn finished step bufferOf
+  request-short m buffer = by-test ShortCall (stateFormed state) (λ f. requestStep-short m buffer (lent (stateOf state) memory)) (λ f. refused-short (lentOn state memory buffer))
 
   pub report-short : (p kind reason : ℕ) (words buffer : List ℕ) → length words ≡ 9 → Short (callOn state memory (report p kind reason words buffer) .outcome)
-  unfolding callOn finished step
+  unfolding callOn finished step bufferOf
   report-short p kind reason words buffer nine =
-      by-test ShortCall (stateFormed state) (λ f. reportStep-short p kind reason words buffer (lent (stateOf state) memory) nine) (λ f. tt)
+      by-test ShortCall (stateFormed state) (λ f. reportStep-short p kind reason words buffer (lent (stateOf state) memory) nine) (λ f. refused-short (lentOn state memory buffer))

@@ -8,7 +8,7 @@ use lib.ListN.{length}
 use lib.Dec.{eqb}
 use Rattle.lists.specs.Word.{vectorOf}
 use Rattle.format.specs.declared.outcome.Outcome.{Outcome}
-use Rattle.format.specs.declared.outcome.Outcome.the-variants.{Granted, Refused}
+use Rattle.format.specs.Outcome.{numberOf, lengthOf, isGranted}
 use Rattle.rules.specs.Step.{report}
 use Rattle.gateway.specs.Called.{Called, StartResult, refusedBy, callOn, startOn}
 
@@ -18,13 +18,11 @@ minus n = pos 0 -ℤ pos n
 
 -- the length granted, 0 or more, or minus the number of the refusal
 unfoldable pub signed : Outcome → ℤ
-signed (Granted n) = pos n
-signed (Refused n) = minus n
+signed o = cond (isGranted o) (pos (lengthOf o)) (minus (numberOf o))
 
--- a granted length that a signed number holds
+-- a length that a signed number holds
 abbrev pub Short : Outcome → Type 0
-Short (Granted n) = n < 65536
-Short (Refused n) = Unit {0}
+Short o = lengthOf o < 65536
 
 -- a call returned this number, and left these bytes in state, memory and output buffer
 pub record Returns (x : Called) (result : ℤ) (state memory buffer : List ℕ) : Type 0 where

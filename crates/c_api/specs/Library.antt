@@ -6,7 +6,7 @@ use lib.IntN.{ℤ, pos, negsuc}
 use lib.ListN.{length}
 use Rattle.lists.specs.Word.{vectorOf}
 use Rattle.format.specs.declared.outcome.Outcome.{Outcome}
-use Rattle.format.specs.declared.outcome.Outcome.the-variants.{Granted, Refused}
+use Rattle.format.specs.Outcome.{outcome}
 use Rattle.state.specs.Slot.{capacity}
 use Rattle.rules.specs.Step.{Call, request, report, store}
 use Rattle.rules.specs.Run.{TraceItem}
@@ -64,8 +64,8 @@ AllWhole (c ∷ cs) = Whole c × AllWhole cs
 
 -- the outcome that a returned number tells: the length granted, or minus the number of the refusal
 unfoldable pub outcomeOf : ℤ → Outcome
-outcomeOf (pos n) = Granted n
-outcomeOf (negsuc n) = Refused (suc n)
+outcomeOf (pos n) = outcome 0 n
+outcomeOf (negsuc n) = outcome (suc n) 0
 
 -- a call with what it returned, and the state that the bytes after it stand for
 abbrev pub returnedItem : LibraryCall → Returned → TraceItem

@@ -12,8 +12,7 @@ use lib.Dec.{leb}
 use Rattle.lists.specs.Buffer.{overlay}
 use Rattle.lists.proofs.Buffer.{overlay-snoc, overlay-all}
 use Rattle.format.specs.declared.outcome.Outcome.{Outcome}
-use Rattle.format.specs.declared.outcome.Outcome.the-variants.{Refused}
-use Rattle.format.specs.Outcome.{numberOf, firstFailing}
+use Rattle.format.specs.Outcome.{outcome, numberOf, firstFailing}
 use Rattle.format.specs.Refusal.{wrongLength}
 use Rattle.state.specs.Slot.{startOf, slot, withSlot}
 use Rattle.state.proofs.SlotLaws.{startOf-is}
@@ -171,11 +170,11 @@ module _ (s : State) (buffer : List ℕ) where
   unfolding requestNumber firstFailing
   number-long m h = rw (too-long m h)
 
-  refused-long : (m : List ℕ) → 266 < length m → requestStep m buffer s ≡ answers (Refused lentOr3) buffer s
+  refused-long : (m : List ℕ) → 266 < length m → requestStep m buffer s ≡ answers (outcome lentOr3 0) buffer s
   unfolding requestStep refused
   refused-long m h = go (noRoom (s .memory) buffer) (unsound s) (number-long m h)
     where
-      go : (a b : Bool) → requestNumber s m buffer ≡ cond a 1 (cond b 2 3) → requestStep m buffer s ≡ answers (Refused (cond a 1 (cond b 2 3))) buffer s
+      go : (a b : Bool) → requestNumber s m buffer ≡ cond a 1 (cond b 2 3) → requestStep m buffer s ≡ answers (outcome (cond a 1 (cond b 2 3)) 0) buffer s
       go true b e = rw e
       go false true e = rw e
       go false false e = rw e

@@ -1,10 +1,10 @@
 -- The cases, computed. Assumes nothing.
 use mathlib.Core.Path.{refl}
 use Rattle.lists.specs.Buffer.{overlay}
-use Rattle.lists.specs.Word.{lowFirst}
+use Rattle.lists.specs.Word.{lowFirst, vectorOf}
 use Rattle.format.specs.Answer.{cantOf, createdOf, noticeOf}
 use Rattle.format.specs.Layout.{written, headerOf, stringOf, fixedRight}
-use Rattle.format.specs.Outcome.{numberOf, firstFailing}
+use Rattle.format.specs.Outcome.{firstFailing}
 use Rattle.format.specs.Refusal.{unusedZero, carriedLength, wrongLength, wrongHeader, misfits}
 use Rattle.ops.specs.Table.{rowOf, requestForm}
 use Rattle.breakpoints.specs.EntryQuery.{matches}
@@ -24,9 +24,8 @@ use Rattle.rules.specs.Rule.{public, ruleOf, names}
 use Rattle.rules.specs.Run.{run}
 use Rattle.rules.specs.Step.{put, grantedNamed, grantedCreate, granted, refused, requestStep, noticeTo, notified, reportStep, step}
 use Rattle.rules.specs.Tests.{askedTests, requestNumber, reportNumber}
-use Rattle.cases.specs.Case.{lengthWritten}
 use Rattle.cases.specs.Cases.{CasesHold}
 
 pub cases-hold : CasesHold
-unfolding CasesHold lengthWritten overlay lowFirst cantOf createdOf noticeOf written headerOf stringOf fixedRight numberOf firstFailing unusedZero carriedLength wrongLength wrongHeader misfits rowOf requestForm matches find plantedIn liftedIn removedFrom replanted liftedAt fresh accepts storeVectorAndReplant passes verdictOf recipientOf passed runAfter reported hasBreak hasRoom examined deposited vectorAfter breakSet breakRemoved created cleared restored seen savedFrom sheltered overlaySavedByte overlaySavedWord validBreakAddress absentHasNoHost liftSound usedSound entrySound soundTest freshStart soundState startOf slot withSlot public ruleOf names run put grantedNamed grantedCreate granted refused requestStep noticeTo notified reportStep step lowestAbsent askedTests requestNumber reportNumber
+unfolding CasesHold overlay lowFirst vectorOf cantOf createdOf noticeOf written headerOf stringOf fixedRight firstFailing unusedZero carriedLength wrongLength wrongHeader misfits rowOf requestForm matches find plantedIn liftedIn removedFrom replanted liftedAt fresh accepts storeVectorAndReplant passes verdictOf recipientOf passed runAfter reported hasBreak hasRoom examined deposited vectorAfter breakSet breakRemoved created cleared restored seen savedFrom sheltered overlaySavedByte overlaySavedWord validBreakAddress absentHasNoHost liftSound usedSound entrySound soundTest freshStart soundState startOf slot withSlot public ruleOf names run put grantedNamed grantedCreate granted refused requestStep noticeTo notified reportStep step lowestAbsent askedTests requestNumber reportNumber
 cases-hold = refl

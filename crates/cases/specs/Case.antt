@@ -1,23 +1,27 @@
--- A case: a fresh start, calls, and what each call answers and leaves in memory.
+-- A case: a fresh start, calls, and what each call answers and leaves in its buffer, in memory and in the records.
 use mathlib.Core.Bool.{Bool, cond}
-use mathlib.Core.List.{List, [], map}
+use mathlib.Core.List.{List, [], _∷_, map}
 use Prim.Native.Nat.{ℕ}
-use lib.ListN.{take, getD, replicate}
-use lib.Dec.{ltb}
+use lib.ListN.{length, getD, replicate}
+use Rattle.lists.specs.Buffer.{overlay}
 use Rattle.format.specs.declared.outcome.Outcome.{Outcome}
-use Rattle.format.specs.declared.outcome.Outcome.the-variants.{Granted, Refused}
-use Rattle.format.specs.Outcome.{numberOf}
+use Rattle.format.specs.Outcome.{outcome}
 use Rattle.format.specs.Layout.{written}
-use Rattle.state.specs.Records.{freshStart}
+use Rattle.breakpoints.specs.declared.entry.Breakpoint.{Breakpoint}
+use Rattle.run_state.specs.RunState.{runNumber}
+use Rattle.process.specs.declared.record.Process.{Process}
+use Rattle.process.specs.Record.{entry}
+use Rattle.state.specs.Records.{Records, processAt, freshStart}
 use Rattle.rules.specs.Step.{Call, request}
 use Rattle.rules.specs.Run.{TraceItem, run}
 use Rattle.format.specs.Sizes.{messageBytes}
 
--- what is seen of a call: its number, the bytes that it wrote, and bytes of memory after it
+-- what is seen of a call: its outcome, its whole buffer after it, and what is looked at in memory and in the records after it
 pub record Seen : Type 0 where
-  pub number : ℕ
-  pub bytes : List ℕ
+  pub outcome : Outcome
+  pub buffer : List ℕ
   pub memory : List ℕ
+  pub records : List ℕ
 
 -- a case: how it starts, its calls, and what is to be seen of each
 pub record Case : Type 0 where
@@ -27,24 +31,49 @@ pub record Case : Type 0 where
   pub calls : List Call
   -- the places of the lent memory that are looked at after each call
   pub places : List ℕ
+  -- what is looked at in the records after each call
+  pub looks : Records → List ℕ
   pub seen : List Seen
 
--- granted: so many bytes; refused: the CAN'T of ten bytes from 7 on
-unfoldable pub lengthWritten : Outcome → ℕ
-lengthWritten (Granted n) = n
-lengthWritten (Refused n) = cond (ltb n 7) 0 10
-
 -- what is seen of a call that was made
-abbrev pub seenOf : List ℕ → TraceItem → Seen
-seenOf places e = record {
-  number = numberOf (e .answer .outcome);
-  bytes = take (lengthWritten (e .answer .outcome)) (e .answer .buffer);
+abbrev pub seenOf : List ℕ → (Records → List ℕ) → TraceItem → Seen
+seenOf places looks e = record {
+  outcome = e .answer .outcome;
+  buffer = e .answer .buffer;
   memory = map (λ (a : ℕ). getD (e .after .memory) a 0) places;
+  records = looks (e .after .records);
 }
 
 -- what is seen when the calls of a case are run
 abbrev pub outcomes : Case → List Seen
-outcomes c = map (seenOf (c .places)) (run (record { records = freshStart (c .there); memory = c .lent }) (c .calls))
+outcomes c = map (seenOf (c .places) (c .looks)) (run (record { records = freshStart (c .there); memory = c .lent }) (c .calls))
+
+-- ---- what to look at in the records
+
+-- nothing
+abbrev pub nothing : Records → List ℕ
+nothing g = []
+
+-- of each process, the host that debugs it
+abbrev pub debuggers : Records → List ℕ
+debuggers g = map (λ (p : Process). p .host) (g .processes)
+
+-- the vector of process 2
+abbrev pub vector : Records → List ℕ
+vector g = processAt g 2 .vector
+
+-- the remaining count of each entry of process 2
+abbrev pub counts : Records → List ℕ
+counts g = map (λ (b : Breakpoint). b .count) (processAt g 2 .breaks)
+
+-- the saved word in the first entry of process 2
+abbrev pub saved : Records → List ℕ
+saved g = entry (processAt g 2) 0 .low ∷ entry (processAt g 2) 0 .high ∷ []
+
+-- the run state of process 2, the count of its first entry and whether that is lifted, and its vector
+abbrev pub progress : Records → List ℕ
+progress g =
+    runNumber (processAt g 2 .run) ∷ entry (processAt g 2) 0 .count ∷ cond (entry (processAt g 2) 0 .lifted) 1 0 ∷ processAt g 2 .vector
 
 -- ---- calls
 
@@ -60,10 +89,10 @@ sent m = request m buffer
 abbrev pub asked : ℕ → ℕ → ℕ → ℕ → ℕ → List ℕ → Call
 asked host cmd pid arg1 arg2 string = sent (written (record { host = host; cmd = cmd; pid = pid; arg1 = arg1; arg2 = arg2 }) string)
 
--- what is seen of a call where no memory is looked at
-abbrev pub answer : ℕ → List ℕ → Seen
-answer number bytes = record { number = number; bytes = bytes; memory = [] }
+-- what is to be seen: granted or refused with this number, these bytes laid over the buffer, and what is looked at
+abbrev pub answer : ℕ → List ℕ → List ℕ → List ℕ → Seen
+answer number bytes memory records = record { outcome = outcome number (length bytes); buffer = overlay bytes buffer; memory = memory; records = records }
 
--- and where it is
-abbrev pub holds : ℕ → List ℕ → List ℕ → Seen
-holds number bytes memory = record { number = number; bytes = bytes; memory = memory }
+-- the same where the call is granted and its buffer untouched
+abbrev pub silent : List ℕ → List ℕ → Seen
+silent memory records = record { outcome = outcome 0 0; buffer = buffer; memory = memory; records = records }

@@ -5,7 +5,7 @@ use mathlib.Core.List.{List, [], _∷_, map}
 use Prim.Native.Nat.{ℕ}
 use lib.ListN.{replicate, set}
 use Rattle.rules.specs.Step.{Call, report}
-use Rattle.cases.specs.Case.{Case, Seen, outcomes, buffer, sent, asked, answer, holds}
+use Rattle.cases.specs.Case.{Case, Seen, outcomes, nothing, debuggers, vector, counts, saved, progress, buffer, sent, asked, answer, silent}
 use Rattle.state.specs.Slot.{capacity}
 
 -- process 2 alone
@@ -28,46 +28,61 @@ debug = 0 ∷ 5 ∷ 255 ∷ 0 ∷ 1 ∷ 2 ∷ 0 ∷ 0 ∷ 0 ∷ 0 ∷ []
 abbrev pub debugBySix : List ℕ
 debugBySix = 0 ∷ 6 ∷ 255 ∷ 0 ∷ 1 ∷ 2 ∷ 0 ∷ 0 ∷ 0 ∷ 0 ∷ []
 
+-- eight zeros: nobody debugs a process, or no entry has a count
+abbrev pub none : List ℕ
+none = replicate 8 0
+
+-- host 5 debugs process 2, and nobody any other
+abbrev pub five : List ℕ
+five = 0 ∷ 0 ∷ 5 ∷ 0 ∷ 0 ∷ 0 ∷ 0 ∷ 0 ∷ []
+
 -- P1: 'comes back the same'
 abbrev pub nopCase : Case
-nopCase = record { there = second; lent = zeros; calls = sent nop ∷ []; places = []; seen = answer 0 nop ∷ [] }
+nopCase = record { there = second; lent = zeros; calls = sent nop ∷ []; places = []; looks = debuggers; seen = answer 0 nop [] none ∷ [] }
 
--- P2, P3, P4
+-- P2, P3, P4: from the first on host 5 debugs process 2
 abbrev pub debugCase : Case
 debugCase = record {
   there = second;
   lent = zeros;
   places = [];
+  looks = debuggers;
   calls = sent debug ∷ sent debugBySix ∷ sent debug ∷ [];
-  seen = answer 0 debug ∷ answer 8 (0 ∷ 6 ∷ 255 ∷ 0 ∷ 129 ∷ 2 ∷ 0 ∷ 0 ∷ 0 ∷ 0 ∷ []) ∷ answer 0 debug ∷ [];
+  seen = answer 0 debug [] five ∷ answer 8 (0 ∷ 6 ∷ 255 ∷ 0 ∷ 129 ∷ 2 ∷ 0 ∷ 0 ∷ 0 ∷ 0 ∷ []) [] five ∷ answer 0 debug [] five ∷ [];
 }
 
--- P5, P6: EXAMINE at 4,092 count 4, at 4,093 count 4, at 4,096 count 0
+-- P5, P6: EXAMINE at 4,092 count 4, at 4,093 count 4, at 4,096 count 0; the last bytes of process 2, from 12,284 of the lent memory, are 1, 2, 3, 4
 abbrev pub examineCase : Case
 examineCase = record {
   there = second;
-  lent = zeros;
+  lent = set (set (set (set zeros 12284 1) 12285 2) 12286 3) 12287 4;
   places = [];
+  looks = nothing;
   calls = sent debug ∷ asked 5 6 2 4092 4 [] ∷ asked 5 6 2 4093 4 [] ∷ asked 5 6 2 4096 0 [] ∷ [];
-  seen = answer 0 debug
-      ∷ answer 0 (0 ∷ 5 ∷ 255 ∷ 0 ∷ 6 ∷ 2 ∷ 15 ∷ 252 ∷ 0 ∷ 4 ∷ 0 ∷ 0 ∷ 0 ∷ 0 ∷ [])
-      ∷ answer 10 (0 ∷ 5 ∷ 255 ∷ 0 ∷ 134 ∷ 2 ∷ 15 ∷ 253 ∷ 0 ∷ 4 ∷ [])
-      ∷ answer 0 (0 ∷ 5 ∷ 255 ∷ 0 ∷ 6 ∷ 2 ∷ 16 ∷ 0 ∷ 0 ∷ 0 ∷ [])
+  seen = answer 0 debug [] []
+      ∷ answer 0 (0 ∷ 5 ∷ 255 ∷ 0 ∷ 6 ∷ 2 ∷ 15 ∷ 252 ∷ 0 ∷ 4 ∷ 1 ∷ 2 ∷ 3 ∷ 4 ∷ []) [] []
+      ∷ answer 10 (0 ∷ 5 ∷ 255 ∷ 0 ∷ 134 ∷ 2 ∷ 15 ∷ 253 ∷ 0 ∷ 4 ∷ []) [] []
+      ∷ answer 0 (0 ∷ 5 ∷ 255 ∷ 0 ∷ 6 ∷ 2 ∷ 16 ∷ 0 ∷ 0 ∷ 0 ∷ []) [] []
       ∷ [];
 }
 
--- P7, P8: the word 18, 52 at 256 of process 2, which is 8,448 of the lent memory; BREAK 256, EXAMINE, DEPOSIT 99 at 257, UNBREAK
+-- the lent memory with the word 18, 52 at 256 of process 2, which is 8,448 of the lent memory
+abbrev pub word : List ℕ
+word = set (set zeros 8448 18) 8449 52
+
+-- P7, P8: BREAK 256, EXAMINE, DEPOSIT 99 at 257, UNBREAK; in memory, and the saved word
 abbrev pub breakCase : Case
 breakCase = record {
   there = second;
-  lent = set (set zeros 8448 18) 8449 52;
+  lent = word;
   places = 8448 ∷ 8449 ∷ [];
+  looks = saved;
   calls = sent debug ∷ asked 5 8 2 256 0 [] ∷ asked 5 6 2 256 2 [] ∷ asked 5 4 2 257 1 (99 ∷ []) ∷ asked 5 9 2 256 0 [] ∷ [];
-  seen = holds 0 debug (18 ∷ 52 ∷ [])
-      ∷ holds 0 (0 ∷ 5 ∷ 255 ∷ 0 ∷ 8 ∷ 2 ∷ 1 ∷ 0 ∷ 0 ∷ 0 ∷ []) (3 ∷ 0 ∷ [])
-      ∷ holds 0 (0 ∷ 5 ∷ 255 ∷ 0 ∷ 6 ∷ 2 ∷ 1 ∷ 0 ∷ 0 ∷ 2 ∷ 18 ∷ 52 ∷ []) (3 ∷ 0 ∷ [])
-      ∷ holds 0 (0 ∷ 5 ∷ 255 ∷ 0 ∷ 4 ∷ 2 ∷ 1 ∷ 1 ∷ 0 ∷ 1 ∷ []) (3 ∷ 0 ∷ [])
-      ∷ holds 0 (0 ∷ 5 ∷ 255 ∷ 0 ∷ 9 ∷ 2 ∷ 1 ∷ 0 ∷ 0 ∷ 0 ∷ []) (18 ∷ 99 ∷ [])
+  seen = answer 0 debug (18 ∷ 52 ∷ []) (0 ∷ 0 ∷ [])
+      ∷ answer 0 (0 ∷ 5 ∷ 255 ∷ 0 ∷ 8 ∷ 2 ∷ 1 ∷ 0 ∷ 0 ∷ 0 ∷ []) (3 ∷ 0 ∷ []) (18 ∷ 52 ∷ [])
+      ∷ answer 0 (0 ∷ 5 ∷ 255 ∷ 0 ∷ 6 ∷ 2 ∷ 1 ∷ 0 ∷ 0 ∷ 2 ∷ 18 ∷ 52 ∷ []) (3 ∷ 0 ∷ []) (18 ∷ 52 ∷ [])
+      ∷ answer 0 (0 ∷ 5 ∷ 255 ∷ 0 ∷ 4 ∷ 2 ∷ 1 ∷ 1 ∷ 0 ∷ 1 ∷ []) (3 ∷ 0 ∷ []) (18 ∷ 99 ∷ [])
+      ∷ answer 0 (0 ∷ 5 ∷ 255 ∷ 0 ∷ 9 ∷ 2 ∷ 1 ∷ 0 ∷ 0 ∷ 0 ∷ []) (18 ∷ 99 ∷ []) (0 ∷ 0 ∷ [])
       ∷ [];
 }
 
@@ -75,36 +90,46 @@ breakCase = record {
 abbrev pub break : ℕ → ℕ → Call
 break a count = asked 5 8 2 a count []
 
--- the reply to BREAK at this address
+-- the reply to BREAK at this address, while no entry has a count
 abbrev pub broken : ℕ → Seen
-broken a = answer 0 (0 ∷ 5 ∷ 255 ∷ 0 ∷ 8 ∷ 2 ∷ 0 ∷ a ∷ 0 ∷ 0 ∷ [])
+broken a = answer 0 (0 ∷ 5 ∷ 255 ∷ 0 ∷ 8 ∷ 2 ∷ 0 ∷ a ∷ 0 ∷ 0 ∷ []) [] none
 
--- P9: 'Ninth address is 11; a new count for one of the eight is granted.'
+-- P9: 'Ninth address is 11; a new count for one of the eight is granted.' The address 6 is in the fourth entry
 abbrev pub ninthCase : Case
 ninthCase = record {
   there = second;
   lent = zeros;
   places = [];
+  looks = counts;
   calls = sent debug ∷ break 0 0 ∷ break 2 0 ∷ break 4 0 ∷ break 6 0 ∷ break 8 0 ∷ break 10 0 ∷ break 12 0 ∷ break 14 0 ∷ break 16 0 ∷ break 6 1 ∷ [];
-  seen = answer 0 debug ∷ broken 0 ∷ broken 2 ∷ broken 4 ∷ broken 6 ∷ broken 8 ∷ broken 10 ∷ broken 12 ∷ broken 14
-      ∷ answer 11 (0 ∷ 5 ∷ 255 ∷ 0 ∷ 136 ∷ 2 ∷ 0 ∷ 16 ∷ 0 ∷ 0 ∷ [])
-      ∷ answer 0 (0 ∷ 5 ∷ 255 ∷ 0 ∷ 8 ∷ 2 ∷ 0 ∷ 6 ∷ 0 ∷ 1 ∷ [])
+  seen = answer 0 debug [] none ∷ broken 0 ∷ broken 2 ∷ broken 4 ∷ broken 6 ∷ broken 8 ∷ broken 10 ∷ broken 12 ∷ broken 14
+      ∷ answer 11 (0 ∷ 5 ∷ 255 ∷ 0 ∷ 136 ∷ 2 ∷ 0 ∷ 16 ∷ 0 ∷ 0 ∷ []) [] none
+      ∷ answer 0 (0 ∷ 5 ∷ 255 ∷ 0 ∷ 8 ∷ 2 ∷ 0 ∷ 6 ∷ 0 ∷ 1 ∷ []) [] (0 ∷ 0 ∷ 0 ∷ 1 ∷ 0 ∷ 0 ∷ 0 ∷ 0 ∷ [])
       ∷ [];
 }
 
--- a BPT report of process 2 with PC 256
-abbrev pub reached : Call
-reached = report 2 2 0 (1 ∷ 2 ∷ 3 ∷ 4 ∷ 5 ∷ 6 ∷ 7 ∷ 256 ∷ 513 ∷ []) buffer
+-- a vector with PC 256
+abbrev pub words : List ℕ
+words = 1 ∷ 2 ∷ 3 ∷ 4 ∷ 5 ∷ 6 ∷ 7 ∷ 256 ∷ 513 ∷ []
 
--- P10: 'Count 2, running: the first two BPT reports there send nothing, the third sends ..'
+-- a BPT report of process 2 with that vector
+abbrev pub reached : Call
+reached = report 2 2 0 words buffer
+
+-- P10: 'Count 2, running: the first two BPT reports there send nothing, the third sends ..'. After the first two it runs with the word put
+-- back, after the third it is at the planted breakpoint
 abbrev pub countCase : Case
 countCase = record {
   there = second;
-  lent = zeros;
-  places = [];
+  lent = word;
+  places = 8448 ∷ 8449 ∷ [];
+  looks = progress;
   calls = sent debug ∷ break 256 2 ∷ reached ∷ reached ∷ reached ∷ [];
-  seen = answer 0 debug ∷ answer 0 (0 ∷ 5 ∷ 255 ∷ 0 ∷ 8 ∷ 2 ∷ 1 ∷ 0 ∷ 0 ∷ 2 ∷ []) ∷ answer 0 [] ∷ answer 0 []
-      ∷ answer 0 (0 ∷ 5 ∷ 255 ∷ 0 ∷ 66 ∷ 2 ∷ 0 ∷ 0 ∷ 0 ∷ 0 ∷ 1 ∷ 0 ∷ 2 ∷ 0 ∷ 3 ∷ 0 ∷ 4 ∷ 0 ∷ 5 ∷ 0 ∷ 6 ∷ 0 ∷ 7 ∷ 0 ∷ 0 ∷ 1 ∷ 1 ∷ 2 ∷ [])
+  seen = answer 0 debug (18 ∷ 52 ∷ []) (0 ∷ 0 ∷ 0 ∷ replicate 9 0)
+      ∷ answer 0 (0 ∷ 5 ∷ 255 ∷ 0 ∷ 8 ∷ 2 ∷ 1 ∷ 0 ∷ 0 ∷ 2 ∷ []) (3 ∷ 0 ∷ []) (0 ∷ 2 ∷ 0 ∷ replicate 9 0)
+      ∷ silent (18 ∷ 52 ∷ []) (0 ∷ 1 ∷ 1 ∷ words)
+      ∷ silent (18 ∷ 52 ∷ []) (0 ∷ 0 ∷ 1 ∷ words)
+      ∷ answer 0 (0 ∷ 5 ∷ 255 ∷ 0 ∷ 66 ∷ 2 ∷ 0 ∷ 0 ∷ 0 ∷ 0 ∷ 1 ∷ 0 ∷ 2 ∷ 0 ∷ 3 ∷ 0 ∷ 4 ∷ 0 ∷ 5 ∷ 0 ∷ 6 ∷ 0 ∷ 7 ∷ 0 ∷ 0 ∷ 1 ∷ 1 ∷ 2 ∷ []) (3 ∷ 0 ∷ []) (3 ∷ 0 ∷ 0 ∷ words)
       ∷ [];
 }
 
@@ -113,20 +138,30 @@ abbrev pub create : Call
 create = asked 5 12 0 0 0 []
 
 -- CREATED with this number
-abbrev pub created : ℕ → Seen
+abbrev pub created : ℕ → List ℕ → List ℕ → Seen
 created p = answer 0 (0 ∷ 5 ∷ 255 ∷ 0 ∷ 12 ∷ p ∷ 0 ∷ 0 ∷ 0 ∷ 0 ∷ [])
 
--- P11: 'Processes 0, 1, 3 there: CREATE gives 2. With all there ..'
+-- P11: 'Processes 0, 1, 3 there: CREATE gives 2. With all there ..'. Every byte of memory is 7 at the start; the first and the last byte of the
+-- processes 2 and 7 are looked at, and the bytes on both sides of process 2
 abbrev pub createCase : Case
 createCase = record {
   there = true ∷ true ∷ false ∷ true ∷ false ∷ false ∷ false ∷ false ∷ [];
-  lent = zeros;
-  places = [];
+  lent = replicate capacity 7;
+  places = 8191 ∷ 8192 ∷ 12287 ∷ 12288 ∷ 28672 ∷ 32767 ∷ [];
+  looks = debuggers;
   calls = create ∷ create ∷ create ∷ create ∷ create ∷ create ∷ [];
-  seen = created 2 ∷ created 4 ∷ created 5 ∷ created 6 ∷ created 7
-      ∷ answer 13 (0 ∷ 5 ∷ 255 ∷ 0 ∷ 140 ∷ 0 ∷ 0 ∷ 0 ∷ 0 ∷ 0 ∷ [])
+  seen = created 2 (7 ∷ 0 ∷ 0 ∷ 7 ∷ 7 ∷ 7 ∷ []) five
+      ∷ created 4 (7 ∷ 0 ∷ 0 ∷ 7 ∷ 7 ∷ 7 ∷ []) (0 ∷ 0 ∷ 5 ∷ 0 ∷ 5 ∷ 0 ∷ 0 ∷ 0 ∷ [])
+      ∷ created 5 (7 ∷ 0 ∷ 0 ∷ 7 ∷ 7 ∷ 7 ∷ []) (0 ∷ 0 ∷ 5 ∷ 0 ∷ 5 ∷ 5 ∷ 0 ∷ 0 ∷ [])
+      ∷ created 6 (7 ∷ 0 ∷ 0 ∷ 7 ∷ 7 ∷ 7 ∷ []) (0 ∷ 0 ∷ 5 ∷ 0 ∷ 5 ∷ 5 ∷ 5 ∷ 0 ∷ [])
+      ∷ created 7 (7 ∷ 0 ∷ 0 ∷ 7 ∷ 0 ∷ 0 ∷ []) (0 ∷ 0 ∷ 5 ∷ 0 ∷ 5 ∷ 5 ∷ 5 ∷ 5 ∷ [])
+      ∷ answer 13 (0 ∷ 5 ∷ 255 ∷ 0 ∷ 140 ∷ 0 ∷ 0 ∷ 0 ∷ 0 ∷ 0 ∷ []) (7 ∷ 0 ∷ 0 ∷ 7 ∷ 0 ∷ 0 ∷ []) (0 ∷ 0 ∷ 5 ∷ 0 ∷ 5 ∷ 5 ∷ 5 ∷ 5 ∷ [])
       ∷ [];
 }
+
+-- a vector of zeros but for PS, which is the bytes 8, 9, low byte first
+abbrev pub deposited : List ℕ
+deposited = 0 ∷ 0 ∷ 0 ∷ 0 ∷ 0 ∷ 0 ∷ 0 ∷ 0 ∷ 2312 ∷ []
 
 -- P12: 'Vector deposit at 16 of 2 bytes granted; at 17, 10.'
 abbrev pub vectorCase : Case
@@ -134,10 +169,11 @@ vectorCase = record {
   there = second;
   lent = zeros;
   places = [];
+  looks = vector;
   calls = sent debug ∷ asked 5 7 2 16 2 (8 ∷ 9 ∷ []) ∷ asked 5 7 2 17 2 (8 ∷ 9 ∷ []) ∷ [];
-  seen = answer 0 debug
-      ∷ answer 0 (0 ∷ 5 ∷ 255 ∷ 0 ∷ 7 ∷ 2 ∷ 0 ∷ 16 ∷ 0 ∷ 2 ∷ [])
-      ∷ answer 10 (0 ∷ 5 ∷ 255 ∷ 0 ∷ 135 ∷ 2 ∷ 0 ∷ 17 ∷ 0 ∷ 2 ∷ [])
+  seen = answer 0 debug [] (replicate 9 0)
+      ∷ answer 0 (0 ∷ 5 ∷ 255 ∷ 0 ∷ 7 ∷ 2 ∷ 0 ∷ 16 ∷ 0 ∷ 2 ∷ []) [] deposited
+      ∷ answer 10 (0 ∷ 5 ∷ 255 ∷ 0 ∷ 135 ∷ 2 ∷ 0 ∷ 17 ∷ 0 ∷ 2 ∷ []) [] deposited
       ∷ [];
 }
 

@@ -38,10 +38,10 @@ names-known cmd found e = rw e (named-by cmd)
 
 -- ---- a decision by its number
 
-by-number : (F : Decision → Type 0) (n : ℕ) (t : Decision) → (n ≡ 0 → F t) → ((n ≡ 0 → ⊥) → F (Refuse n)) → F (decisionBy n t)
+by-number : (F : Decision → Type 0) (n k : ℕ) → (n ≡ 0 → F (Allow k)) → ((n ≡ 0 → ⊥) → F (Refuse n)) → F (decisionBy n k)
 unfolding decisionBy
-by-number F zero t f g = f refl
-by-number F (suc n) t f g = g (λ e. omega (arith, e))
+by-number F zero k f g = f refl
+by-number F (suc n) k f g = g (λ e. omega (arith, e))
 
 -- ---- what each decision says
 
@@ -57,7 +57,7 @@ Says h p (Refuse n) = (n ≡ firstFailing (processTests h p)) × (n ≡ 0 → �
 decision-says : (h : Header) (p : Process) → Says h p (decisionOf h p)
 unfolding decisionOf
 decision-says h p =
-    by-number (Says h p) (firstFailing (processTests h p)) (Allow (entryOf (h .cmd) (h .arg1) p))
+    by-number (Says h p) (firstFailing (processTests h p)) (entryOf (h .cmd) (h .arg1) p)
     (λ e. record { passed = e; rule = rest-passes 6 _ _ e; entry = refl })
     (λ z. (refl, z))
 

@@ -15,10 +15,10 @@ use Rattle.rules.specs.Tests.{ruleTests}
 use Rattle.checks.specs.declared.decision.Decision.{Decision}
 use Rattle.checks.specs.declared.decision.Decision.the-variants.{Allow, Refuse}
 
--- the decision where no test fails, else the refusal by this number
-unfoldable pub decisionBy : ℕ → Decision → Decision
-decisionBy zero decision = decision
-decisionBy (suc n) decision = Refuse (suc n)
+-- the case that a number and an entry stand for: allowed where no test fails, else refused with the number
+unfoldable pub decisionBy : ℕ → ℕ → Decision
+decisionBy zero entry = Allow entry
+decisionBy (suc n) entry = Refuse (suc n)
 
 -- the entry of the process that a BREAK or UNBREAK at this address goes to; others go to none, and have 0
 unfoldable pub entryOf : ℕ → ℕ → Process → ℕ
@@ -27,11 +27,11 @@ entryOf cmd a p = cond (eqb cmd BREAK) (entryFor a p) (cond (eqb cmd UNBREAK) (f
 -- by the tests 11 and 12
 unfoldable pub entryDecision : ℕ → ℕ → Process → Decision
 entryDecision cmd a p =
-    decisionBy (firstFailing (test 11 (not (ruleOf cmd .room a p)) ∷ test 12 (not (ruleOf cmd .found a p)) ∷ [])) (Allow (entryOf cmd a p))
+    decisionBy (firstFailing (test 11 (not (ruleOf cmd .room a p)) ∷ test 12 (not (ruleOf cmd .found a p)) ∷ [])) (entryOf cmd a p)
 
 -- by the tests 8 to 12
 unfoldable pub ruleDecision : Header → Process → Decision
-ruleDecision h p = decisionBy (firstFailing (ruleTests (ruleOf (h .cmd)) h p)) (Allow (entryOf (h .cmd) (h .arg1) p))
+ruleDecision h p = decisionBy (firstFailing (ruleTests (ruleOf (h .cmd)) h p)) (entryOf (h .cmd) (h .arg1) p)
 
 -- the tests 7 to 12 of a process whose number is under 8
 abbrev pub processTests : Header → Process → List Test
@@ -39,4 +39,4 @@ processTests h p = test 7 (not (p .there)) ∷ ruleTests (ruleOf (h .cmd)) h p
 
 -- by the tests 7 to 12
 unfoldable pub decisionOf : Header → Process → Decision
-decisionOf h p = decisionBy (firstFailing (processTests h p)) (Allow (entryOf (h .cmd) (h .arg1) p))
+decisionOf h p = decisionBy (firstFailing (processTests h p)) (entryOf (h .cmd) (h .arg1) p)

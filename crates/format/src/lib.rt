@@ -10,6 +10,7 @@ mod header;
 mod outcome;
 mod refusal;
 mod sizes;
+pub mod theorems;
 
 pub use header::Header;
 pub use header::fixed_right;

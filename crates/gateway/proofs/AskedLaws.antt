@@ -12,12 +12,12 @@ use Rattle.lists.proofs.Bool.{&&-left, &&-right}
 use Rattle.format.specs.declared.header.Header.{Header}
 use Rattle.format.specs.declared.outcome.Reading.{Reading}
 use Rattle.format.specs.declared.outcome.Reading.the-variants.{Message, Refused as ReadingRefused}
-use Rattle.format.specs.Outcome.{Test, firstFailing}
+use Rattle.format.specs.Outcome.{reading, Test, firstFailing}
 use Rattle.ops.specs.declared.table.Form.{Form}
 use Rattle.ops.specs.Table.{op, asks, requestForm}
 use Rattle.format.specs.Layout.{headerOf, stringOf}
 use Rattle.message.specs.Exchange.{readNumber, reads}
-use Rattle.message.specs.Incoming.{incoming}
+use Rattle.message.specs.Incoming.{incoming, received}
 use Rattle.message.specs.declared.request.Incoming.{Incoming}
 use Rattle.message.specs.declared.request.Incoming.the-variants.{Request, Refused as IncomingRefused}
 use Rattle.format.proofs.OutcomeLaws.{message-zero, message-header}
@@ -40,20 +40,24 @@ Found : Reading → Incoming → Type 0
 Found r (Request h form) = (r ≡ Message h) × (form ≡ asks (op (h .cmd)))
 Found r (IncomingRefused n) = r ≡ ReadingRefused n
 
-found : (r : Reading) → Found r (incoming r)
-unfolding Found incoming
-found (Message h) = (refl, refl)
-found (ReadingRefused n) = refl
+found-by : (n : ℕ) (h : Header) → Found (reading n h) (incoming n h (asks (op (h .cmd))))
+unfolding Found
+found-by zero h = (refl, refl)
+found-by (suc n) h = refl
+
+found : (m : List ℕ) → Found (reads requestForm m) (received m)
+unfolding reads received
+found m = found-by (readNumber (requestForm (headerOf m .cmd)) m) (headerOf m)
 
 -- a request that is found was read, and has the form of its op code
-pub request-found : (m : List ℕ) (h : Header) (form : Form) → Request h form ≡ incoming (reads requestForm m) → (reads requestForm m ≡ Message h) × (form ≡ asks (op (h .cmd)))
+pub request-found : (m : List ℕ) (h : Header) (form : Form) → Request h form ≡ received m → (reads requestForm m ≡ Message h) × (form ≡ asks (op (h .cmd)))
 unfolding Found
-request-found m h form e = subst (Found (reads requestForm m)) (sym e) (found (reads requestForm m))
+request-found m h form e = subst (Found (reads requestForm m)) (sym e) (found m)
 
 -- and what is refused was refused when it was read
-pub refused-found : (m : List ℕ) (n : ℕ) → IncomingRefused n ≡ incoming (reads requestForm m) → reads requestForm m ≡ ReadingRefused n
+pub refused-found : (m : List ℕ) (n : ℕ) → IncomingRefused n ≡ received m → reads requestForm m ≡ ReadingRefused n
 unfolding Found
-refused-found m n e = subst (Found (reads requestForm m)) (sym e) (found (reads requestForm m))
+refused-found m n e = subst (Found (reads requestForm m)) (sym e) (found m)
 
 module _ (m : List ℕ) (h : Header) (e : reads requestForm m ≡ Message h) where
   pub carried-short : (buffer : List ℕ) → 266 ≤ length buffer → length (stringOf m) ≤ h .arg2

@@ -7,6 +7,7 @@ use lib.ListN.{getD}
 use Rattle.format.specs.declared.outcome.Outcome.{Outcome}
 use Rattle.format.specs.declared.outcome.Outcome.the-variants.{Granted, Refused}
 use Rattle.format.specs.Outcome.{numberOf}
+use Rattle.format.proofs.OutcomeLaws.{numberOf-outcome, outcome-other}
 use Rattle.rules.specs.Tests.{State, noRoom}
 use Rattle.rules.specs.Step.{Call, request, report, store, step, localOf}
 use Rattle.rules.specs.Turn.{bufferOf}
@@ -20,7 +21,7 @@ use Rattle.rules.proofs.ListLaws.{claim}
 use Rattle.rules.proofs.DebuggerLaws.{debuggers}
 use Rattle.rules.proofs.OutsiderLaws.{outsider}
 use Rattle.state_bytes.specs.State.{stateOf, stateFormed, stateSound}
-use Rattle.gateway.specs.Called.{Called, finished, lentOn, refusedBy, callOn, machineStored, Did}
+use Rattle.gateway.specs.Called.{Called, called, finished, lentOn, refusedBy, callOn, machineStored, Did}
 use Rattle.gateway.specs.Sequence.{Begins, Made, readFrom}
 use Rattle.gateway.specs.Demands.{TotalOnBytes, ListsOnBytes, Demands}
 use Rattle.gateway.proofs.LentLaws.{request-unfit, report-unfit}
@@ -36,8 +37,8 @@ record Answered (state memory : List ℕ) (numbers : List ℕ) (x : Called) : Ty
 -- bytes that are no state's are refused with 1 or 2
 unformed : (state memory buffer numbers : List ℕ) → oneOf numbers 1 ≡ true → oneOf numbers 2 ≡ true → stateFormed state ≡ false
     → Answered state memory numbers (refusedBy (lentOn state memory buffer) state memory buffer)
-unfolding lentOn stateSound numberOf
-unformed state memory buffer numbers one two f = record { listed = rw f (go (noRoom memory buffer)); refused = λ n. (refl, refl) }
+unfolding lentOn stateSound
+unformed state memory buffer numbers one two f = record { listed = rw (numberOf-outcome (lentOn state memory buffer) 0, f) (go (noRoom memory buffer)); refused = λ n. (refl, refl) }
   where
     go : (t : Bool) → oneOf numbers (cond t 1 2) ≡ true
     go true = one
@@ -76,14 +77,18 @@ answered state memory (request m buffer) x d = call-answered state memory (reque
 answered state memory (report p kind reason words buffer) x d = call-answered state memory (report p kind reason words buffer) refl refl x d
 answered state memory (store p a v) x d = rw d (record { listed = refl; refused = λ n. absurd (n refl) })
 
+refused-by : (state memory buffer : List ℕ) → (lentOn state memory buffer ≡ 0 → ⊥)
+    → called (Refused (lentOn state memory buffer)) state memory buffer ≡ refusedBy (lentOn state memory buffer) state memory buffer
+refused-by state memory buffer n = ap (λ (o : Outcome). called o state memory buffer) (outcome-other (lentOn state memory buffer) 0 n)
+
 total-on-bytes : TotalOnBytes
 unfolding Did
 total-on-bytes = record {
   listed = λ state memory c x d. answered state memory c x d .listed;
   refused = λ state memory c x d. answered state memory c x d .refused;
-  unfit-request = λ state memory m buffer x d n. d ∙ sym (request-unfit state memory buffer m (lentOn state memory buffer) refl n);
+  unfit-request = λ state memory m buffer x d n. d ∙ sym (request-unfit state memory buffer m (lentOn state memory buffer) refl n) ∙ refused-by state memory buffer n;
   unfit-report = λ state memory p kind reason words buffer x d n.
-      d ∙ sym (report-unfit state memory buffer p kind reason words (lentOn state memory buffer) refl n);
+      d ∙ sym (report-unfit state memory buffer p kind reason words (lentOn state memory buffer) refl n) ∙ refused-by state memory buffer n;
 }
 
 -- ---- lists

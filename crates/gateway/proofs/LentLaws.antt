@@ -1,5 +1,5 @@
 -- The tests 1 and 2 on the bytes of a state, and what they say of its record. Assumes nothing.
-use mathlib.Core.Path.{_≡_, refl, sym, _∙_}
+use mathlib.Core.Path.{_≡_, refl, sym, ap, _∙_}
 use mathlib.Core.Bool.{Bool, true, false, not, cond}
 use mathlib.Core.List.{List}
 use Prim.Native.Nat.{ℕ}
@@ -8,8 +8,10 @@ use borrow.Author.Tests.{eqb-true}
 use lib.ListN.{length}
 use lib.Dec.{eqb}
 use Rattle.lists.proofs.Bool.{&&-left}
+use Rattle.format.specs.declared.outcome.Outcome.{Outcome}
 use Rattle.format.specs.declared.outcome.Outcome.the-variants.{Refused}
 use Rattle.format.specs.Outcome.{firstFailing}
+use Rattle.format.proofs.OutcomeLaws.{outcome-other}
 use Rattle.state.specs.Records.{soundTest}
 use Rattle.rules.specs.Tests.{State, lent, noRoom}
 use Rattle.rules.specs.Step.{Call, request, report, answers, step, requestStep, reportStep}
@@ -18,7 +20,7 @@ use Rattle.rules.specs.Isolation.{isGranted}
 use Rattle.state_bytes.specs.Widths.{stateWidth}
 use Rattle.state_bytes.specs.State.{stateOf, stateFormed, stateSound}
 use Rattle.gateway.specs.Stage.{lentNumber}
-use Rattle.gateway.specs.Called.{lentOn, finished, refusedBy, callOn}
+use Rattle.gateway.specs.Called.{called, lentOn, finished, callOn}
 use Rattle.gateway.proofs.StageLaws.{Fit, lent-fit, request-lent}
 use Rattle.gateway.proofs.ReportLaws.{report-lent}
 
@@ -59,28 +61,28 @@ module _ (state memory buffer : List ℕ) where
   lent-long e = eqb-true (length state) stateWidth (&&-left (eqb (length state) stateWidth) _ (lent-formed e))
 
   -- a refused step leaves the bytes
-  pub finished-refused : (n : ℕ) → finished state (answers (Refused n) buffer s) ≡ refusedBy n state memory buffer
+  pub finished-refused : (n : ℕ) → finished state (answers (Refused n) buffer s) ≡ called (Refused n) state memory buffer
   unfolding finished isGranted
   finished-refused n = refl
 
   -- a call that the tests 1 and 2 refuse
-  unfit : (c : Call) (n : ℕ) → bufferOf c ≡ buffer → n ≡ lentOn state memory buffer → (n ≡ lentNumber s buffer → step s c ≡ answers (Refused n) buffer s)
-      → refusedBy n state memory buffer ≡ callOn state memory c
+  unfit : (c : Call) (n : ℕ) → bufferOf c ≡ buffer → n ≡ lentOn state memory buffer → (n ≡ 0 → ⊥) → (n ≡ lentNumber s buffer → step s c ≡ answers (Refused n) buffer s)
+      → called (Refused n) state memory buffer ≡ callOn state memory c
   unfolding callOn
-  unfit c n same e steps = go (stateFormed state) refl
+  unfit c n same e z steps = go (stateFormed state) refl
     where
-      go : (t : Bool) → stateFormed state ≡ t → refusedBy n state memory buffer ≡ callOn state memory c
+      go : (t : Bool) → stateFormed state ≡ t → called (Refused n) state memory buffer ≡ callOn state memory c
       go true f = rw (f, steps (e ∙ lent-number f)) (sym (finished-refused n))
-      go false f = rw (f, same, ← e)
+      go false f = rw (f, same, ← e) (ap (λ (o : Outcome). called o state memory buffer) (outcome-other n 0 z))
 
-  pub request-unfit : (m : List ℕ) (n : ℕ) → n ≡ lentOn state memory buffer → (n ≡ 0 → ⊥) → refusedBy n state memory buffer ≡ callOn state memory (request m buffer)
+  pub request-unfit : (m : List ℕ) (n : ℕ) → n ≡ lentOn state memory buffer → (n ≡ 0 → ⊥) → called (Refused n) state memory buffer ≡ callOn state memory (request m buffer)
   unfolding bufferOf step
-  request-unfit m n e z = unfit (request m buffer) n refl e (λ i. request-lent s m buffer n i z)
+  request-unfit m n e z = unfit (request m buffer) n refl e z (λ i. request-lent s m buffer n i z)
 
   pub report-unfit : (p kind reason : ℕ) (words : List ℕ) (n : ℕ) → n ≡ lentOn state memory buffer → (n ≡ 0 → ⊥)
-      → refusedBy n state memory buffer ≡ callOn state memory (report p kind reason words buffer)
+      → called (Refused n) state memory buffer ≡ callOn state memory (report p kind reason words buffer)
   unfolding bufferOf step
-  report-unfit p kind reason words n e z = unfit (report p kind reason words buffer) n refl e (λ i. report-lent s p kind reason words buffer n i z)
+  report-unfit p kind reason words n e z = unfit (report p kind reason words buffer) n refl e z (λ i. report-lent s p kind reason words buffer n i z)
 
   -- a call that they let pass
   module _ (e : lentOn state memory buffer ≡ 0) where

@@ -8,7 +8,7 @@ use borrow.Author.Tests.{ne-eqb, ltb-true, not-false}
 use lib.Dec.{ltb}
 use Rattle.format.specs.declared.outcome.Outcome.the-variants.{Refused}
 use Rattle.format.specs.Outcome.{firstFailing}
-use Rattle.format.proofs.OutcomeLaws.{first-passes, rest-passes}
+use Rattle.format.proofs.OutcomeLaws.{outcome-other, first-passes, rest-passes}
 use Rattle.run_state.specs.RunState.{accepts}
 use Rattle.rules.specs.Tests.{State, recordOf, noRoom, unsound, badReport, reportNumber}
 use Rattle.rules.specs.Step.{answers, localOf, put, notified, reportStep}
@@ -34,7 +34,7 @@ module _ (s : State) (p kind reason : ℕ) (words buffer : List ℕ) where
 
   refused-by : (n : ℕ) → reportNumber s p kind reason buffer ≡ n → (n ≡ 0 → ⊥) → reportStep p kind reason words buffer s ≡ answers (Refused n) buffer s
   unfolding reportStep
-  refused-by n e z = rw (e, ne-eqb n 0 z)
+  refused-by n e z = rw (e, ne-eqb n 0 z, outcome-other n 0 z)
 
   pub report-lent : (n : ℕ) → n ≡ lentNumber s buffer → (n ≡ 0 → ⊥) → reportStep p kind reason words buffer s ≡ answers (Refused n) buffer s
   report-lent n e z = refused-by n (stages ∙ rw (← e, ne-eqb n 0 z)) z

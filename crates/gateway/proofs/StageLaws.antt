@@ -18,7 +18,7 @@ use Rattle.format.specs.Refusal.{wrongLength, wrongHeader, unknown, malformed}
 use Rattle.message.specs.Exchange.{readNumber, reads}
 use Rattle.format.specs.declared.outcome.Outcome.the-variants.{Refused as OutcomeRefused}
 use Rattle.format.specs.declared.outcome.Reading.the-variants.{Refused as ReadingRefused}
-use Rattle.format.proofs.OutcomeLaws.{message-header, first-passes, rest-passes}
+use Rattle.format.proofs.OutcomeLaws.{outcome-other, message-header, first-passes, rest-passes}
 use Rattle.state.specs.Records.{Records, soundTest}
 use Rattle.rules.specs.Tests.{State, lent, noRoom, unsound, askedTests, requestNumber}
 use Rattle.rules.specs.Step.{answers, refused, requestStep}
@@ -64,7 +64,7 @@ module _ (s : State) (m buffer : List ℕ) where
 
   silent : (n : ℕ) → requestNumber s m buffer ≡ n → (n ≡ 0 → ⊥) → ltb n 7 ≡ true → requestStep m buffer s ≡ answers (OutcomeRefused n) buffer s
   unfolding requestStep refused
-  silent n e z low = rw (e, ne-eqb n 0 z, low)
+  silent n e z low = rw (e, ne-eqb n 0 z, low, outcome-other n 0 z)
 
   pub request-lent : (n : ℕ) → n ≡ lentNumber s buffer → (n ≡ 0 → ⊥) → requestStep m buffer s ≡ answers (OutcomeRefused n) buffer s
   unfolding lentNumber firstFailing
@@ -77,7 +77,7 @@ module _ (s : State) (m buffer : List ℕ) where
   Read (ReadingRefused n) = (n ≡ layout) × (n ≡ 0 → ⊥)
 
   reading-says : (k : ℕ) → k ≡ layout → Read (reading k (headerOf m))
-  unfolding Read reading
+  unfolding Read
   reading-says zero e = sym e
   reading-says (suc k) e = (e, λ z. omega (arith, z))
 

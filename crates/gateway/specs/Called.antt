@@ -6,7 +6,7 @@ use Prim.Native.Nat.{ℕ}
 use lib.ListN.{length}
 use lib.Dec.{eqb}
 use Rattle.format.specs.declared.outcome.Outcome.{Outcome}
-use Rattle.format.specs.declared.outcome.Outcome.the-variants.{Granted, Refused}
+use Rattle.format.specs.Outcome.{outcome}
 use Rattle.state.specs.Records.{freshStart}
 use Rattle.rules.specs.Tests.{lent, noRoom}
 use Rattle.rules.specs.Step.{StepResult, Call, request, report, store, stored, step}
@@ -28,7 +28,7 @@ called o state memory buffer = record { outcome = o; state = state; memory = mem
 
 -- refused with this number, and nothing is written
 abbrev pub refusedBy : ℕ → List ℕ → List ℕ → List ℕ → Called
-refusedBy number state memory buffer = called (Refused number) state memory buffer
+refusedBy number state memory buffer = called (outcome number 0) state memory buffer
 
 -- a step of the rules, on the record that the bytes are the form of; a refused one leaves the bytes
 unfoldable pub finished : List ℕ → StepResult → Called
@@ -47,7 +47,7 @@ callOn state memory c =
 
 -- what the machine leaves when it stores a byte: it changes memory alone and is told nothing
 unfoldable pub machineStored : ℕ → ℕ → ℕ → List ℕ → List ℕ → Called
-machineStored p a v state memory = called (Granted 0) state (stored p a v (lent (stateOf state) memory) .memory) []
+machineStored p a v state memory = called (outcome 0 0) state (stored p a v (lent (stateOf state) memory) .memory) []
 
 -- a call of the code on these bytes of a state and this memory answered and left this; or the machine stored a byte
 unfoldable pub Did : List ℕ → List ℕ → Call → Called → Type 0
@@ -66,4 +66,4 @@ started o state = record { outcome = o; state = state }
 
 -- a fresh start with these processes, where the state's buffer has its length; else it is refused with 1
 unfoldable pub startOn : List Bool → List ℕ → StartResult
-startOn there state = cond (eqb (length state) stateWidth) (started (Granted 0) (stateBytes (freshStart there))) (started (Refused 1) state)
+startOn there state = cond (eqb (length state) stateWidth) (started (outcome 0 0) (stateBytes (freshStart there))) (started (outcome 1 0) state)

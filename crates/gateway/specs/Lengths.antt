@@ -6,20 +6,18 @@ use Prim.Native.Nat.{ℕ}
 use lib.ListN.{length, take, drop}
 use lib.Dec.{ltb}
 use Rattle.format.specs.declared.outcome.Outcome.{Outcome}
-use Rattle.format.specs.declared.outcome.Outcome.the-variants.{Granted, Refused}
+use Rattle.format.specs.Outcome.{numberOf, lengthOf}
 use Rattle.rules.specs.Tests.{State}
 use Rattle.rules.specs.Step.{Answer, requestStep, reportStep}
 use Rattle.format.specs.Sizes.{headerBytes}
 
 -- of a request: the reply; from number 7 on the ten bytes of the CAN'T; else nothing
 unfoldable pub replyLength : Outcome → ℕ
-replyLength (Granted n) = n
-replyLength (Refused n) = cond (ltb n 7) 0 headerBytes
+replyLength o = cond (ltb (numberOf o) 7) (lengthOf o) headerBytes
 
 -- of a report: the notice, or nothing
 unfoldable pub noticeLength : Outcome → ℕ
-noticeLength (Granted n) = n
-noticeLength (Refused n) = 0
+noticeLength o = lengthOf o
 
 -- what stands in the buffer as far as a length of the outcome reaches
 abbrev pub front : (Outcome → ℕ) → Answer → List ℕ

@@ -24,10 +24,7 @@ ghost use mathlib.Core.List.{List};
 ghost use Prim.Native.Nat.{ℕ, _≤_, _<_};
 ghost use lib.ListN.{length};
 ghost use Rattle.format.specs.Layout.{stringOf};
-ghost use Rattle.ops.specs.Table.{requestForm};
-ghost use Rattle.message.specs.Exchange.{reads};
-ghost use Rattle.message.specs.Incoming.{incoming};
-ghost use Rattle.message.specs.declared.request.Incoming.the-variants.{Request};
+ghost use Rattle.message.specs.Incoming.{incoming, received};
 ghost use Rattle.rules.specs.Rule.{names, creates};
 ghost use Rattle.rules.specs.Tests.{lent};
 ghost use Rattle.rules.specs.Step.{request};
@@ -90,7 +87,7 @@ fn answer(
     message: &[u8],
     reply: &mut [u8],
 ) -> Outcome
-    requires { ⌜ Request h form ≡ incoming (reads requestForm (now message)) ⌝ }
+    requires { ⌜ incoming 0 h form ≡ received (now message) ⌝ }
     requires { ⌜ lentOn (now state) (now memory) (now reply) ≡ 0 ⌝ }
     ensures { λ r. ⌜ called r (now (state .exit)) (now (memory .exit)) (now (reply .exit)) ≡ finished (now (state .entry)) (asked h (stringOf (now (message .entry))) (now (reply .entry)) (lent (stateOf (now (state .entry))) (now (memory .entry)))) ⌝ }
 {

@@ -20,7 +20,7 @@ use Rattle.ops.specs.declared.table.Form.{Form}
 use Rattle.ops.specs.declared.table.Found.the-variants.{Known}
 use Rattle.ops.specs.declared.table.Op.{Op}
 use Rattle.ops.specs.declared.table.Row.the-variants.{Listed, Unlisted}
-use Rattle.format.specs.Outcome.{outcome, firstFailing}
+use Rattle.format.specs.Outcome.{firstFailing}
 use Rattle.ops.specs.Table.{bare, stopped, reason as reasoned, row, ops, op, asks, replies, rowOf, formOf, withoutString, requestForm, replyForm, cantForm, noticeForm, answerForm}
 use Rattle.format.specs.Layout.{headerOf, fixedRight}
 use Rattle.format.specs.Refusal.{usedOrZero, unusedZero, carriedLength, wrongLength, wrongHeader, unknown, misfits}
@@ -47,7 +47,7 @@ fits-number f h carried buffer room p =
 
 -- a writer whose tests all pass sends its message
 pub writes-sends : (h : Header) (string buffer : List ℕ) → writeNumber (answerForm (h .cmd)) h (length string) buffer ≡ 0 → writes answerForm h string buffer ≡ sends h string buffer
-unfolding writes answered sends outcome
+unfolding writes answered sends
 writes-sends h string buffer e = rw e
 
 -- what a reader of requests found: a host, a CMD of the table, and no unused field that is not zero
@@ -82,8 +82,9 @@ asked-passed fixed h n p =
 pub asked-read : (m : List ℕ) (h : Header) → reads requestForm m ≡ Message h → Asked h
 unfolding reads readNumber
 asked-read m h e =
-    rw (message-header _ (headerOf m) h e) at
-    (asked-passed (fixedRight m) (headerOf m) (length m) (zero-passed _ _ _ _ (message-zero _ (headerOf m) h e)))
+    let number = readNumber (requestForm (headerOf m .cmd)) m in
+    rw (message-header number (headerOf m) h e) at
+    (asked-passed (fixedRight m) (headerOf m) (length m) (zero-passed _ _ _ _ (message-zero number (headerOf m) h e)))
 
 -- a field that f uses, g uses
 implied : Bool → Bool → Bool

@@ -11,7 +11,7 @@ use Rattle.format.specs.declared.outcome.Outcome.the-variants.{Granted, Refused
 use Rattle.format.specs.declared.outcome.Reading.the-variants.{Refused as ReadingRefused}
 use Rattle.ops.specs.declared.table.Found.{Found}
 use Rattle.message.specs.Exchange.{Forms, writeNumber, answered, readNumber, reads}
-use Rattle.format.specs.Outcome.{reading, firstFailing}
+use Rattle.format.specs.Outcome.{firstFailing}
 use Rattle.format.specs.Refusal.{wrongLength}
 use Rattle.format.proofs.OutcomeLaws.{outcome-zero, outcome-other, first-passes, rest-passes}
 use Rattle.format.proofs.TestLaws.{zero-passed, sized-between}
@@ -44,5 +44,5 @@ module _ (number carried : ℕ) (bytes buffer : List ℕ) where
 
 -- under ten bytes there is no message
 pub reads-short : (forms : Forms) (m : List ℕ) → length m < 10 → ReadingRefused 3 ≡ reads forms m
-unfolding reads readNumber reading firstFailing wrongLength
+unfolding reads readNumber firstFailing wrongLength
 reads-short forms m h = rw (lt-ltb (length m) 10 h)

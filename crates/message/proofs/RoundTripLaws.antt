@@ -41,8 +41,9 @@ module _ (forms : Forms) where
       → ReadAs forms (take n (writes forms h string buffer .buffer)) h string
   unfolding writes writeNumber answered
   written-is-read h string buffer n e =
-      let zero = granted-zero _ (10 + length string) n e in
-      let long : length (written h string) ≡ n = length-written h string ∙ granted-length _ (10 + length string) n e in
+      let number = writeNumber (forms (h .cmd)) h (length string) buffer in
+      let zero = granted-zero number (10 + length string) n e in
+      let long : length (written h string) ≡ n = length-written h string ∙ granted-length number (10 + length string) n e in
       let laid = answered-granted _ (length string) (written h string) buffer zero .1 in
       let left : take n (writes forms h string buffer .buffer) ≡ written h string = rw (← laid, ← long) (take-overlay (written h string) buffer) in
       rw left (written-read h string (rest-passes 0 _ _ zero))
@@ -69,7 +70,8 @@ module _ (forms : Forms) where
       → WrittenAs forms h (stringOf m) buffer m
   unfolding reads
   read-is-written m h buffer bytes room e =
-      rw (← message-header _ (headerOf m) h e) (read-written m buffer bytes room (message-zero _ (headerOf m) h e))
+      let number = readNumber (forms (headerOf m .cmd)) m in
+      rw (← message-header number (headerOf m) h e) (read-written m buffer bytes room (message-zero number (headerOf m) h e))
 
   pub round-trip : RoundTrip forms
   round-trip =

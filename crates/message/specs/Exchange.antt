@@ -7,7 +7,6 @@ use lib.Dec.{ltb, eqb}
 use Rattle.lists.specs.Buffer.{overlay}
 use Rattle.format.specs.declared.header.Header.{Header}
 use Rattle.format.specs.declared.outcome.Outcome.{Outcome}
-use Rattle.format.specs.declared.outcome.Outcome.the-variants.{Granted}
 use Rattle.format.specs.declared.outcome.Reading.{Reading}
 use Rattle.ops.specs.declared.table.Found.{Found}
 use Rattle.format.specs.Outcome.{outcome, reading, test, firstFailing}
@@ -59,11 +58,11 @@ writes forms h string buffer = writeAs (forms (h .cmd)) h string buffer
 
 -- an answer of the gateway goes to the start of the buffer, with no test
 unfoldable pub sends : Header → List ℕ → List ℕ → Written
-sends h string buffer = wrote (Granted (headerBytes + length string)) (overlay (written h string) buffer)
+sends h string buffer = wrote (outcome 0 (headerBytes + length string)) (overlay (written h string) buffer)
 
 -- the same where a string of this length stands after the tenth byte of the buffer already
 unfoldable pub sendsHead : Header → ℕ → List ℕ → Written
-sendsHead h carried buffer = wrote (Granted (headerBytes + carried)) (overlay (header h) buffer)
+sendsHead h carried buffer = wrote (outcome 0 (headerBytes + carried)) (overlay (header h) buffer)
 
 -- what reading any bytes finds
 unfoldable pub reads : Forms → List ℕ → Reading

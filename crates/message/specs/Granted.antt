@@ -7,7 +7,7 @@ use Prim.Native.Nat.{ℕ, _<_, _≤_}
 use lib.ListN.{length}
 use Rattle.lists.specs.Word.{lowFirst}
 use Rattle.format.specs.declared.header.Header.{Header}
-use Rattle.format.specs.declared.outcome.Reading.the-variants.{Message}
+use Rattle.format.specs.Outcome.{reading}
 use Rattle.ops.specs.declared.table.Carried.the-variants.{Nothing, Counted}
 use Rattle.ops.specs.Table.{op, replies, requestForm, answerForm}
 use Rattle.message.specs.Exchange.{writes, sends, reads}
@@ -25,6 +25,6 @@ pub record Answers (h : Header) (buffer : List ℕ) : Type 0 where
 
 -- the answers to every request that was read, and the notice of every report of a known kind, pass every test
 pub record AnswersGranted : Type 0 where
-  pub answers : (m : List ℕ) (h : Header) (buffer : List ℕ) → reads requestForm m ≡ Message h → messageBytes ≤ length buffer → Answers h buffer
+  pub answers : (m : List ℕ) (h : Header) (buffer : List ℕ) → reads requestForm m ≡ reading 0 h → messageBytes ≤ length buffer → Answers h buffer
   pub notice : (host kind pid reason : ℕ) (vector buffer : List ℕ) → (host ≡ 0 → ⊥) → kind < 4 → ((kind ≡ 0 → ⊥) → reason ≡ 0)
       → length vector ≡ 9 → messageBytes ≤ length buffer → writes answerForm (noticeOf host kind pid reason) (lowFirst vector) buffer ≡ sends (noticeOf host kind pid reason) (lowFirst vector) buffer

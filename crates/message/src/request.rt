@@ -10,8 +10,8 @@ use ops::Found;
 use ops::request_form;
 ghost use mathlib.Core.Path.{_≡_};
 ghost use Rattle.ops.specs.Table.{requestForm};
-ghost use Rattle.message.specs.Exchange.{writes, reads};
-ghost use Rattle.message.specs.Incoming.{incoming};
+ghost use Rattle.message.specs.Exchange.{writes};
+ghost use Rattle.message.specs.Incoming.{received};
 
 // The desk writes a request with this string, by the tests 1, 3, 4, 5, 6.
 pub fn write_request(h: Header, string: &[u8], buffer: &mut [u8]) -> Outcome
@@ -29,7 +29,7 @@ pub enum Incoming {
 
 // The gateway reads any bytes as a request, by the tests 3 to 6. The form of the op code is found here, and handed on.
 pub fn read_request(message: &[u8]) -> Incoming
-    ensures { λ r. ⌜ r ≡ incoming (reads requestForm (now (message .entry))) ⌝ }
+    ensures { λ r. ⌜ r ≡ received (now (message .entry)) ⌝ }
 {
     if message.len() < HEADER_BYTES {
         return Incoming::Refused(3);

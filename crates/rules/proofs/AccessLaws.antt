@@ -10,8 +10,7 @@ use lib.ListN.{length}
 use lib.Dec.{eqb, ltb}
 use Rattle.lists.specs.Buffer.{overlay}
 use Rattle.format.specs.declared.header.Header.{Header}
-use Rattle.format.specs.declared.outcome.Outcome.the-variants.{Granted}
-use Rattle.format.specs.Outcome.{firstFailing}
+use Rattle.format.specs.Outcome.{outcome, lengthOf, firstFailing}
 use Rattle.format.specs.Layout.{written}
 use Rattle.process.specs.Local.{Local, Proper}
 use Rattle.rules.specs.Rule.{Public, public}
@@ -123,11 +122,11 @@ module _ (w : Asker) (a : Access) (then : Public → Public) (f : Fair w a then)
 
 -- hosts that may not see the inside do not hear it
 pub quiet : (H : Hosts) (u : Public) → ((host : ℕ) → H host ≡ true → insider u host ≡ false) → (bytes buffer : List ℕ) → Discreet nobody u bytes
-    → noticed H (Granted (length bytes)) (overlay bytes buffer) ≡ false
-unfolding noticed Discreet overlay written
+    → noticed H (outcome 0 (length bytes)) (overlay bytes buffer) ≡ false
+unfolding noticed lengthOf Discreet overlay written
 quiet H u out bytes buffer (inl e) = rw e
 quiet H u out bytes buffer (inr d) = go (H (d .header .host)) refl
   where
-    go : (t : Bool) → H (d .header .host) ≡ t → noticed H (Granted (length bytes)) (overlay bytes buffer) ≡ false
+    go : (t : Bool) → H (d .header .host) ≡ t → noticed H (outcome 0 (length bytes)) (overlay bytes buffer) ≡ false
     go true e = absurd (true≢false (sym (d .sees) ∙ out (d .header .host) e))
     go false e = rw (d .is, e) (and-false (ltb 0 (length (written (d .header) (d .string)))))

@@ -8,7 +8,8 @@ use Prim.Native.Nat.{ℕ, _<_}
 use borrow.Author.Tests.{eqb-true, eqb-false, not-true}
 use lib.Dec.{eqb}
 use Rattle.lists.proofs.Bool.{&&-left, &&-right}
-use Rattle.format.specs.Outcome.{firstFailing}
+use Rattle.format.specs.Outcome.{lengthOf, firstFailing}
+use Rattle.format.proofs.OutcomeLaws.{lengthOf-none}
 use Rattle.process.specs.Local.{Local}
 use Rattle.rules.specs.Rule.{Public, public}
 use Rattle.rules.specs.Tests.{State}
@@ -77,7 +78,7 @@ hidden-apart P s t r c i silent a = record {
 module _ (H : Hosts) (P : Processes) where
   -- hosts who do not ask it hear nothing of it
   unheard-by : (w : Asker) (s : State) (c : Call) → Ready s → NoneDebugs H P s → subject P c ≡ true → asker c ≡ w → isOne H w ≡ false → sentTo H w (step s c .answer) ≡ false
-  unfolding sentTo isOne noticed
+  unfolding sentTo isOne noticed lengthOf
   unheard-by (by host) s c r f i e n = n
   unheard-by nobody s c r f i e n = go (done s r c)
     where
@@ -137,10 +138,10 @@ heardOf H w x = cond (sentTo H w x) (x ∷ []) []
 
 quiet-said : (H : Hosts) (a : Access) (then : Public → Public) → Fair nobody a then → (buffer : List ℕ) (l : Local)
     → ((host : ℕ) → H host ≡ true → insider (public (l .process)) host ≡ false) → sentTo H nobody (saidAt a buffer l) ≡ false
-unfolding saidAt sentTo noticed
+unfolding saidAt sentTo noticed lengthOf
 quiet-said H a then f buffer l out =
     by-test (λ (x : Answer). noticed H (x .outcome) (x .buffer) ≡ false) (eqb (numberAt a l) 0)
-    (λ e. quiet H (public (l .process)) out (a .reply l) buffer (f .discreet l)) (λ e. refl)
+    (λ e. quiet H (public (l .process)) out (a .reply l) buffer (f .discreet l)) (λ e. rw (lengthOf-none (numberAt a l)))
 
 reached-answer : (p : ℕ) (a : Access) (buffer : List ℕ) (s : State) → reached (atProcess p a) buffer s .answer ≡ saidAt a buffer (localOf s p)
 unfolding reached saidAt

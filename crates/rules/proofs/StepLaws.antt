@@ -1,8 +1,8 @@
 -- One call on a sound state: it is refused, goes to no process, or changes one process; the state after it is sound. Assumes nothing.
 use mathlib.Core.Path.{_≡_, refl, sym, ap, _∙_, subst}
-use mathlib.Core.Bool.{Bool, true, false}
+use mathlib.Core.Bool.{Bool, true, false, true≢false}
 use mathlib.Core.List.{List}
-use Prim.Native.Nat.{ℕ, _<_}
+use Prim.Native.Nat.{ℕ, zero, suc, _<_}
 use borrow.Author.Tests.{eqb-true, eqb-false}
 use lib.Dec.{eqb}
 use Rattle.format.specs.Outcome.{firstFailing}
@@ -19,17 +19,22 @@ use Rattle.rules.proofs.LawfulLaws.{lawful}
 
 -- what came of a call
 pub data Done (s : State) (c : Call) (x : StepResult) : Type 0 where
-  stays : (number : ℕ) (bytes : List ℕ) → x ≡ record { answer = refuses number bytes (bufferOf c); after = s } → Done s c x
+  stays : (n : ℕ) (bytes : List ℕ) → x ≡ record { answer = refuses (suc n) bytes (bufferOf c); after = s } → Done s c x
   idles : (bytes : List ℕ) → Nowhere c bytes → x ≡ record { answer = grants bytes (bufferOf c); after = s } → Done s c x
   acts : (p : ℕ) (a : Access) → There s c p a → numberAt a (localOf s p) ≡ 0
       → x ≡ record { answer = grants (a .reply (localOf s p)) (bufferOf c); after = put p (a .effect (localOf s p)) s } → Done s c x
+
+refused-done : (s : State) (c : Call) (number : ℕ) → eqb number 0 ≡ false → (bytes : List ℕ)
+    → Done s c (record { answer = refuses number bytes (bufferOf c); after = s })
+refused-done s c zero e bytes = absurd (true≢false e)
+refused-done s c (suc n) e bytes = stays n bytes refl
 
 place-done : (s : State) (c : Call) (place : Place) → Placed s c place → Done s c (reached place (bufferOf c) s)
 unfolding reached Placed
 place-done s c (nowhere bytes) n = idles bytes n refl
 place-done s c (atProcess p a) t =
     by-test (Done s c) (eqb (numberAt a (localOf s p)) 0) (λ e. acts p a t (eqb-true _ 0 e) refl)
-    (λ e. stays (numberAt a (localOf s p)) (a .refusal (localOf s p) (numberAt a (localOf s p))) refl)
+    (λ e. refused-done s c (numberAt a (localOf s p)) e (a .refusal (localOf s p) (numberAt a (localOf s p))))
 
 pub done : (s : State) → Ready s → (c : Call) → Done s c (step s c)
 unfolding taken
@@ -37,7 +42,7 @@ done s r c =
     let number = firstFailing (turnOf s c .tests) in
     subst (Done s c) (sym (lawful c .turn s))
     (by-test (Done s c) (eqb number 0) (λ e. place-done s c (turnOf s c .place) (lawful c .placed s r (eqb-true number 0 e)))
-    (λ e. stays number (turnOf s c .refusal number) refl))
+    (λ e. refused-done s c number e (turnOf s c .refusal number)))
 
 -- what is left of the process is sound, and the other processes are as they were
 module _ (s : State) (r : Ready s) (c : Call) (p : ℕ) (a : Access) (t : There s c p a) (z : numberAt a (localOf s p) ≡ 0) where

@@ -3,18 +3,18 @@ use mathlib.Core.Path.{_≡_, refl, sym, ap, _∙_, subst}
 use mathlib.Core.Bool.{Bool, true, false, cond, true≢false}
 use mathlib.Core.List.{List, [], _∷_}
 use mathlib.Core.Logic.{_⊎_, inl, inr}
-use Prim.Native.Nat.{ℕ}
+use Prim.Native.Nat.{ℕ, zero, suc}
 use native.Mathlib.Omega.{arith}
 use borrow.Author.Tests.{eqb-true, eq-eqb}
 use lib.ListN.{length, drop}
 use lib.Dec.{ltb, eqb}
 use Rattle.lists.specs.Buffer.{overlay}
 use Rattle.lists.proofs.Buffer.{drop-overlay}
-use Rattle.format.specs.declared.outcome.Outcome.the-variants.{Granted, Refused}
-use Rattle.format.specs.Outcome.{Test, firstFailing, numberOf}
+use Rattle.format.specs.Outcome.{outcome, numberOf, Test, firstFailing}
 use Rattle.format.specs.Layout.{headerOf}
 use Rattle.format.specs.Answer.{cantOf}
 use Rattle.format.proofs.LayoutLaws.{length-written}
+use Rattle.format.proofs.OutcomeLaws.{numberOf-outcome}
 use Rattle.rules.specs.Tests.{State, requestNumber, reportNumber}
 use Rattle.rules.specs.Access.{Place, nowhere, atProcess, Turn, numberAt, reached, taken}
 use Rattle.rules.specs.Step.{StepResult, localOf, put, granted, refused, requestStep, reportStep, Call, request, report, step}
@@ -44,10 +44,10 @@ record Told (number : ℕ) (buffer : List ℕ) (s : State) (x : StepResult) : Ty
   is : numberOf (x .answer .outcome) ≡ number
   grant : number ≡ 0 → isGranted (x .answer .outcome) ≡ true
   kept : (number ≡ 0 → ⊥) → x .after ≡ s
-  past : (n : ℕ) → x .answer .outcome ≡ Granted n → drop n (x .answer .buffer) ≡ drop n buffer
+  past : (n : ℕ) → x .answer .outcome ≡ outcome 0 n → drop n (x .answer .buffer) ≡ drop n buffer
 
 granted-told : (number : ℕ) → number ≡ 0 → (bytes buffer : List ℕ) (s t : State)
-    → Told number buffer s (record { answer = record { outcome = Granted (length bytes); buffer = overlay bytes buffer }; after = t })
+    → Told number buffer s (record { answer = record { outcome = outcome 0 (length bytes); buffer = overlay bytes buffer }; after = t })
 unfolding numberOf isGranted
 granted-told number z bytes buffer s t = record {
   is = sym z;
@@ -57,13 +57,14 @@ granted-told number z bytes buffer s t = record {
 }
 
 refused-told : (number : ℕ) → eqb number 0 ≡ false → (bytes buffer : List ℕ) (s : State)
-    → Told number buffer s (record { answer = record { outcome = Refused number; buffer = overlay bytes buffer }; after = s })
+    → Told number buffer s (record { answer = record { outcome = outcome number 0; buffer = overlay bytes buffer }; after = s })
 unfolding numberOf isGranted
-refused-told number e bytes buffer s = record {
+refused-told zero e bytes buffer s = absurd (true≢false e)
+refused-told (suc n) e bytes buffer s = record {
   is = refl;
-  grant = λ z. absurd (true≢false (sym (eq-eqb number 0 z) ∙ e));
-  kept = λ n. refl;
-  past = λ n i. absurd (let z : _≡_ {A = ℕ} 0 1 = cc in omega arith);
+  grant = λ z. absurd (omega (arith, z));
+  kept = λ z. refl;
+  past = λ k i. absurd (let z : _≡_ {A = ℕ} 0 1 = cc in omega arith);
 }
 
 place-told : (place : Place) (buffer : List ℕ) (s : State) → Told (placeNumber place s) buffer s (reached place buffer s)
@@ -88,19 +89,19 @@ told s c = rw (lawful c .turn s, ← lawful c .number s) (turn-told (turnOf s c)
 
 -- ---- the column 'Written'
 
-request-silent : (s : State) (m buffer : List ℕ) (n : ℕ) → requestStep m buffer s .answer .outcome ≡ Refused n
-    → requestStep m buffer s .answer .buffer ≡ cond (ltb n 7) buffer (cantOver m buffer)
-unfolding step testsOf requestNumber requestStep refused isGranted
+request-silent : (s : State) (m buffer : List ℕ) (n : ℕ) → requestStep m buffer s .answer .outcome ≡ outcome (suc n) 0
+    → requestStep m buffer s .answer .buffer ≡ cond (ltb (suc n) 7) buffer (cantOver m buffer)
+unfolding step testsOf requestNumber requestStep refused isGranted numberOf
 request-silent s m buffer n e = go (eqb (requestNumber s m buffer) 0) refl
   where
-    go : (t : Bool) → eqb (requestNumber s m buffer) 0 ≡ t → requestStep m buffer s .answer .buffer ≡ cond (ltb n 7) buffer (cantOver m buffer)
+    go : (t : Bool) → eqb (requestNumber s m buffer) 0 ≡ t → requestStep m buffer s .answer .buffer ≡ cond (ltb (suc n) 7) buffer (cantOver m buffer)
     go true i = absurd (true≢false (sym (told s (request m buffer) .grant (eqb-true _ 0 i)) ∙ ap isGranted e))
     go false i =
-        let same : Refused (requestNumber s m buffer) ≡ Refused n = rw i at e in
-        let number : requestNumber s m buffer ≡ n = cc in
+        let same : outcome (requestNumber s m buffer) 0 ≡ outcome (suc n) 0 = rw i at e in
+        let number : requestNumber s m buffer ≡ suc n = sym (numberOf-outcome (requestNumber s m buffer) 0) ∙ ap numberOf same in
         rw (i, number)
 
-report-silent : (s : State) (p kind reason : ℕ) (words buffer : List ℕ) (n : ℕ) → reportStep p kind reason words buffer s .answer .outcome ≡ Refused n
+report-silent : (s : State) (p kind reason : ℕ) (words buffer : List ℕ) (n : ℕ) → reportStep p kind reason words buffer s .answer .outcome ≡ outcome (suc n) 0
     → reportStep p kind reason words buffer s .answer .buffer ≡ buffer
 unfolding step testsOf reportNumber reportStep isGranted
 report-silent s p kind reason words buffer n e = go (eqb (reportNumber s p kind reason buffer) 0) refl

@@ -7,8 +7,7 @@ use lib.Dec.{eqb, ltb}
 use Rattle.lists.specs.Buffer.{overlay}
 use Rattle.lists.specs.Word.{lowFirst}
 use Rattle.format.specs.declared.header.Header.{Header}
-use Rattle.format.specs.declared.outcome.Outcome.the-variants.{Granted, Refused}
-use Rattle.format.specs.Outcome.{test, firstFailing}
+use Rattle.format.specs.Outcome.{outcome, test, firstFailing}
 use Rattle.format.specs.Layout.{written, headerOf, stringOf}
 use Rattle.format.specs.Answer.{cantOf, createdOf, noticeOf}
 use Rattle.format.proofs.LayoutLaws.{length-written}
@@ -81,7 +80,7 @@ module _ (m buffer : List ℕ) (s : State) where
   turn = requestTurn m buffer s
 
   request-refused : eqb (requestNumber s m buffer) 0 ≡ false
-      → requestStep m buffer s ≡ record { answer = record { outcome = Refused (requestNumber s m buffer); buffer = overlay (cantBytes (headerOf m) (requestNumber s m buffer)) buffer }; after = s }
+      → requestStep m buffer s ≡ record { answer = record { outcome = outcome (requestNumber s m buffer) 0; buffer = overlay (cantBytes (headerOf m) (requestNumber s m buffer)) buffer }; after = s }
   unfolding requestStep refused cantBytes
   request-refused e = rw (e, cant-over (ltb (requestNumber s m buffer) 7) (written (cantOf (headerOf m)) []) buffer)
 
@@ -136,7 +135,7 @@ module _ (p kind reason : ℕ) (words buffer : List ℕ) (s : State) where
       report-tests (noRoom (s .memory) buffer) (unsound s) (badReport kind reason) (ltb p 8) (recordOf s p .there) (not (accepts kind (recordOf s p .run)))
 
   report-refused : eqb (reportNumber s p kind reason buffer) 0 ≡ false
-      → reportStep p kind reason words buffer s ≡ record { answer = record { outcome = Refused (reportNumber s p kind reason buffer); buffer = buffer }; after = s }
+      → reportStep p kind reason words buffer s ≡ record { answer = record { outcome = outcome (reportNumber s p kind reason buffer) 0; buffer = buffer }; after = s }
   unfolding reportStep
   report-refused e = rw e
 
@@ -168,11 +167,11 @@ module _ (p kind reason : ℕ) (words buffer : List ℕ) (s : State) where
 
 -- ---- stores
 
-pub store-turn : (p a v : ℕ) (s : State) → answers (Granted 0) [] (stored p a v s) ≡ taken (storeTurn p a v) [] s
+pub store-turn : (p a v : ℕ) (s : State) → answers (outcome 0 0) [] (stored p a v s) ≡ taken (storeTurn p a v) [] s
 unfolding stored taken storeTurn reached storeAccess numberAt firstFailing overlay
 store-turn p a v s = go (ltb p 8) refl
   where
-    go : (t : Bool) → ltb p 8 ≡ t → answers (Granted 0) [] (stored p a v s) ≡ taken (storeTurn p a v) [] s
+    go : (t : Bool) → ltb p 8 ≡ t → answers (outcome 0 0) [] (stored p a v s) ≡ taken (storeTurn p a v) [] s
     go true e = rw e
     go false e = rw e
 

@@ -5,8 +5,7 @@ use Prim.Native.Nat.{ℕ}
 use lib.ListN.{length}
 use lib.Dec.{eqb}
 use Rattle.lists.specs.Buffer.{overlay}
-use Rattle.format.specs.declared.outcome.Outcome.the-variants.{Granted, Refused}
-use Rattle.format.specs.Outcome.{Test, firstFailing}
+use Rattle.format.specs.Outcome.{outcome, Test, firstFailing}
 use Rattle.process.specs.Local.{Local}
 use Rattle.rules.specs.Rule.{Public, public}
 use Rattle.rules.specs.Tests.{State}
@@ -52,11 +51,11 @@ numberAt a l =
 
 -- granted: the bytes are laid over the start of the buffer
 abbrev pub grants : List ℕ → List ℕ → Answer
-grants bytes buffer = record { outcome = Granted (length bytes); buffer = overlay bytes buffer }
+grants bytes buffer = record { outcome = outcome 0 (length bytes); buffer = overlay bytes buffer }
 
 -- refused with a number
 abbrev pub refuses : ℕ → List ℕ → List ℕ → Answer
-refuses number bytes buffer = record { outcome = Refused number; buffer = overlay bytes buffer }
+refuses number bytes buffer = record { outcome = outcome number 0; buffer = overlay bytes buffer }
 
 -- a call whose first tests pass; 'State and memory are unchanged by a refusal'
 unfoldable pub reached : Place → List ℕ → State → StepResult

@@ -7,7 +7,8 @@ use lib.ListN.{length, take, getD}
 use lib.Dec.{leb, ltb, eqb}
 use Rattle.format.specs.declared.header.Header.{Header}
 use Rattle.format.specs.declared.outcome.Outcome.{Outcome}
-use Rattle.format.specs.declared.outcome.Outcome.the-variants.{Granted, Refused}
+use Rattle.format.specs.Outcome.{lengthOf}
+unfoldable pub use Rattle.format.specs.Outcome.{isGranted}
 use Rattle.format.specs.Layout.{headerOf}
 use Rattle.rules.specs.Rule.{Public, public, names, creates}
 use Rattle.rules.specs.Tests.{State, recordOf}
@@ -94,11 +95,6 @@ isOne H (by host) = H host
 
 -- ---- who debugs, as the calls and their answers tell it
 
--- the call was granted
-unfoldable pub isGranted : Outcome → Bool
-isGranted (Granted n) = true
-isGranted (Refused n) = false
-
 -- 'from a granted DEBUG .. the asker; from a granted END DEBUG or DESTROY nobody'
 unfoldable pub publicThen : ℕ → ℕ → Public → Public
 publicThen cmd asker u =
@@ -125,8 +121,7 @@ Debuggers = (s : State) → Ready s → (c : Call) (p : ℕ) → publicOf (step 
 
 -- a notice went out, and its HOST byte is one of theirs
 unfoldable pub noticed : Hosts → Outcome → List ℕ → Bool
-noticed H (Granted n) buffer = ltb 0 n && H (getD buffer 1 0)
-noticed H (Refused n) buffer = false
+noticed H o buffer = ltb 0 (lengthOf o) && H (getD buffer 1 0)
 
 -- 'To him go the answers to his requests and to the reports that send him something.'
 unfoldable pub sentTo : Hosts → Asker → Answer → Bool

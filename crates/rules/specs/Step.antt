@@ -8,7 +8,7 @@ use Rattle.lists.specs.Buffer.{overlay}
 use Rattle.lists.specs.Word.{lowFirst}
 use Rattle.format.specs.declared.header.Header.{Header}
 use Rattle.format.specs.declared.outcome.Outcome.{Outcome}
-use Rattle.format.specs.declared.outcome.Outcome.the-variants.{Granted, Refused}
+use Rattle.format.specs.Outcome.{outcome}
 use Rattle.format.specs.Layout.{written, headerOf, stringOf}
 use Rattle.format.specs.Answer.{cantOf, createdOf, noticeOf}
 use Rattle.process.specs.Local.{Local, local}
@@ -27,7 +27,7 @@ answers o buffer s = record { answer = record { outcome = o; buffer = buffer }; 
 
 -- a reply is laid over the start of the reply buffer
 abbrev pub replyOf : Header → List ℕ → List ℕ → Answer
-replyOf h string buffer = record { outcome = Granted (10 + length string); buffer = overlay (written h string) buffer }
+replyOf h string buffer = record { outcome = outcome 0 (10 + length string); buffer = overlay (written h string) buffer }
 
 -- a reply that leaves this state
 abbrev pub replied : Header → List ℕ → List ℕ → State → StepResult
@@ -52,7 +52,7 @@ granted h string buffer s =
 -- a refused request: 'State and memory are unchanged by a refusal'; from test 7 on a CAN'T is written, and before it nothing
 unfoldable pub refused : ℕ → Header → List ℕ → State → StepResult
 refused number h buffer s =
-    answers (Refused number) (cond (ltb number 7) buffer (overlay (written (cantOf h) []) buffer)) s
+    answers (outcome number 0) (cond (ltb number 7) buffer (overlay (written (cantOf h) []) buffer)) s
 
 -- a request: any message, with its reply buffer
 unfoldable pub requestStep : List ℕ → List ℕ → State → StepResult
@@ -67,7 +67,7 @@ told kind words l = not (eqb (recipientOf kind words l) 0)
 -- the notice of an accepted report to this host, or nothing where it is nobody
 unfoldable pub noticeTo : ℕ → ℕ → ℕ → ℕ → List ℕ → List ℕ → Answer
 noticeTo host p kind reason words buffer =
-    cond (not (eqb host 0)) (replyOf (noticeOf host kind p reason) (lowFirst words) buffer) (record { outcome = Granted 0; buffer = buffer })
+    cond (not (eqb host 0)) (replyOf (noticeOf host kind p reason) (lowFirst words) buffer) (record { outcome = outcome 0 0; buffer = buffer })
 
 -- an accepted report tells the host that it has to tell, if any, and leaves this state
 unfoldable pub notified : ℕ → ℕ → ℕ → List ℕ → List ℕ → Local → State → StepResult
@@ -79,7 +79,7 @@ unfoldable pub reportStep : ℕ → ℕ → ℕ → List ℕ → List ℕ → St
 reportStep p kind reason words buffer s =
     cond (eqb (reportNumber s p kind reason buffer) 0)
     (notified p kind reason words buffer (localOf s p) (put p (reported kind words (localOf s p)) s))
-    (answers (Refused (reportNumber s p kind reason buffer)) buffer s)
+    (answers (outcome (reportNumber s p kind reason buffer) 0) buffer s)
 
 -- a store by the machine: 'one byte into a process's memory'
 unfoldable pub stored : ℕ → ℕ → ℕ → State → State
@@ -95,4 +95,4 @@ pub data Call : Type 0 where
 unfoldable pub step : State → Call → StepResult
 step s (request m buffer) = requestStep m buffer s
 step s (report p kind reason words buffer) = reportStep p kind reason words buffer s
-step s (store p a v) = answers (Granted 0) [] (stored p a v s)
+step s (store p a v) = answers (outcome 0 0) [] (stored p a v s)

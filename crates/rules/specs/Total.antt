@@ -3,12 +3,11 @@ use mathlib.Core.Path.{_≡_}
 use mathlib.Core.Bool.{Bool, true, false, cond, _||_}
 use mathlib.Core.List.{List, [], _∷_}
 use mathlib.Core.Logic.{_⊎_}
-use Prim.Native.Nat.{ℕ}
+use Prim.Native.Nat.{ℕ, suc}
 use lib.ListN.{length, drop}
 use lib.Dec.{ltb, eqb}
 use Rattle.lists.specs.Buffer.{overlay}
-use Rattle.format.specs.declared.outcome.Outcome.the-variants.{Granted, Refused}
-use Rattle.format.specs.Outcome.{Test, numberOf}
+use Rattle.format.specs.Outcome.{outcome, numberOf, Test}
 use Rattle.format.specs.Layout.{written, headerOf}
 use Rattle.format.specs.Answer.{cantOf}
 use Rattle.rules.specs.Tests.{State, requestTests, reportTests}
@@ -54,18 +53,18 @@ pub record Total : Type 0 where
   -- 'State and memory are unchanged by a refusal'
   pub refused : (s : State) (c : Call) → (numberOf (step s c .answer .outcome) ≡ 0 → ⊥) → step s c .after ≡ s
   -- 'buffer bytes past those written are never touched'
-  pub past : (s : State) (c : Call) (n : ℕ) → step s c .answer .outcome ≡ Granted n → drop n (step s c .answer .buffer) ≡ drop n (bufferOf c)
+  pub past : (s : State) (c : Call) (n : ℕ) → step s c .answer .outcome ≡ outcome 0 n → drop n (step s c .answer .buffer) ≡ drop n (bufferOf c)
   -- the column 'Written': nothing under 7, and the ten bytes of the CAN'T from 7 on
-  pub request-silent : (s : State) (m buffer : List ℕ) (n : ℕ) → requestStep m buffer s .answer .outcome ≡ Refused n
-      → requestStep m buffer s .answer .buffer ≡ cond (ltb n 7) buffer (cantOver m buffer)
+  pub request-silent : (s : State) (m buffer : List ℕ) (n : ℕ) → requestStep m buffer s .answer .outcome ≡ outcome (suc n) 0
+      → requestStep m buffer s .answer .buffer ≡ cond (ltb (suc n) 7) buffer (cantOver m buffer)
   pub cant-ten : (m : List ℕ) → length (written (cantOf (headerOf m)) []) ≡ 10
   -- 'a refused one writes nothing at all'
-  pub report-silent : (s : State) (p kind reason : ℕ) (words buffer : List ℕ) (n : ℕ) → reportStep p kind reason words buffer s .answer .outcome ≡ Refused n
+  pub report-silent : (s : State) (p kind reason : ℕ) (words buffer : List ℕ) (n : ℕ) → reportStep p kind reason words buffer s .answer .outcome ≡ outcome (suc n) 0
       → reportStep p kind reason words buffer s .answer .buffer ≡ buffer
   -- so of a request and of a report
-  pub request-past : (s : State) (m buffer : List ℕ) (n : ℕ) → requestStep m buffer s .answer .outcome ≡ Granted n
+  pub request-past : (s : State) (m buffer : List ℕ) (n : ℕ) → requestStep m buffer s .answer .outcome ≡ outcome 0 n
       → drop n (requestStep m buffer s .answer .buffer) ≡ drop n buffer
-  pub report-past : (s : State) (p kind reason : ℕ) (words buffer : List ℕ) (n : ℕ) → reportStep p kind reason words buffer s .answer .outcome ≡ Granted n
+  pub report-past : (s : State) (p kind reason : ℕ) (words buffer : List ℕ) (n : ℕ) → reportStep p kind reason words buffer s .answer .outcome ≡ outcome 0 n
       → drop n (reportStep p kind reason words buffer s .answer .buffer) ≡ drop n buffer
   -- a sound state stays sound
   pub sound-stays : (s : State) → Ready s → (c : Call) → Ready (step s c .after)

@@ -6,8 +6,7 @@ use lib.Dec.{eqb, ltb}
 use Rattle.lists.specs.Buffer.{overlay}
 use Rattle.format.specs.declared.header.Header.{Header}
 use Rattle.format.specs.declared.outcome.Outcome.{Outcome}
-use Rattle.format.specs.declared.outcome.Outcome.the-variants.{Refused}
-use Rattle.format.specs.Outcome.{test, firstFailing}
+use Rattle.format.specs.Outcome.{outcome, test, firstFailing}
 use Rattle.format.specs.Layout.{written}
 use Rattle.format.specs.Answer.{cantOf, createdOf}
 use Rattle.process.specs.declared.record.Process.{Process}
@@ -50,7 +49,7 @@ targetOf form h = cond (form .pid) (cond (ltb (h .pid) 8) (Named (h .pid)) OutOf
 
 -- refused with this number, and the CAN'T is laid over the start of the reply buffer
 unfoldable pub cantBy : ℕ → Header → List ℕ → Answer
-cantBy number h buffer = answer (Refused number) (overlay (written (cantOf h) []) buffer)
+cantBy number h buffer = answer (outcome number 0) (overlay (written (cantOf h) []) buffer)
 
 -- a request to the process that it names, by the number of its tests
 unfoldable pub namedBy : ℕ → Header → List ℕ → List ℕ → Local → ProcessResult
@@ -79,7 +78,7 @@ reportAway p kind reason = firstFailing (test 14 (badReport kind reason) ∷ tes
 unfoldable pub reportBy : ℕ → ℕ → ℕ → ℕ → List ℕ → List ℕ → Local → ProcessResult
 reportBy zero p kind reason words buffer l =
     leaving (noticeTo (recipientOf kind words l) p kind reason words buffer) (reported kind words l)
-reportBy (suc n) p kind reason words buffer l = leaving (answer (Refused (suc n)) buffer) l
+reportBy (suc n) p kind reason words buffer l = leaving (answer (outcome (suc n) 0) buffer) l
 
 -- the tests 7 and 9 of a process whose number is under 8
 unfoldable pub reportNumberAt : ℕ → Process → ℕ

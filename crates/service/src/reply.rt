@@ -30,6 +30,7 @@ pub fn reply_plain(h: Header, reply: &mut [u8]) -> Outcome
 
 // Writes the CAN'T, and refuses with this number.
 pub fn refuse(h: Header, number: u8, reply: &mut [u8]) -> Outcome
+    requires { ⌜ (number ≡ 0 → ⊥) ⌝ }
     requires { ⌜ messageBytes ≤ length (now reply) ⌝ }
     ensures { λ r. ⌜ answer r (now (reply .exit)) ≡ cantBy number h (now (reply .entry)) ⌝ }
 {

@@ -6,6 +6,7 @@ use lib.ListN.{length}
 use lib.Dec.{eqb}
 use mir.Syntax.{w64}
 use mir.Val.{toZ, ofZ}
+use Rattle.format.specs.Outcome.{lengthOf}
 use Rattle.rules.proofs.StepLaws.{by-test}
 use Rattle.state_bytes.specs.Widths.{stateWidth}
 use Rattle.gateway.specs.Called.{StartResult, startOn}
@@ -22,10 +23,10 @@ fresh-start-requires : tie.Need-fresh-start-requires
 fresh-start-requires c κs = search needs
 
 signed-requires : tie.Need-signed-requires
-unfolding startOn
+unfolding startOn lengthOf
 signed-requires c κs =
     let a = c .before .before .before .before .before .before .args in
-    let short : Short (startOn (c .before .before .before .before .bits .result) (a .state .now) .outcome) = by-test (λ (x : StartResult). Short (x .outcome)) (eqb (length (a .state .now)) stateWidth) (λ e. omega arith) (λ e. tt) in
+    let short : Short (startOn (c .before .before .before .before .bits .result) (a .state .now) .outcome) = by-test (λ (x : StartResult). Short (x .outcome)) (eqb (length (a .state .now)) stateWidth) (λ e. omega arith) (λ e. omega arith) in
     subst Short (sym (ap (λ (x : StartResult). x .outcome) (c .before .before .fresh-start .ensures))) short
 
 same-length : tie.Need-same-length

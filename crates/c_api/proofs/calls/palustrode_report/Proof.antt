@@ -4,6 +4,7 @@ use borrow.Author.Tests.{eq-eqb, ne-eqb}
 use lib.ListN.{length}
 use mir.Syntax.{w64}
 use mir.Val.{toZ, ofZ}
+use Rattle.format.specs.Outcome.{numberOf, isGranted}
 use Rattle.rules.specs.Step.{report}
 use Rattle.c_api.specs.Called.{signed, reportOn}
 use Rattle.c_api.proofs.ShortLaws.{nine-words, report-short}
@@ -17,7 +18,7 @@ minus-requires : tie.Need-minus-requires
 minus-requires c κs = search needs
 
 returns : tie.Need-returns
-unfolding reportOn signed
+unfolding reportOn signed numberOf isGranted
 returns c =
     let a = c .before .before .before .before .before .before .args in
     let same : toZ w64 (ofZ w64 (c .minus .result)) ≡ c .minus .result = search needs in

@@ -2,7 +2,7 @@
 use mathlib.Core.Path.{refl, ap}
 use lib.ListN.{length}
 use borrow.Author.Tests.{eq-eqb, ne-eqb}
-use Rattle.format.specs.declared.outcome.Outcome.the-variants.{Granted}
+use Rattle.format.specs.Outcome.{outcome}
 use Rattle.state_bytes.specs.Widths.{stateWidth}
 use Rattle.gateway.specs.Called.{started, startOn}
 use borrow.Author.Needs.{needs}
@@ -21,7 +21,7 @@ same-length c = search needs
 
 returns-2 : tie.Need-returns-2
 unfolding startOn
-returns-2 c = rw (eq-eqb (length (c .before .before .before .before .before .before .args .state .now)) stateWidth (c .before .before .before .before .if1 .left)) (ap (started (Granted 0)) (c .before .before .put-fresh-start .ensures))
+returns-2 c = rw (eq-eqb (length (c .before .before .before .before .before .before .args .state .now)) stateWidth (c .before .before .before .before .if1 .left)) (ap (started (outcome 0 0)) (c .before .before .put-fresh-start .ensures))
 
 pub fresh-start-spec : {M : Type 1} → statement M
 fresh-start-spec = tie.close (tie.spec returns put-fresh-start-requires same-length returns-2)

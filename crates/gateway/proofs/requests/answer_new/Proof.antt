@@ -23,7 +23,7 @@ refuse-requires : tie.Need-refuse-requires
 refuse-requires c κs =
     let s = c .before .before .before .before .before .before .before in
     let a = s .args in
-    lent-fits (a .state .now) (a .memory .now) (a .reply .now) (s .pre .1) .room
+    (λ e. omega (arith, e), lent-fits (a .state .now) (a .memory .now) (a .reply .now) (s .pre .1) .room)
 
 same-length : tie.Need-same-length
 same-length c = search needs

@@ -1,6 +1,7 @@
 -- `service::reply::refuse` meets its contract: the CAN'T is sent, and the number returned. Assumes nothing.
-use mathlib.Core.Path.{ap}
-use Rattle.format.specs.declared.outcome.Outcome.the-variants.{Refused}
+use mathlib.Core.Path.{ap₂}
+use Rattle.format.specs.declared.outcome.Outcome.{Outcome}
+use Rattle.format.proofs.OutcomeLaws.{outcome-other}
 use Rattle.message.specs.Exchange.{Written, sends}
 use Rattle.service.specs.At.{answer, cantBy}
 use borrow.Author.Needs.{needs}
@@ -20,7 +21,7 @@ returns : tie.Need-returns
 unfolding sends cantBy
 returns c =
     let s = c .before .before .before .before .before .before in
-    rw (← c .before .before .before .before .cant .ensures) (ap (λ (w : Written). answer (Refused (s .args .number)) (w .buffer)) (c .before .before .write-reply .ensures))
+    rw (← c .before .before .before .before .cant .ensures) (ap₂ (λ (o : Outcome) (w : Written). answer o (w .buffer)) (outcome-other (s .args .number) 0 (s .pre .0)) (c .before .before .write-reply .ensures))
 
 pub refuse-spec : {M : Type 1} → statement M
 refuse-spec = tie.close (tie.spec cant-requires write-reply-requires same-length returns)

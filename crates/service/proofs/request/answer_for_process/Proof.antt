@@ -28,7 +28,13 @@ enum-known-decision-2 : tie.Need-enum-known-decision-2
 enum-known-decision-2 c = search needs
 
 refuse-requires : tie.Need-refuse-requires
-refuse-requires c κs = search needs
+refuse-requires c κs =
+    let t = c .before .before in
+    let k = c .before .before .before .before in
+    let s = c .before .before .before .before .before .before .before .before in
+    let a = s .args in
+    let d = says (a .h) (a .process) (Refuse _) (sym (t .decision2 .given .1) ∙ k .decide .ensures) in
+    (d .1, s .pre .1 .1)
 
 same-length : tie.Need-same-length
 same-length c = search needs
