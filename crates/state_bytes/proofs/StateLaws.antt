@@ -9,14 +9,17 @@ use lib.ListN.{length, take, drop, getD}
 use lib.Seq.{getD-take, getD-drop}
 use lib.Dec.{eqb}
 use Rattle.lists.specs.Buffer.{Bytes, overlay}
+use Rattle.lists.specs.Elements.{elements}
 use Rattle.lists.specs.Every.{every, below}
 use Rattle.lists.specs.Joined.{joined}
+use Rattle.lists.specs.Word.{high, low, word}
 use Rattle.lists.proofs.Bool.{&&-left, &&-right, &&-both}
 use Rattle.lists.proofs.Buffer.{overlay-all}
+use Rattle.lists.proofs.Elements.{getD-elements}
 use Rattle.lists.proofs.Every.{every-below}
 use Rattle.lists.proofs.Part.{length-replaced}
 use Rattle.lists.proofs.Short.{take-short}
-use Rattle.lists.proofs.Word.{length-lowFirst}
+use Rattle.lists.proofs.Word.{word-high-low, length-lowFirst}
 use Rattle.process.specs.declared.record.Process.{Process}
 use Rattle.process.specs.Sound.{soundTest as soundProcess}
 use Rattle.state.specs.Records.{Records, nobody, processAt, withProcess, soundTest}
@@ -31,25 +34,35 @@ use Rattle.state_bytes.proofs.ProcessLaws.{length-processBytes, process
 
 -- ---- one process
 
+-- byte p of a table of the starts' bytes is that byte of the start
+pub start-at : (p r : ℕ) → p < processCount
+    → r ≡ word (getD (elements (λ (k : ℕ). high (processWidth * k)) processCount) p 0) (getD (elements (λ (k : ℕ). low (processWidth * k)) processCount) p 0) → r ≡ processWidth * p
+start-at p r h e =
+    let highs = getD-elements (λ (k : ℕ). high (processWidth * k)) processCount p h in
+    let lows = getD-elements (λ (k : ℕ). low (processWidth * k)) processCount p h in
+    rw (highs, lows) at e ∙ word-high-low (processWidth * p)
+
 one-piece : (at : ℕ) → at + processWidth - at ≡ processWidth
 one-piece at = omega arith
 
 -- the record that is read from a process's bytes is that of the state
-pub read-at : (m : List ℕ) (p : ℕ) (r : Process) → p < processCount → r ≡ processOf (take (processWidth * p + processWidth - processWidth * p) (drop (processWidth * p) m)) → r ≡ processAt (stateOf m) p
+pub read-at : (m : List ℕ) (p at : ℕ) (r : Process) → p < processCount → at ≡ processWidth * p → r ≡ processOf (take (at + processWidth - at) (drop at m)) → r ≡ processAt (stateOf m) p
 unfolding stateOf
-read-at m p r h e =
-    e ∙ ap (λ (n : ℕ). processOf (take n (drop (processWidth * p) m))) (one-piece (processWidth * p)) ∙ sym (getD-chunks processWidth processOf processCount p m nobody h)
+read-at m p at r h start e =
+    e
+    ∙ ap (λ (n : ℕ). processOf (take n (drop at m))) (one-piece at)
+    ∙ ap (λ (n : ℕ). processOf (take processWidth (drop n m))) start
+    ∙ sym (getD-chunks processWidth processOf processCount p m nobody h)
 
 -- a record written over a process's bytes, in the shape in which the part comes back
-pub put-at : (m last : List ℕ) (p : ℕ) (q : Process) → length (processBytes q) ≡ processWidth
-    → last ≡ overlay (processBytes q) (take (processWidth * p + processWidth - processWidth * p) (drop (processWidth * p) m))
-    → take (processWidth * p) m ++ (last ++ drop (processWidth * p + processWidth - processWidth * p) (drop (processWidth * p) m)) ≡ withProcessBytes p q m
+pub put-at : (m last : List ℕ) (p at : ℕ) (q : Process) → at ≡ processWidth * p → length (processBytes q) ≡ processWidth
+    → last ≡ overlay (processBytes q) (take (at + processWidth - at) (drop at m))
+    → take at m ++ (last ++ drop (at + processWidth - at) (drop at m)) ≡ withProcessBytes p q m
 unfolding withProcessBytes
-put-at m last p q size e =
-    let piece = one-piece (processWidth * p) in
-    let short = take-short (processWidth * p + processWidth - processWidth * p) (drop (processWidth * p) m) .0 in
-    let all : last ≡ processBytes q = e ∙ overlay-all (processBytes q) (take (processWidth * p + processWidth - processWidth * p) (drop (processWidth * p) m)) (omega (arith, short, size)) in
-    rw (all, piece)
+put-at m last p at q start size e =
+    let short = take-short (at + processWidth - at) (drop at m) .0 in
+    let all : last ≡ processBytes q = e ∙ overlay-all (processBytes q) (take (at + processWidth - at) (drop at m)) (omega (arith, short, size)) in
+    rw (all, one-piece at, start)
 
 -- there are as many bytes as before
 pub length-with : (m : List ℕ) (p : ℕ) (q : Process) → p < processCount → length m ≡ stateWidth → length (processBytes q) ≡ processWidth → length (withProcessBytes p q m) ≡ stateWidth

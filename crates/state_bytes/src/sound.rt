@@ -9,7 +9,7 @@ use crate::widths::PROCESS_BYTES;
 use crate::widths::PROCESS_COUNT;
 use crate::widths::STATE_BYTES;
 ghost use mathlib.Core.Path.{_≡_};
-ghost use Prim.Native.Nat.{_≤_};
+ghost use Prim.Native.Nat.{_*_, _≤_};
 ghost use lib.ListN.{length};
 ghost use Rattle.state_bytes.specs.Process.{processPlain, processSound};
 ghost use Rattle.state_bytes.specs.State.{SoundBefore, stateSound};
@@ -26,22 +26,28 @@ fn process_plain(bytes: &[u8]) -> bool
     entries_bits(&bytes[ENTRIES_AT..]) == 0
 }
 
-// The number of the first process that is not plain, or 8. No slow path stands in this loop.
-fn plain_before(state: &[u8]) -> usize
+// How many processes were passed, and the index after their last byte.
+struct Passed {
+    count: usize,
+    end: usize,
+}
+
+// Passes the processes before the first that is not plain. No slow path stands in this loop.
+fn plain_before(state: &[u8]) -> Passed
     requires { ⌜ length (now state) ≡ stateWidth ⌝ }
-    ensures { λ r. ⌜ SoundBefore r (now (state .entry)) ⌝ }
+    ensures { λ r. ⌜ (r .end ≡ processWidth * r .count) × SoundBefore (r .count) (now (state .entry)) ⌝ }
 {
     let mut n = 0;
     let mut at = 0;
     while n < PROCESS_COUNT {
         let end = at + PROCESS_BYTES;
         if !process_plain(&state[at..end]) {
-            return n;
+            return Passed { count: n, end: at };
         }
         at = end;
         n += 1;
     }
-    n
+    Passed { count: n, end: at }
 }
 
 // The bytes of a process are those of a sound record.
@@ -69,8 +75,9 @@ pub fn state_sound(state: &[u8]) -> bool
     if state.len() != STATE_BYTES {
         return false;
     }
-    let mut p = plain_before(state);
-    let mut at = PROCESS_BYTES * p;
+    let passed = plain_before(state);
+    let mut p = passed.count;
+    let mut at = passed.end;
     while p < PROCESS_COUNT {
         let end = at + PROCESS_BYTES;
         if !process_sound(&state[at..end]) {

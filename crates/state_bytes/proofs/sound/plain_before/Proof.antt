@@ -45,7 +45,7 @@ process-plain-requires c κs =
     omega (arith, length-piece processWidth (l .loop .at) m (omega (arith, l .loop .inv .0, l .loop .inv .1 .1)))
 
 returns : tie.Need-returns Inv-loop μ-loop
-returns c = let l = c .before .before .before .before in l .loop .inv .1
+returns c = let l = c .before .before .before .before in l .loop .inv
 
 add-n : tie.Need-add-n Inv-loop μ-loop
 add-n c = omega arith
@@ -63,7 +63,7 @@ loop-again c =
     (omega arith, (omega arith, l .loop .inv .1 .1, rw (add-one n) (every-snoc processWidth processSound n m (l .loop .inv .1 .2) (plain-sound (take processWidth (drop (processWidth * n) m)) plain))))
 
 returns-2 : tie.Need-returns-2 Inv-loop μ-loop
-returns-2 c = c .before .loop .inv .1
+returns-2 c = c .before .loop .inv
 
 pub plain-before-spec : {M : Type 1} → statement M
 plain-before-spec =

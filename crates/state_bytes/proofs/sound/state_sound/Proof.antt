@@ -27,11 +27,8 @@ returns c = rw (ne-eqb _ _ (c .if1 .taken))
 plain-before-requires : tie.Need-plain-before-requires Inv-loop μ-loop
 plain-before-requires c κs = c .if1 .left
 
-mul-at : tie.Need-mul-at Inv-loop μ-loop
-mul-at c = omega arith
-
 loop-holds : tie.Need-loop-holds Inv-loop μ-loop
-loop-holds c = (omega arith, c .plain-before .ensures)
+loop-holds c = c .plain-before .ensures
 
 add-end : tie.Need-add-end Inv-loop μ-loop
 add-end c = omega arith
@@ -89,7 +86,6 @@ state-sound-spec =
     μ-loop
     returns
     plain-before-requires
-    mul-at
     loop-holds
     add-end
     sub-process-sound
