@@ -33,7 +33,7 @@ use Rattle.rules.specs.Turn.{ruleAccess, createAccess, placeTests, reque
 use Rattle.rules.specs.Ready.{Ready}
 use Rattle.rules.specs.Isolation.{Processes, namesOne, deposits, withoutString, asker, subject, event, passedOver, fieldsOf, isGranted, publicThen, toldOf, publicOf}
 use Rattle.rules.specs.Total.{testsOf, numbersOf, oneOf}
-use Rattle.rules.proofs.ProperLaws.{create-proper}
+use Rattle.rules.proofs.ProperLaws.{new-proper, create-size}
 use Rattle.rules.proofs.RuleLaws.{Open, Kept, Row, rule-row}
 use Rattle.rules.proofs.RuleLaws.{Taking as RowTaking}
 use Rattle.rules.proofs.NumberLaws.{by-test, same-cond, first-listed, orElse-zero, first-append, Sent, layout-sent}
@@ -112,7 +112,7 @@ create-fair : (h : Header) (p : ℕ) → (h .host ≡ 0 → ⊥) → Fair (by (h
 unfolding createAccess May Discreet insider firstFailing public created fresh
 create-fair h p asked = record {
   publicly = λ l z. refl;
-  keeps = λ l g z. create-proper (h .host);
+  keeps = λ l g z. new-proper (h .host) (createAccess h p .effect l .bytes) (omega (arith, g .tested .size, create-size (h .host)));
   guarded = λ u z. inr (record { none = λ l. refl; blind = λ l k. refl; takes = λ v. rw (ne-eqb (h .host) 0 asked, eq-eqb (h .host) (h .host) refl) });
   hides = inr (λ l. refl);
   plain = λ l k e. refl;
