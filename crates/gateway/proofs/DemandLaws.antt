@@ -4,12 +4,9 @@ use mathlib.Core.List.{List, [], _∷_}
 use Rattle.rules.specs.Tests.{State}
 use Rattle.rules.specs.Step.{Call, step}
 use Rattle.rules.specs.Run.{TraceItem, traceItem, run}
-use Rattle.rules.specs.Outsider.{Outsiders}
 use Rattle.rules.proofs.TotalLaws.{total}
 use Rattle.rules.proofs.RightsLaws.{rights}
-use Rattle.rules.proofs.ListLaws.{claim}
-use Rattle.rules.proofs.DebuggerLaws.{debuggers}
-use Rattle.rules.proofs.OutsiderLaws.{outsider}
+use Rattle.rules.proofs.OutsiderLaws.{isolation}
 use Rattle.gateway.specs.Demands.{DidStep, Done, Demands}
 
 did-after : (s : State) (c : Call) (e : TraceItem) → DidStep s c e → e .after ≡ step s c .after
@@ -33,10 +30,6 @@ done-run s (c ∷ cs) [] d = absurd d
 done-run s (c ∷ cs) (e ∷ es) d =
     rw (did-traceItem s c e (d .0)) (ap (λ (xs : List TraceItem). traceItem s c ∷ xs) (done-run (step s c .after) cs es (rw (did-after s c e (d .0)) at (d .1))))
 
-outsiders : Outsiders
-unfolding Outsiders
-outsiders = outsider
-
 pub demands : Demands
 unfolding step
 demands = record {
@@ -45,6 +38,5 @@ demands = record {
   runs = done-run;
   total = total;
   rights = rights;
-  isolation = record { debuggers = debuggers; claim = claim };
-  outsiders = outsiders;
+  isolation = isolation;
 }

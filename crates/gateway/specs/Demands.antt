@@ -7,8 +7,7 @@ use Rattle.rules.specs.Step.{Call, request, report, requestStep, reportStep, st
 use Rattle.rules.specs.Run.{TraceItem, run}
 use Rattle.rules.specs.Total.{Total}
 use Rattle.rules.specs.Rights.{Rights}
-use Rattle.rules.specs.Isolation.{Isolation}
-use Rattle.rules.specs.Outsider.{Outsiders}
+use Rattle.rules.specs.Together.{Isolation}
 
 -- one step with what it answered and left, in records
 pub record DidStep (s : State) (c : Call) (e : TraceItem) : Type 0 where
@@ -38,4 +37,3 @@ pub record Demands : Type 0 where
   pub rights : Rights
   -- demand 3, for sets of hosts and processes, and for one host and one process
   pub isolation : Isolation
-  pub outsiders : Outsiders
