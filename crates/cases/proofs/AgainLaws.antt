@@ -42,16 +42,10 @@ use Rattle.rules.specs.Total.{oneOf}
 use Rattle.rules.specs.Isolation.{Processes, namesOne, asker, subject, event, passedOver, fieldsOf, isOne, isGranted, noticed, sentTo, part, heard, struck, withoutData, publicOf, NoneDebugs, theirs}
 use Rattle.rules.specs.Outsider.{only}
 use Rattle.rules.specs.Together.{createdFor, hiddenAfter, Away, strikeRun, AlikeRuns, withoutTheirs, callsOf}
+use Rattle.cases.proofs.PairLaws.{eight, firstByte}
 use Rattle.cases.specs.Again.{laptops, sellers, one, other, oneCalls, otherCalls, oneRest, received, CreatedAgain}
 
 -- ---- tests that can be computed, and what they say
-
--- each of the eight entries is there
-abbrev eightTest : State → Bool
-eightTest s = below (λ (p : ℕ). eqb (length (processAt (s .records) p .breaks)) 8) 8
-
-eight : (s : State) → eightTest s ≡ true → (p : ℕ) → p < 8 → length (processAt (s .records) p .breaks) ≡ 8
-eight s e p h = eqb-true _ 8 (below-at (λ (q : ℕ). eqb (length (processAt (s .records) q .breaks)) 8) 8 p h e)
 
 -- what holds of 0 to 7
 each : (F : ℕ → Type 0) → F 0 → F 1 → F 2 → F 3 → F 4 → F 5 → F 6 → F 7 → (p : ℕ) → p < 8 → F p
@@ -110,11 +104,6 @@ record Computed : Type 0 where
   other-heard : heard laptops (run other otherCalls) ≡ received
   left : callsOf (withoutTheirs laptops sellers (replicate 30 true) (run one oneCalls)) ≡ oneRest
   unlike : heard (only 9) (run one oneCalls) ≡ heard (only 9) (run other otherCalls) → ⊥
-
--- the first byte that the seller examined
-abbrev firstByte : List Answer → ℕ
-firstByte [] = 0
-firstByte (a ∷ rest) = getD (a .buffer) 10 0
 
 computed : Computed
 unfolding strikeRun hiddenAfter createdFor withoutTheirs namesOne subject event passedOver fieldsOf isOne isGranted struck withoutData theirs insider heard part asker sentTo noticed stored overlay lowFirst cantOf createdOf noticeOf written headerOf stringOf fixedRight numberOf firstFailing unusedZero carriedLength wrongLength wrongHeader misfits rowOf requestForm matches find plantedIn liftedIn removedFrom replanted liftedAt fresh accepts storeVectorAndReplant passes verdictOf recipientOf passed runAfter reported hasBreak hasRoom examined deposited vectorAfter breakSet breakRemoved created cleared restored seen savedFrom sheltered overlaySavedByte overlaySavedWord validBreakAddress absentHasNoHost liftSound usedSound entrySound soundTest freshStart soundState startOf slot withSlot public ruleOf names run put grantedNamed grantedCreate granted refused requestStep noticeTo notified reportStep step lowestAbsent askedTests requestNumber reportNumber

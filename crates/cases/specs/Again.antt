@@ -81,17 +81,19 @@ destroy = asked 9 DESTROY 2 0 0 []
 abbrev pub debug : ℕ → ℕ → Call
 debug host p = asked host DEBUG p 0 0 []
 
--- what happens in the seller's processes of the one gateway before the DESTROY, and after all
+-- what happens in the seller's processes of the one gateway before the DESTROY
 abbrev pub oneFirst : List Call
 oneFirst = deposit 9 2 (1 ∷ 2 ∷ []) ∷ reportOf 2 HALT ∷ store 2 0 8 ∷ store 4 0 8 ∷ []
 
+-- and at the end
 abbrev pub oneLast : List Call
 oneLast = reportOf 4 HALT ∷ deposit 9 4 (1 ∷ 2 ∷ []) ∷ examine 9 4 ∷ []
 
--- and in those of the other: no report, other stores and deposits
+-- what happens in those of the other before the DESTROY: no report, other stores, another deposit
 abbrev pub otherFirst : List Call
 otherFirst = deposit 9 2 (3 ∷ []) ∷ store 2 9 6 ∷ store 2 0 6 ∷ []
 
+-- and at the end
 abbrev pub otherLast : List Call
 otherLast = deposit 9 4 (5 ∷ 6 ∷ []) ∷ store 4 3 3 ∷ examine 9 4 ∷ []
 
