@@ -199,8 +199,3 @@ pub record Claim (H : Hosts) (P : Processes) : Type 0 where
   -- and at the end
   pub same-end : (s : State) → Ready s → (l : List Call) → NeverDebugs H P s l → (marks : List Bool)
       → final s (leave (theirs H P) marks l) ≡ final s l
-
--- who debugs is told by the calls and their answers, and the claim holds for every set of hosts and of processes
-pub record Isolation : Type 0 where
-  pub debuggers : Debuggers
-  pub claim : (H : Hosts) (P : Processes) → Claim H P
