@@ -22,6 +22,7 @@ use Rattle.rules.specs.Isolation.{Hosts, Processes, asker, subject, pass
 use Rattle.rules.specs.Together.{createdFor, hiddenAfter}
 use Rattle.rules.proofs.StateLaws.{local-proper, put-changed}
 use Rattle.rules.proofs.CallLaws.{Shown, There, Nowhere, Placed}
+use Rattle.format.proofs.OutcomeLaws.{isGranted-outcome}
 use Rattle.rules.proofs.LawfulLaws.{lawful}
 use Rattle.rules.proofs.StepLaws.{by-test, Done, stays, idles, acts, done}
 use Rattle.rules.proofs.IsolationLaws.{lets-in, both, stays-withoutData}
@@ -34,7 +35,7 @@ unfolding toldOf isGranted names
 create-goes c is bytes n = true≢false (sym told-there ∙ ap (λ (u : Public). u .there) (n .told nobody number))
   where
     nobody : ℕ → Public
-    nobody k = record { there = false; host = 0 }
+    nobody k = record { there = false; host = 0; size = 0 }
 
     number : ℕ
     number = getD (grants bytes (bufferOf c) .buffer) 5 0
@@ -57,8 +58,8 @@ module _ (s₁ s₂ : State) (r₁ : Ready s₁) (r₂ : Ready s₂) (c : Call) 
 
       go : (t₁ : Bool) → eqb (numberAt a (localOf s₁ q)) 0 ≡ t₁ → (t₂ : Bool) → eqb (numberAt a (localOf s₂ q)) 0 ≡ t₂
           → Made (reached (atProcess q a) (bufferOf c) s₁) (reached (atProcess q a) (bufferOf c) s₂)
-      go false e₁ t₂ e₂ = rw e₁ (λ g₁. absurd (true≢false (sym g₁)))
-      go true e₁ false e₂ = rw (e₁, e₂) (λ g₁ g₂. absurd (true≢false (sym g₂)))
+      go false e₁ t₂ e₂ = rw e₁ (λ g₁. absurd (true≢false (sym g₁ ∙ isGranted-outcome (numberAt a (localOf s₁ q)) 0 ∙ e₁)))
+      go true e₁ false e₂ = rw (e₁, e₂) (λ g₁ g₂. absurd (true≢false (sym g₂ ∙ isGranted-outcome (numberAt a (localOf s₂ q)) 0 ∙ e₂)))
       go true e₁ true e₂ =
           rw (e₁, e₂)
           (λ g₁ g₂ n.
@@ -78,7 +79,7 @@ module _ (s₁ s₂ : State) (r₁ : Ready s₁) (r₂ : Ready s₂) (c : Call) 
     where
       go : (t : Bool) → eqb (firstFailing (turnOf s₁ c .tests)) 0 ≡ t → Made (taken (turnOf s₁ c) (bufferOf c) s₁) (taken (turnOf s₁ c) (bufferOf c) s₂)
       go true e = rw e (made-placed (turnOf s₁ c .place) (lawful c .placed s₁ r₁ (eqb-true _ 0 e)))
-      go false e = rw e (λ g₁. absurd (true≢false (sym g₁)))
+      go false e = rw e (λ g₁. absurd (true≢false (sym g₁ ∙ isGranted-outcome (firstFailing (turnOf s₁ c .tests)) 0 ∙ e)))
 
 -- ---- what is hidden after a call
 

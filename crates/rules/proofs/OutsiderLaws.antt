@@ -29,7 +29,7 @@ differ-apart p s₁ s₂ d = record {
 }
   where
     here : public (recordOf s₁ p) ≡ public (recordOf s₂ p)
-    here = ap₂ (λ (t : Bool) (n : ℕ). record { there = t; host = n }) (d .there) (d .host)
+    here = rw (d .there, d .host, d .size)
 
     shown : (q : ℕ) → q < 8 → (t : Bool) → eqb p q ≡ t → publicOf s₁ q ≡ publicOf s₂ q
     shown q h true e = rw (← eqb-true p q e) here

@@ -1,7 +1,7 @@
--- What a request or report leaves of a process is again a sound record with eight entries and 4,096 bytes. Assumes nothing.
-use mathlib.Core.Path.{_≡_, refl, _∙_}
+-- What a request or report leaves of a process is again a sound record with eight entries and its bytes. Assumes nothing.
+use mathlib.Core.Path.{_≡_, refl, sym, _∙_}
 use mathlib.Core.Bool.{Bool, true, false, cond}
-use mathlib.Core.List.{List, map}
+use mathlib.Core.List.{List, [], map}
 use Prim.Native.Nat.{ℕ, _+_, _-_, _≤_, _%_}
 use native.Mathlib.Omega.{arith}
 use lib.ListN.{length, set, length-set, length-map, length-replicate}
@@ -17,21 +17,21 @@ use Rattle.process.specs.Sound.{Sound}
 use Rattle.run_state.specs.RunState.{moving, stoppedOrAtBreak, atBreak, accepts}
 use Rattle.breakpoints.specs.Seen.{seen, savedFrom}
 use Rattle.process.specs.Request.{sheltered}
-use Rattle.process.specs.Local.{Local, local, Proper}
+use Rattle.process.specs.Local.{Local, local, extent, Proper}
 use Rattle.process.specs.Planting.{plantedIn, liftedIn, removedFrom, replanted, liftedAt}
 use Rattle.process.specs.Request.{pc, onRecord, hasBreak, hasRoom, endDebugged, stopped, stepped, proceeded, toBeSeen, deposited, breakSet, breakRemoved, created, cleared}
 use Rattle.process.specs.Report.{reported}
-use Rattle.process.proofs.ReportLaws.{length-reported, eight-reported}
+use Rattle.process.proofs.ReportLaws.{length-reported, eight-reported, extent-reported}
 use Rattle.process.proofs.SoundTestLaws.{sound-passes}
 use Rattle.breakpoints.proofs.SeenLaws.{length-seen}
 use Rattle.process.proofs.TestedLaws.{tested-sound}
-use Rattle.process.proofs.PlantingLaws.{length-plantedIn, length-removedFrom, length-replanted, length-liftedAt, length-entry, eight-replanted}
+use Rattle.process.proofs.PlantingLaws.{length-plantedIn, length-removedFrom, length-replanted, length-liftedAt, length-entry, eight-replanted, extent-replanted, extent-liftedAt}
 use Rattle.process.proofs.TheoremLaws.{sound-stays}
 
 pub sound-of : (l : Local) → Proper l → Sound (l .process)
 sound-of l g = tested-sound (l .process) (l .bytes) (g .tested)
 
-pub proper-of : (l : Local) → Sound (l .process) → length (l .process .breaks) ≡ 8 → length (l .bytes) ≡ 4096 → Proper l
+pub proper-of : (l : Local) → Sound (l .process) → length (l .process .breaks) ≡ 8 → length (l .bytes) ≡ extent (l .process) → Proper l
 proper-of l s eight size = record { tested = record { sound = sound-passes (l .process) eight s; size = size }; eight = eight }
 
 -- ---- numbers of entries and bytes
@@ -63,66 +63,83 @@ entries-removedFrom : (k : ℕ) (l : Local) → entries (removedFrom k l) ≡ en
 unfolding removedFrom
 entries-removedFrom k l = simp length-set
 
+asked-plantedIn : (k : ℕ) (b : Breakpoint) (l : Local) → extent (plantedIn k b l .process) ≡ extent (l .process)
+unfolding plantedIn
+asked-plantedIn k b l = refl
+
 -- ---- each request
 
+-- how many bytes the record says that there are
+abbrev asked : Local → ℕ
+asked l = extent (l .process)
+
 module _ (l : Local) (g : Proper l) where
-  four : size l ≡ 4096
-  four = g .tested .size
+  -- as many entries and bytes as before
+  kept-proper : (k : Local) → Sound (k .process) → entries k ≡ entries l → size k ≡ size l → asked k ≡ asked l → Proper k
+  kept-proper k sound e n x = proper-of k sound (e ∙ g .eight) (n ∙ g .tested .size ∙ sym x)
 
   pub end-debug-proper : Proper (endDebugged l)
   unfolding endDebugged
-  end-debug-proper = proper-of (endDebugged l) (sound-stays .end-debug l g) refl (length-seen (l .process .breaks) (l .bytes) ∙ four)
+  end-debug-proper = proper-of (endDebugged l) (sound-stays .end-debug l g) refl (length-seen (l .process .breaks) (l .bytes) ∙ g .tested .size)
 
   pub stop-proper : Proper (stopped l)
   unfolding stopped
   stop-proper =
-      proper-of (stopped l) (sound-stays .stop l g)
-      (by-cond entries (moving (l .process .run)) (onRecord (withRun Stopped) (replanted l)) l 8 (eight-replanted l ∙ g .eight) (g .eight))
-      (by-cond size (moving (l .process .run)) (onRecord (withRun Stopped) (replanted l)) l 4096 (length-replanted l ∙ four) four)
+      let t = moving (l .process .run) in
+      let still = onRecord (withRun Stopped) (replanted l) in
+      kept-proper (stopped l) (sound-stays .stop l g)
+      (by-cond entries t still l (entries l) (eight-replanted l) refl)
+      (by-cond size t still l (size l) (length-replanted l) refl)
+      (by-cond asked t still l (asked l) (extent-replanted l) refl)
 
   pub step-proper : stoppedOrAtBreak (l .process .run) ≡ true → Proper (stepped l)
   unfolding stepped
   step-proper e =
       let at = pc (l .process) in
-      proper-of (stepped l) (sound-stays .step l g e)
-      (by-cond entries (atBreak (l .process .run)) (liftedAt at l) l 8 (entries-liftedAt at l ∙ g .eight) (g .eight))
-      (by-cond size (atBreak (l .process .run)) (liftedAt at l) l 4096 (length-liftedAt at l ∙ four) four)
+      let t = atBreak (l .process .run) in
+      kept-proper (stepped l) (sound-stays .step l g e)
+      (by-cond entries t (liftedAt at l) l (entries l) (entries-liftedAt at l) refl)
+      (by-cond size t (liftedAt at l) l (size l) (length-liftedAt at l) refl)
+      (by-cond asked t (liftedAt at l) l (asked l) (extent-liftedAt at l) refl)
 
   pub proceed-proper : atBreak (l .process .run) ≡ true → Proper (proceeded l)
   unfolding proceeded
   proceed-proper e =
       let at = pc (l .process) in
-      proper-of (proceeded l) (sound-stays .proceed l g e) (entries-liftedAt at l ∙ g .eight) (length-liftedAt at l ∙ four)
+      kept-proper (proceeded l) (sound-stays .proceed l g e) (entries-liftedAt at l) (length-liftedAt at l) (extent-liftedAt at l)
 
-  pub deposit-proper : (at : ℕ) (string : List ℕ) → at + length string ≤ 4096 → Proper (deposited at string l)
+  pub deposit-proper : (at : ℕ) (string : List ℕ) → at + length string ≤ length (l .bytes) → Proper (deposited at string l)
   unfolding deposited sheltered
   deposit-proper at string h =
       let bs = l .process .breaks in
-      let whole = length-seen bs (l .bytes) ∙ four in
+      let whole = length-seen bs (l .bytes) in
       let pasted = length-paste (seen bs (l .bytes)) at string (length string) (omega (arith, whole)) (omega arith) in
-      proper-of (deposited at string l) (sound-stays .deposit at string l g)
-      (length-map bs (savedFrom (toBeSeen at string l)) ∙ g .eight)
+      kept-proper (deposited at string l) (sound-stays .deposit at string l g)
+      (length-map bs (savedFrom (toBeSeen at string l)))
       (length-seen (map (savedFrom (l .bytes)) bs) (toBeSeen at string l) ∙ pasted ∙ whole)
+      refl
 
-  pub break-proper : (a n : ℕ) → (l .process .host ≡ 0 → ⊥) → a % 2 ≡ 0 → a ≤ 4094 → (hasBreak a (l .process) ≡ false → hasRoom (l .process) ≡ true) → Proper (breakSet a n l)
+  pub break-proper : (a n : ℕ) → (l .process .host ≡ 0 → ⊥) → a % 2 ≡ 0 → a + 2 ≤ l .process .size → (hasBreak a (l .process) ≡ false → hasRoom (l .process) ≡ true) → Proper (breakSet a n l)
   unfolding breakSet
   break-proper a n host even within room =
       let k = find (At a) (l .process) in
+      let t = hasBreak a (l .process) in
       let counted = onRecord (withEntry k (withCount n (entry (l .process) k))) l in
       let new = plantedIn (find Free (l .process)) (breakpointAt a n) l in
-      proper-of (breakSet a n l) (sound-stays .break a n l g host even within room)
-      (by-cond entries (hasBreak a (l .process)) counted new 8 (length-entry k _ (l .process) ∙ g .eight) (entries-plantedIn _ (breakpointAt a n) l ∙ g .eight))
-      (by-cond size (hasBreak a (l .process)) counted new 4096 four (length-plantedIn _ (breakpointAt a n) l ∙ four))
+      kept-proper (breakSet a n l) (sound-stays .break a n l g host even within room)
+      (by-cond entries t counted new (entries l) (length-entry k _ (l .process)) (entries-plantedIn _ (breakpointAt a n) l))
+      (by-cond size t counted new (size l) refl (length-plantedIn _ (breakpointAt a n) l))
+      (by-cond asked t counted new (asked l) refl (asked-plantedIn _ (breakpointAt a n) l))
 
   pub unbreak-proper : (a : ℕ) → hasBreak a (l .process) ≡ true → Proper (breakRemoved a l)
-  unfolding breakRemoved
+  unfolding breakRemoved removedFrom
   unbreak-proper a e =
-      proper-of (breakRemoved a l) (sound-stays .unbreak a l g e) (entries-removedFrom _ l ∙ g .eight) (length-removedFrom _ l ∙ four)
+      kept-proper (breakRemoved a l) (sound-stays .unbreak a l g e) (entries-removedFrom _ l) (length-removedFrom _ l) refl
 
   -- a report
   pub report-proper : (kind : ℕ) (words : List ℕ) → accepts kind (l .process .run) ≡ true → Proper (reported kind words l)
   report-proper kind words e =
-      proper-of (reported kind words l) (sound-stays .report kind words l g e) (eight-reported kind words l ∙ g .eight) (length-reported kind words l ∙ four)
+      kept-proper (reported kind words l) (sound-stays .report kind words l g e) (eight-reported kind words l) (length-reported kind words l) (extent-reported kind words l)
 
 -- ---- a new process, and one that is gone
 
@@ -135,9 +152,9 @@ pub create-size : (host : ℕ) → length (created host .bytes) ≡ 4096
 unfolding created
 create-size host = length-replicate {A = ℕ} 4096 0
 
-pub destroy-proper : (l : Local) → Proper l → Proper (local cleared (l .bytes))
+pub destroy-proper : Proper (local cleared [])
 unfolding cleared fresh
-destroy-proper l g = proper-of (local cleared (l .bytes)) (sound-stays .destroy) refl (g .tested .size)
+destroy-proper = proper-of (local cleared []) (sound-stays .destroy) refl refl
 
 -- ---- the record alone
 

@@ -38,14 +38,14 @@ pub record Passing (r : Rule) (h : Header) (string : List ℕ) (p : Process) : T
   pub carried : length string ≤ h .arg2
   pub right : r .right (public p) (h .host) ≡ true
   pub runs : r .runs (p .run) ≡ true
-  pub range : r .range h ≡ true
+  pub range : r .range h p ≡ true
   pub room : r .room (h .arg1) p ≡ true
   pub found : r .found (h .arg1) p ≡ true
 
 -- a rule that asks no more than the right, and shows nothing
 pub record Open (r : Rule) : Type 0 where
   pub runs : (x : Run) → r .runs x ≡ true
-  pub range : (h : Header) → r .range h ≡ true
+  pub range : (h : Header) (p : Process) → r .range h p ≡ true
   pub room : (a : ℕ) (p : Process) → r .room a p ≡ true
   pub found : (a : ℕ) (p : Process) → r .found a p ≡ true
   pub shown : (h : Header) (l : Local) → r .shown h l ≡ []
@@ -164,13 +164,17 @@ by-others cmd e q k asker u = rw (e, q, k)
 held : (u : Public) (asker : ℕ) → eqb (u .host) asker ≡ true → u .host ≡ asker
 held u asker e = eqb-true (u .host) asker e
 
+-- a process that is there has as many bytes as its size says
+whole : (l : Local) → Proper l → l .process .there ≡ true → length (l .bytes) ≡ l .process .size
+whole l g t = rw t at (g .tested .size)
+
 -- ---- the rows
 
 no-row : (cmd : ℕ) → Kept cmd → Row cmd noRule
 no-row cmd kept = quiet-row cmd noRule kept held (λ h s l. refl) (λ h s l n. n) (λ h s l g p. g)
 
 debug-open : Open debugRule
-debug-open = record { runs = λ x. refl; range = λ h. refl; room = λ a p. refl; found = λ a p. refl; shown = λ h l. refl }
+debug-open = record { runs = λ x. refl; range = λ h p. refl; room = λ a p. refl; found = λ a p. refl; shown = λ h l. refl }
 
 alone : (u : Public) (asker : ℕ) → eqb (u .host) 0 || eqb (u .host) asker ≡ true → (u .host ≡ 0) ⊎ (u .host ≡ asker)
 alone u asker = go (eqb (u .host) 0) refl
@@ -195,7 +199,7 @@ debug-row = record {
     begins h e u (inr i) = inl (sym i)
 
 end-debug-open : Open endDebugRule
-end-debug-open = record { runs = λ x. refl; range = λ h. refl; room = λ a p. refl; found = λ a p. refl; shown = λ h l. refl }
+end-debug-open = record { runs = λ x. refl; range = λ h p. refl; room = λ a p. refl; found = λ a p. refl; shown = λ h l. refl }
 
 end-debug-row : Row 2 endDebugRule
 unfolding endDebugged public publicThen
@@ -216,11 +220,11 @@ stop-row =
     (λ h s l n. by-cond count (moving (l .process .run)) _ l 9 (count-replanted l ∙ n) n)
     (λ h s l g p. stop-proper l g)
 
-deposit-row : Row 4 (inRange (upTo 4096) (λ h s. deposited (h .arg1) s))
+deposit-row : Row 4 (inRange (λ h p. upTo (p .size) h) (λ h s. deposited (h .arg1) s))
 unfolding deposited public
 deposit-row =
-    quiet-row 4 (inRange (upTo 4096) (λ h s. deposited (h .arg1) s)) (by-others 4 refl refl refl) held (λ h s l. refl) (λ h s l n. n)
-    (λ h s l g p. deposit-proper l g (h .arg1) s (omega (arith, leb-true (h .arg1 + h .arg2) 4096 (p .range), p .carried)))
+    quiet-row 4 (inRange (λ h p. upTo (p .size) h) (λ h s. deposited (h .arg1) s)) (by-others 4 refl refl refl) held (λ h s l. refl) (λ h s l n. n)
+    (λ h s l g p. deposit-proper l g (h .arg1) s (omega (arith, leb-true (h .arg1 + h .arg2) (l .process .size) (p .range), p .carried, whole l g (p .there))))
 
 resume-row : Row 5 (whileRun stoppedOrAtBreak (λ h s. resumed))
 unfolding public
@@ -229,10 +233,10 @@ resume-row = quiet-row 5 (whileRun stoppedOrAtBreak (λ h s. resumed)) (by-other
 examine-row : Row 6 examineRule
 examine-row = quiet-row 6 examineRule (by-others 6 refl refl refl) held (λ h s l. refl) (λ h s l n. n) (λ h s l g p. g)
 
-vector-row : Row 7 (inRange (upTo 18) (λ h s. vectorDeposited (h .arg1) s))
+vector-row : Row 7 (inRange (λ h p. upTo 18 h) (λ h s. vectorDeposited (h .arg1) s))
 unfolding public vectorAfter vectorOf
 vector-row =
-    quiet-row 7 (inRange (upTo 18) (λ h s. vectorDeposited (h .arg1) s)) (by-others 7 refl refl refl) held (λ h s l. refl) (λ h s l n. refl) (λ h s l g p. vector-proper _ l g)
+    quiet-row 7 (inRange (λ h p. upTo 18 h) (λ h s. vectorDeposited (h .arg1) s)) (by-others 7 refl refl refl) held (λ h s l. refl) (λ h s l n. refl) (λ h s l g p. vector-proper _ l g)
 
 -- where there is none at the address there is room
 room-or : (t u : Bool) → t || u ≡ true → t ≡ false → u ≡ true
@@ -247,7 +251,7 @@ break-row =
     (λ h s l n. by-cond count (hasBreak (h .arg1) (l .process)) _ _ 9 n n)
     (λ h s l g p.
     let even = eqb-true _ _ (&&-left (eqb (h .arg1 % 2) 0) _ (p .range)) in
-    let low = leb-true _ _ (&&-right (eqb (h .arg1 % 2) 0) (leb (h .arg1) 4094) (p .range)) in
+    let low = leb-true _ _ (&&-right (eqb (h .arg1 % 2) 0) (leb (h .arg1 + 2) (l .process .size)) (p .range)) in
     let host : l .process .host ≡ h .host = held (public (l .process)) (h .host) (p .right) in
     break-proper l g (h .arg1) (h .arg2) (λ z. p .asked (sym host ∙ z)) even low
     (room-or (hasBreak (h .arg1) (l .process)) (hasRoom (l .process)) (p .room)))
@@ -273,12 +277,12 @@ proceed-row =
     (λ h s l g p. proceed-proper l g (p .runs))
 
 destroy-open : Open (plain (λ h s. destroyed))
-destroy-open = record { runs = λ x. refl; range = λ h. refl; room = λ a p. refl; found = λ a p. refl; shown = λ h l. refl }
+destroy-open = record { runs = λ x. refl; range = λ h p. refl; room = λ a p. refl; found = λ a p. refl; shown = λ h l. refl }
 
 destroy-row : Row 13 (plain (λ h s. destroyed))
 unfolding publicThen public cleared fresh
 destroy-row = record {
-  keeps = λ h s l g p. destroy-proper l g;
+  keeps = λ h s l g p. destroy-proper;
   words = λ h s l n. refl;
   guarded = λ u asker e. inl (held u asker e);
   discreet = inr destroy-open;

@@ -10,6 +10,7 @@ use Rattle.format.specs.declared.outcome.Outcome.{Outcome}
 use Rattle.format.specs.Outcome.{lengthOf}
 unfoldable pub use Rattle.format.specs.Outcome.{isGranted}
 use Rattle.format.specs.Layout.{headerOf}
+use Rattle.process.specs.Sizes.{memoryBytes}
 use Rattle.rules.specs.Rule.{Public, public, names, creates}
 use Rattle.rules.specs.Tests.{State, recordOf}
 use Rattle.rules.specs.Access.{Asker, nobody, by, insider}
@@ -95,18 +96,19 @@ isOne H (by host) = H host
 
 -- ---- who debugs, as the calls and their answers tell it
 
--- 'from a granted DEBUG .. the asker; from a granted END DEBUG or DESTROY nobody'
+-- 'from a granted DEBUG .. the asker; from a granted END DEBUG or DESTROY nobody'; 'CREATE and a cleared record give 4,096'
 unfoldable pub publicThen : ℕ → ℕ → Public → Public
 publicThen cmd asker u =
-    cond (eqb cmd DEBUG) (record { there = u .there; host = asker })
-    (cond (eqb cmd END-DEBUG) (record { there = u .there; host = 0 }) (cond (eqb cmd DESTROY) (record { there = false; host = 0 }) u))
+    cond (eqb cmd DEBUG) (record { there = u .there; host = asker; size = u .size })
+    (cond (eqb cmd END-DEBUG) (record { there = u .there; host = 0; size = u .size })
+    (cond (eqb cmd DESTROY) (record { there = false; host = 0; size = memoryBytes }) u))
 
 -- 'from a granted .. CREATE the asker', of the process whose number the reply carries; 'Nothing else changes it.'
 unfoldable pub toldOf : (ℕ → Public) → Call → Answer → ℕ → Public
 toldOf d c a p =
     cond (isGranted (a .outcome))
     (cond (names (fieldsOf c .cmd) && eqb p (fieldsOf c .pid)) (publicThen (fieldsOf c .cmd) (fieldsOf c .host) (d p))
-    (cond (creates (fieldsOf c .cmd) && eqb p (getD (a .buffer) 5 0)) (record { there = true; host = fieldsOf c .host }) (d p)))
+    (cond (creates (fieldsOf c .cmd) && eqb p (getD (a .buffer) 5 0)) (record { there = true; host = fieldsOf c .host; size = memoryBytes }) (d p)))
     (d p)
 
 -- the public part of a process in a state

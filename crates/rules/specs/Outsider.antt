@@ -20,6 +20,8 @@ only n k = eqb n k
 pub record Differ (p : ℕ) (s₁ s₂ : State) : Type 0 where
   pub there : recordOf s₁ p .there ≡ recordOf s₂ p .there
   pub host : recordOf s₁ p .host ≡ recordOf s₂ p .host
+  -- 'and on whatever is later called public': its size
+  pub size : recordOf s₁ p .size ≡ recordOf s₂ p .size
   pub others : (q : ℕ) → q < 8 → (q ≡ p → ⊥) → localOf s₁ q ≡ localOf s₂ q
 
 -- 'Who debugs a process: at the start the host in its record'; then by what each call is answered: not this host, at any time

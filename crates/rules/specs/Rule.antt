@@ -10,19 +10,19 @@ use Rattle.run_state.specs.declared.Run.{Run}
 use Rattle.process.specs.declared.record.Process.{Process}
 use Rattle.breakpoints.specs.Entry.{validBreakAddress}
 use Rattle.process.specs.Local.{Local}
-use Rattle.state.specs.Slot.{extent}
 use Rattle.run_state.specs.RunState.{stoppedOrAtBreak, atBreak}
 use Rattle.process.specs.Request.{hasBreak, hasRoom, debugged, endDebugged, stopped, resumed, stepped, proceeded, examined, deposited, vectorDeposited, breakSet, breakRemoved, destroyed}
 use Rattle.ops.specs.Codes.{CREATE}
 
--- all that anyone may know of a process: 'which processes are there, who debugs each'
+-- all that anyone may know of a process: 'which processes are there, who debugs each'; 'Sizes are public'
 pub record Public : Type 0 where
   pub there : Bool
   pub host : ℕ
+  pub size : ℕ
 
 -- of a process
 unfoldable pub public : Process → Public
-public p = record { there = p .there; host = p .host }
+public p = record { there = p .there; host = p .host; size = p .size }
 
 -- each field but the last two is true where a test passes
 pub record Rule : Type 0 where
@@ -30,8 +30,8 @@ pub record Rule : Type 0 where
   pub right : Public → ℕ → Bool
   -- test 9
   pub runs : Run → Bool
-  -- test 10
-  pub range : Header → Bool
+  -- test 10, by the size of the process
+  pub range : Header → Process → Bool
   -- test 11, at the address ARG1
   pub room : ℕ → Process → Bool
   -- test 12, at the address ARG1
@@ -58,7 +58,7 @@ abbrev pub plain : (Header → List ℕ → Local → Local) → Rule
 plain effect = record {
   right = holds;
   runs = λ r. true;
-  range = λ h. true;
+  range = λ h p. true;
   room = λ a p. true;
   found = λ a p. true;
   effect = effect;
@@ -70,7 +70,7 @@ abbrev pub whileRun : (Run → Bool) → (Header → List ℕ → Local → Loca
 whileRun runs effect = record {
   right = holds;
   runs = runs;
-  range = λ h. true;
+  range = λ h p. true;
   room = λ a p. true;
   found = λ a p. true;
   effect = effect;
@@ -78,7 +78,7 @@ whileRun runs effect = record {
 }
 
 -- and a range
-abbrev pub inRange : (Header → Bool) → (Header → List ℕ → Local → Local) → Rule
+abbrev pub inRange : (Header → Process → Bool) → (Header → List ℕ → Local → Local) → Rule
 inRange range effect = record {
   right = holds;
   runs = λ r. true;
@@ -94,7 +94,7 @@ abbrev pub debugRule : Rule
 debugRule = record {
   right = noOther;
   runs = λ r. true;
-  range = λ h. true;
+  range = λ h p. true;
   room = λ a p. true;
   found = λ a p. true;
   effect = λ h s. debugged (h .host);
@@ -110,19 +110,19 @@ abbrev pub examineRule : Rule
 examineRule = record {
   right = holds;
   runs = λ r. true;
-  range = λ h. upTo (extent (h .pid)) h && leb (h .arg2) 256;
+  range = λ h p. upTo (p .size) h && leb (h .arg2) 256;
   room = λ a p. true;
   found = λ a p. true;
   effect = λ h s l. l;
   shown = λ h. examined (h .arg1) (h .arg2);
 }
 
--- 10 fails for 'BREAK address odd or over 4,094'; 11 fails with 'eight breakpoints and a ninth asked'
+-- 10 fails for a BREAK address that is odd or over 'size − 2'; 11 fails with 'eight breakpoints and a ninth asked'
 abbrev pub breakRule : Rule
 breakRule = record {
   right = holds;
   runs = λ r. true;
-  range = λ h. validBreakAddress (h .arg1);
+  range = λ h p. validBreakAddress (p .size) (h .arg1);
   room = λ a p. hasBreak a p || hasRoom p;
   found = λ a p. true;
   effect = λ h s. breakSet (h .arg1) (h .arg2);
@@ -134,7 +134,7 @@ abbrev pub unbreakRule : Rule
 unbreakRule = record {
   right = holds;
   runs = λ r. true;
-  range = λ h. true;
+  range = λ h p. true;
   room = λ a p. true;
   found = hasBreak;
   effect = λ h s. breakRemoved (h .arg1);
@@ -152,10 +152,10 @@ rules =
     ∷ debugRule  -- 1 DEBUG
     ∷ endDebugRule  -- 2 END DEBUG
     ∷ plain (λ h s. stopped)  -- 3 STOP
-    ∷ inRange (λ h. upTo (extent (h .pid)) h) (λ h s. deposited (h .arg1) s)  -- 4 DEPOSIT
+    ∷ inRange (λ h p. upTo (p .size) h) (λ h s. deposited (h .arg1) s)  -- 4 DEPOSIT
     ∷ whileRun stoppedOrAtBreak (λ h s. resumed)  -- 5 RESUME
     ∷ examineRule  -- 6 EXAMINE
-    ∷ inRange (upTo 18) (λ h s. vectorDeposited (h .arg1) s)  -- 7 DEPOSIT STATE VECTOR
+    ∷ inRange (λ h p. upTo 18 h) (λ h s. vectorDeposited (h .arg1) s)  -- 7 DEPOSIT STATE VECTOR
     ∷ breakRule  -- 8 BREAK
     ∷ unbreakRule  -- 9 UNBREAK
     ∷ whileRun stoppedOrAtBreak (λ h s. stepped)  -- 10 SINGLE STEP

@@ -14,7 +14,6 @@ use Rattle.format.specs.Answer.{cantOf, createdOf, noticeOf}
 use Rattle.process.specs.Local.{Local, local}
 use Rattle.process.specs.Request.{created}
 use Rattle.process.specs.Report.{reported, recipientOf}
-use Rattle.state.specs.Slot.{slot}
 use Rattle.rules.specs.Rule.{ruleOf, names, creates}
 use Rattle.state.specs.Records.{lowestAbsent}
 use Rattle.rules.specs.Tests.{State, recordOf, requestNumber, reportNumber}
@@ -81,9 +80,9 @@ reportStep p kind reason words buffer s =
     (notified p kind reason words buffer (localOf s p) (put p (reported kind words (localOf s p)) s))
     (answers (outcome (reportNumber s p kind reason buffer) 0) buffer s)
 
--- a store by the machine: 'one byte into a process's memory'
+-- a store by the machine: 'one byte into a process's memory', within its size
 unfoldable pub stored : ℕ → ℕ → ℕ → State → State
-stored p a v s = cond (ltb p 8) (put p (local (recordOf s p) (set (slot p (s .memory)) a v)) s) s
+stored p a v s = cond (ltb p 8) (put p (local (recordOf s p) (set (localOf s p .bytes) a v)) s) s
 
 -- what stands in a list
 pub data Call : Type 0 where

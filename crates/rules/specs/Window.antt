@@ -2,7 +2,7 @@
 use mathlib.Core.List.{List}
 use Prim.Native.Nat.{ℕ}
 use Rattle.format.specs.declared.outcome.Outcome.{Outcome}
-use Rattle.process.specs.Local.{Local, local}
+use Rattle.process.specs.Local.{Local, local, extent}
 use Rattle.state.specs.Records.{withProcess}
 use Rattle.state.specs.Slot.{slot, withSlot}
 use Rattle.rules.specs.Tests.{State, recordOf}
@@ -19,7 +19,7 @@ pub record StepResult : Type 0 where
 
 -- a process with its bytes
 abbrev pub localOf : State → ℕ → Local
-localOf s p = local (recordOf s p) (slot p (s .memory))
+localOf s p = local (recordOf s p) (slot p (extent (recordOf s p)) (s .memory))
 
 -- the state with another process p
 unfoldable pub put : ℕ → Local → State → State
