@@ -1,19 +1,23 @@
-# make test   the gate: format of the files, every proof, wrong program and program, then a recording and the library from outside
-# make edits  the wrong programs that the gate leaves out; CRATES="process rules" or SINCE=HEAD~3 (the crates changed since then) for some
-# make model  the library against the model; CALLS=2000000 SEED=7 for a longer run
-# make bench  instructions a call, stack and code size of the library, beside the model
-# make fuzz   a coverage-guided fuzzer on library and model; SECONDS=600 for a longer run
-# make run    plays the recording examples/handover.txt: each call, and below it what came of it
+# make test      the gate: format of the files, every proof, wrong program and program, then a recording and the library from outside
+# make edits     the wrong programs that the gate leaves out; CRATES="process rules" or SINCE=HEAD~3 (the crates changed since then) for some
+# make harmless  harmless changes at the places of the wrong programs, each of which has to be proved; CRATES and SINCE as for `make edits`
+# make model     the library against the model; CALLS=2000000 SEED=7 for a longer run
+# make bench     instructions a call, stack and code size of the library, beside the model
+# make fuzz      a coverage-guided fuzzer on library and model; SECONDS=600 for a longer run
+# make run       plays the recording examples/handover.txt: each call, and below it what came of it
 
 SECONDS = 60
 
-.PHONY: test edits run model bench fuzz library
+.PHONY: test edits harmless run model bench fuzz library
 
 test:
 	@sh checks/gate
 
 edits:
 	@SINCE="$(SINCE)" sh checks/edits $(CRATES)
+
+harmless:
+	@SINCE="$(SINCE)" sh checks/harmless $(CRATES)
 
 CALLS = 200000
 SEED = 1

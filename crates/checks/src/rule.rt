@@ -19,6 +19,7 @@ use process::VECTOR_BYTES;
 use run_state::Run;
 ghost use mathlib.Core.Path.{_≡_};
 ghost use mathlib.Core.Bool.{_&&_};
+ghost use Prim.Native.Nat.{_+_};
 ghost use lib.Dec.{leb};
 ghost use Rattle.rules.specs.Rule.{public, ruleOf};
 ghost use Rattle.checks.specs.Decision.{entryDecision, ruleDecision};
@@ -52,6 +53,13 @@ fn runs(cmd: u8, run: Run) -> bool
     true
 }
 
+// The address after so many bytes from this one on.
+fn end_of(at: u16, count: u16) -> usize
+    ensures { λ r. ⌜ r ≡ at + count ⌝ }
+{
+    at as usize + count as usize
+}
+
 // Whether so many bytes from this address on may be examined.
 fn readable(end: usize, count: u16) -> bool
     ensures { λ r. ⌜ r ≡ leb end memoryBytes && leb count stringBytes ⌝ }
@@ -65,7 +73,7 @@ fn range(h: Header) -> bool
 {
     let arg1 = h.arg1;
     let arg2 = h.arg2;
-    let end = arg1 as usize + arg2 as usize;
+    let end = end_of(arg1, arg2);
     if h.cmd == DEPOSIT {
         return end <= MEMORY_BYTES;
     }

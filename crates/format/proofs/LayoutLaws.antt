@@ -76,3 +76,13 @@ written-headerOf m bytes long e =
 pub length-stringOf : (m : List ℕ) → 10 ≤ length m → 10 + length (stringOf m) ≡ length m
 unfolding stringOf
 length-stringOf m long = simp length-drop (omega arith)
+
+made : ℕ → ℕ → ℕ → ℕ → ℕ → Header
+made host cmd pid arg1 arg2 = record { host = host; cmd = cmd; pid = pid; arg1 = arg1; arg2 = arg2 }
+
+-- headers with the same fields are the same
+pub same-fields : {h g : Header} → h .host ≡ g .host → h .cmd ≡ g .cmd → h .pid ≡ g .pid → h .arg1 ≡ g .arg1 → h .arg2 ≡ g .arg2 → h ≡ g
+unfolding made
+same-fields {h} {g} host cmd pid arg1 arg2 =
+    let same : made (h .host) (h .cmd) (h .pid) (h .arg1) (h .arg2) ≡ made (g .host) (g .cmd) (g .pid) (g .arg1) (g .arg2) = cc in
+    same

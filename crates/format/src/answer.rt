@@ -10,13 +10,14 @@ impl Header {
     pub fn cant(self) -> Header
         ensures { λ r. ⌜ r ≡ cantOf self ⌝ }
     {
+        let cmd = if self.cmd < CANT {
+            self.cmd + CANT
+        } else {
+            255
+        };
         Header {
             host: self.host,
-            cmd: if self.cmd < CANT {
-                self.cmd + CANT
-            } else {
-                255
-            },
+            cmd: cmd,
             pid: self.pid,
             arg1: self.arg1,
             arg2: self.arg2,
@@ -40,9 +41,10 @@ impl Header {
     pub fn notice(host: u8, kind: u8, pid: u8, reason: u16) -> Header
         ensures { λ r. ⌜ r ≡ noticeOf host kind pid reason ⌝ }
     {
+        let cmd = if kind < 4 { kind + NOTICE } else { 255 };
         Header {
             host: host,
-            cmd: if kind < 4 { kind + NOTICE } else { 255 },
+            cmd: cmd,
             pid: pid,
             arg1: reason,
             arg2: 0,

@@ -33,7 +33,9 @@ pub fn write_contents(answer: Header, buffer: &mut [u8]) -> Outcome
     ensures { λ r. ⌜ wrote r (now (buffer .exit)) ≡ sendsHead answer (answer .arg2) (now (buffer .entry)) ⌝ }
 {
     answer.put(buffer);
-    Outcome::Granted(HEADER_BYTES + answer.arg2 as usize)
+    let carried = answer.arg2 as usize;
+    let length = HEADER_BYTES + carried;
+    Outcome::Granted(length)
 }
 
 // Writes the notice to a host that a process has stopped: kind 0 TRAP, 1 HALT, 2 BPT, 3 TTRAP.

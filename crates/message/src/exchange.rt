@@ -40,7 +40,8 @@ pub(crate) fn write(found: Found, h: Header, string: &[u8], buffer: &mut [u8]) -
     }
     h.put(buffer);
     put_string(string, buffer);
-    Outcome::Granted(HEADER_BYTES + string.len())
+    let length = HEADER_BYTES + string.len();
+    Outcome::Granted(length)
 }
 
 // The fields of a message of ten bytes or more, or the number of the first test that fails.

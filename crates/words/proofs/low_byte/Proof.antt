@@ -1,5 +1,5 @@
 -- `words::low_byte` meets its contract. Assumes nothing.
-use mathlib.Core.Path.{refl}
+use native.Mathlib.Omega.{arith}
 use borrow.Author.Needs.{needs}
 use Rattle.words.proofs.low_byte.Statement.{statement}
 use Rattle.words.proofs.low_byte.Tie as tie
@@ -8,7 +8,7 @@ cast-result : tie.Need-cast-result
 cast-result c = search needs
 
 returns : tie.Need-returns
-returns c = refl
+returns c = omega arith
 
 pub low-byte-spec : {M : Type 1} → statement M
 low-byte-spec = tie.close (tie.spec cast-result returns)

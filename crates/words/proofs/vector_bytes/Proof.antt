@@ -1,11 +1,12 @@
 -- `words::vector_bytes` meets its contract. The loop's invariant: the bytes of the words passed lie over the array's start. Assumes nothing.
 use mathlib.Core.Path.{_≡_, refl, ap, _∙_}
-use Prim.Native.Nat.{ℕ, _≤_, _-_, _*_}
+use mathlib.Core.List.{List}
+use Prim.Native.Nat.{ℕ, _+_, _≤_, _<_, _-_, _*_}
 use native.Mathlib.Omega.{arith}
 use borrow.Author.Needs.{needs}
-use lib.ListN.{length, take, replicate}
+use lib.ListN.{length, take, getD, set, replicate}
 use lib.Seq.{take-all}
-use Rattle.lists.specs.Word.{lowFirst}
+use Rattle.lists.specs.Word.{high, low, lowFirst}
 use Rattle.lists.specs.Buffer.{overlay}
 use Rattle.lists.proofs.Word.{lowFirst-step, length-lowFirst}
 use Rattle.lists.proofs.Buffer.{overlay-all}
@@ -56,6 +57,11 @@ add-i c = omega arith
 loop-less : tie.Need-loop-less Inv-loop μ-loop
 loop-less c = omega arith
 
+-- a turn of the loop, by where the two bytes go
+step-at : (ws buffer : List ℕ) (i : ℕ) {x y : ℕ} → x ≡ 2 * i → y ≡ 2 * i + 1 → i < length ws → 2 * length ws ≤ length buffer
+    → set (set (overlay (lowFirst (take i ws)) buffer) x (low (getD ws i 0))) y (high (getD ws i 0)) ≡ overlay (lowFirst (take (i + 1) ws)) buffer
+step-at ws buffer i at next h room = rw (at, next) (lowFirst-step ws buffer i h room)
+
 loop-again : tie.Need-loop-again Inv-loop μ-loop
 loop-again c =
     let l = c .before .before .before in
@@ -64,7 +70,7 @@ loop-again c =
       l .loop .inv .1,
       refl,
       rw (l .loop .inv .3, c .before .low-byte .ensures, c .high-byte .ensures)
-          (lowFirst-step v (replicate 18 0) (l .loop .i) (omega arith) (omega arith)),
+          (step-at v (replicate 18 0) (l .loop .i) (omega arith) (omega arith) (omega arith) (omega arith)),
     )
 
 returns : tie.Need-returns Inv-loop μ-loop

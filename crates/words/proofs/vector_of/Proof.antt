@@ -1,5 +1,6 @@
 -- `words::vector_of` meets its contract. The loop's invariant: the words made so far lie over the array's start. Assumes nothing.
 use mathlib.Core.Path.{_≡_, refl}
+use mathlib.Core.List.{List}
 use Prim.Native.Nat.{ℕ, _+_, _*_, _≤_, _-_}
 use native.Mathlib.Omega.{arith}
 use borrow.Author.Needs.{needs}
@@ -53,13 +54,18 @@ add-i c = omega arith
 loop-less : tie.Need-loop-less Inv-loop μ-loop
 loop-less c = omega arith
 
+-- the word of two bytes, by where they stand
+word-at : (bytes : List ℕ) (i : ℕ) {x y w : ℕ} → w ≡ word (getD bytes x 0) (getD bytes y 0) → x ≡ 2 * i + 1 → y ≡ 2 * i
+    → w ≡ word (getD bytes (2 * i + 1) 0) (getD bytes (2 * i) 0)
+word-at bytes i made h l = rw (← h, ← l) made
+
 loop-again : tie.Need-loop-again Inv-loop μ-loop
 loop-again c =
     let l = c .before .before in
     let b = l .before .args .t1 in (
       omega arith,
       l .loop .inv .1,
-      rw (l .loop .inv .2, c .word-of .ensures)
+      rw (l .loop .inv .2, word-at b (l .loop .i) (c .word-of .ensures) (omega arith) (omega arith))
           (elements-step (λ (k : ℕ). word (getD b (2 * k + 1) 0) (getD b (2 * k) 0)) (replicate 9 0) (l .loop .i) (omega arith)),
     )
 

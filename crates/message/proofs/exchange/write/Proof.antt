@@ -4,6 +4,7 @@ use Prim.Native.Nat.{_≤_}
 use native.Mathlib.Omega.{arith}
 use borrow.Author.Needs.{needs}
 use lib.ListN.{length}
+use Rattle.format.specs.declared.outcome.Outcome.the-variants.{Granted}
 use Rattle.format.specs.Layout.{header, written}
 use Rattle.lists.proofs.Buffer.{length-overlay, paste-overlay}
 use Rattle.message.proofs.ExchangeLaws.{writeNumber-room, answered-refused, answered-granted}
@@ -42,8 +43,8 @@ put-string-requires c κs =
     let same = ap length (p .put .ensures) ∙ length-overlay (header (a .h)) (a .buffer .now) room in
     omega (arith, same, r .buffer-long, r .string-short)
 
-add-t15 : tie.Need-add-t15
-add-t15 c = search needs
+add-length : tie.Need-add-length
+add-length c = search needs
 
 same-length-2 : tie.Need-same-length-2
 same-length-2 c = search needs
@@ -57,7 +58,8 @@ returns-2 c =
     let w = e .before in
     let a = w .before .before .before .before .args in
     rw (s .put-string .ensures, p .put .ensures, paste-overlay (header (a .h)) (a .string .now) (a .buffer .now), ← w .write-number .ensures)
-    (answered-granted (w .write-number .result) (length (a .string .now)) (written (a .h) (a .string .now)) (a .buffer .now) (e .if1 .left))
+    (let g = answered-granted (w .write-number .result) (length (a .string .now)) (written (a .h) (a .string .now)) (a .buffer .now) (e .if1 .left) in
+    (ap Granted (omega arith) ∙ g .0, g .1))
 
 pub write-spec : {M : Type 1} → statement M
 write-spec =
@@ -68,6 +70,6 @@ write-spec =
     returns
     put-requires
     put-string-requires
-    add-t15
+    add-length
     same-length-2
     returns-2)

@@ -1,5 +1,6 @@
 -- `ops::table::cant_form` meets its contract: the request's form without its string, and none for NOP. Assumes nothing.
 use mathlib.Core.Path.{_≡_}
+use native.Mathlib.Omega.{arith}
 use borrow.Author.Needs.{needs}
 use borrow.Author.Tests.{eq-eqb, ne-eqb}
 use Rattle.ops.specs.Table.{cantForm}
@@ -8,7 +9,7 @@ use Rattle.ops.proofs.table.cant_form.Tie as tie
 
 returns : tie.Need-returns
 unfolding cantForm
-returns c = let nop : c .before .args .cmd ≡ 0 = c .if1 .taken in rw (eq-eqb _ _ nop)
+returns c = let nop : c .before .args .cmd ≡ 0 = omega arith in rw (eq-eqb _ _ nop)
 
 request-form-requires : tie.Need-request-form-requires
 request-form-requires c κs = search needs
@@ -27,13 +28,13 @@ unfolding cantForm
 returns-2 c =
     let f = c .before .before in
     let r = f .before .before in
-    rw (ne-eqb _ _ (r .before .if1 .left), ← r .request-form .ensures, f .found .given .1, c .without-string .ensures)
+    rw (ne-eqb (r .before .before .args .cmd) 0 (λ nop. omega arith), ← r .request-form .ensures, f .found .given .1, c .without-string .ensures)
 
 returns-3 : tie.Need-returns-3
 unfolding cantForm
 returns-3 c =
     let r = c .before .before in
-    rw (ne-eqb _ _ (r .before .if1 .left), ← r .request-form .ensures, c .enum-told .given .1)
+    rw (ne-eqb (r .before .before .args .cmd) 0 (λ nop. omega arith), ← r .request-form .ensures, c .enum-told .given .1)
 
 pub cant-form-spec : {M : Type 1} → statement M
 cant-form-spec =

@@ -1,5 +1,6 @@
 -- `run_state::Run::accepts` meets its contract, by the kinds. Assumes nothing.
 use mathlib.Core.Path.{_≡_}
+use native.Mathlib.Omega.{arith}
 use borrow.Author.Tests.{eq-eqb, ne-eqb}
 use borrow.Author.Needs.{needs}
 use Rattle.run_state.specs.RunState.{accepts}
@@ -14,11 +15,11 @@ moving-requires c κs = search needs
 
 returns : tie.Need-returns
 unfolding accepts
-returns c = let ttrap : c .before .before .args .kind ≡ 3 = c .before .if1 .taken in rw (eq-eqb _ _ ttrap) (c .stepping .ensures)
+returns c = let ttrap : c .before .before .args .kind ≡ 3 = omega arith in rw (eq-eqb _ _ ttrap) (c .stepping .ensures)
 
 returns-2 : tie.Need-returns-2
 unfolding accepts
-returns-2 c = let other : c .before .before .args .kind ≡ 3 → ⊥ = c .before .if1 .left in rw (ne-eqb _ _ other) (c .moving .ensures)
+returns-2 c = let other : c .before .before .args .kind ≡ 3 → ⊥ = λ ttrap. omega arith in rw (ne-eqb _ _ other) (c .moving .ensures)
 
 pub accepts-spec : {M : Type 1} → statement M
 accepts-spec = tie.close (tie.spec stepping-requires moving-requires returns returns-2)

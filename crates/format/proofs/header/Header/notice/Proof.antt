@@ -1,20 +1,23 @@
 -- `format::header::Header::notice` meets its contract, by the two cases of the sum. Assumes nothing.
+use mathlib.Core.Path.{refl}
+use native.Mathlib.Omega.{arith}
 use borrow.Author.Tests.{lt-ltb, le-ltb}
 use borrow.Author.Needs.{needs}
 use Rattle.format.specs.Answer.{noticeOf}
+use Rattle.format.proofs.LayoutLaws.{same-fields}
 use Rattle.format.proofs.header.Header.notice.Statement.{statement}
 use Rattle.format.proofs.header.Header.notice.Tie as tie
 
-add-t9 : tie.Need-add-t9
-add-t9 c = search needs
+add-cmd : tie.Need-add-cmd
+add-cmd c = search needs
 
 returns : tie.Need-returns
 unfolding noticeOf
-returns c = rw (lt-ltb _ _ (c .if1 .taken))
+returns c = same-fields refl (rw (lt-ltb _ _ (c .if1 .taken)) (omega arith)) refl refl refl
 
 returns-2 : tie.Need-returns-2
 unfolding noticeOf
 returns-2 c = rw (le-ltb _ _ (c .if1 .left))
 
 pub notice-spec : {M : Type 1} → statement M
-notice-spec = tie.close (tie.spec add-t9 returns returns-2)
+notice-spec = tie.close (tie.spec add-cmd returns returns-2)

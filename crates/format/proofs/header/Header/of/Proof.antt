@@ -1,6 +1,9 @@
 -- `format::header::Header::of` meets its contract: the words are those of their two bytes. Assumes nothing.
+use mathlib.Core.Path.{refl}
+use native.Mathlib.Omega.{arith}
 use borrow.Author.Needs.{needs}
 use Rattle.format.specs.Layout.{headerOf}
+use Rattle.format.proofs.LayoutLaws.{same-fields}
 use Rattle.format.proofs.header.Header.of.Statement.{statement}
 use Rattle.format.proofs.header.Header.of.Tie as tie
 
@@ -33,7 +36,8 @@ word-of-requires-2 c κs = search needs
 
 returns : tie.Need-returns
 unfolding headerOf
-returns c = rw (c .word-of2 .ensures, c .before .before .before .word-of .ensures)
+returns c =
+    same-fields refl refl refl (omega (arith, c .before .before .before .word-of .ensures)) (omega (arith, c .word-of2 .ensures))
 
 pub of-spec : {M : Type 1} → statement M
 of-spec =
