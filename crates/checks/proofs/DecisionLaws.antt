@@ -3,7 +3,7 @@ use mathlib.Core.Path.{_≡_, refl, sym, subst}
 use mathlib.Core.Bool.{Bool, true, false}
 use Prim.Native.Nat.{ℕ, zero, suc}
 use native.Mathlib.Omega.{arith}
-use borrow.Author.Tests.{ltb-false}
+use borrow.Author.Tests.{ltb-false, not-false}
 use lib.ListN.{List·getD-eq-default}
 use lib.Dec.{ltb}
 use Rattle.format.specs.declared.header.Header.{Header}
@@ -11,7 +11,7 @@ use Rattle.ops.specs.declared.table.Found.{Found}
 use Rattle.ops.specs.declared.table.Found.the-variants.{Known, Unknown}
 use Rattle.format.specs.Outcome.{firstFailing}
 use Rattle.ops.specs.Table.{bare, row, ops, rowOf, requestForm}
-use Rattle.format.proofs.OutcomeLaws.{rest-passes}
+use Rattle.format.proofs.OutcomeLaws.{first-passes, rest-passes}
 use Rattle.process.specs.declared.record.Process.{Process}
 use Rattle.rules.specs.Rule.{ruleOf, names}
 use Rattle.rules.specs.Tests.{ruleTests}
@@ -47,6 +47,7 @@ by-number F (suc n) k f g = g (λ e. omega (arith, e))
 
 pub record Changes (h : Header) (p : Process) (k : ℕ) : Type 0 where
   pub passed : firstFailing (processTests h p) ≡ 0
+  pub there : p .there ≡ true
   pub rule : firstFailing (ruleTests (ruleOf (h .cmd)) h p) ≡ 0
   pub entry : k ≡ entryOf (h .cmd) (h .arg1) p
 
@@ -58,7 +59,7 @@ decision-says : (h : Header) (p : Process) → Says h p (decisionOf h p)
 unfolding decisionOf
 decision-says h p =
     by-number (Says h p) (firstFailing (processTests h p)) (entryOf (h .cmd) (h .arg1) p)
-    (λ e. record { passed = e; rule = rest-passes 6 _ _ e; entry = refl })
+    (λ e. record { passed = e; there = not-false _ (first-passes 6 _ _ e); rule = rest-passes 6 _ _ e; entry = refl })
     (λ z. (refl, z))
 
 -- a decision says what it says of the request that it came from

@@ -25,10 +25,10 @@ acts cmd =
 pub record Coded (cmd : ℕ) (r : Rule) : Type 0 where
   pub right : (u : Public) (asker : ℕ) → r .right u asker ≡ cond (eqb cmd 1) (eqb (u .host) 0 || eqb (u .host) asker) (eqb (u .host) asker)
   pub runs : (x : Run) → r .runs x ≡ cond (eqb cmd 5) (stoppedOrAtBreak x) (cond (eqb cmd 10) (stoppedOrAtBreak x) (cond (eqb cmd 11) (atBreak x) true))
-  pub range : (h : Header) → r .range h
-      ≡ cond (eqb cmd 4) (leb (h .arg1 + h .arg2) 4096)
-      (cond (eqb cmd 6) (leb (h .arg1 + h .arg2) 4096 && leb (h .arg2) 256)
-      (cond (eqb cmd 7) (leb (h .arg1 + h .arg2) 18) (cond (eqb cmd 8) (validBreakAddress (h .arg1)) true)))
+  pub range : (h : Header) (size : ℕ) → r .range h size
+      ≡ cond (eqb cmd 4) (leb (h .arg1 + h .arg2) size)
+      (cond (eqb cmd 6) (leb (h .arg1 + h .arg2) size && leb (h .arg2) 256)
+      (cond (eqb cmd 7) (leb (h .arg1 + h .arg2) 18) (cond (eqb cmd 8) (validBreakAddress size (h .arg1)) true)))
   pub room : (a : ℕ) (p : Process) → r .room a p ≡ cond (eqb cmd 8) (hasBreak a p || hasRoom p) true
   pub found : (a : ℕ) (p : Process) → r .found a p ≡ cond (eqb cmd 9) (hasBreak a p) true
   pub shown : (h : Header) (l : Local) → r .shown h l ≡ cond (eqb cmd 6) (examined (h .arg1) (h .arg2) l) []
@@ -47,7 +47,7 @@ past : (n : ℕ) → 14 ≤ n → Coded n noRule
 past n h = record {
   right = λ u asker. rw (other 1 (omega arith));
   runs = λ x. rw (other 5 (omega arith), other 10 (omega arith), other 11 (omega arith));
-  range = λ k. rw (other 4 (omega arith), other 6 (omega arith), other 7 (omega arith), other 8 (omega arith));
+  range = λ k size. rw (other 4 (omega arith), other 6 (omega arith), other 7 (omega arith), other 8 (omega arith));
   room = λ a p. rw (other 8 (omega arith));
   found = λ a p. rw (other 9 (omega arith));
   shown = λ k l. rw (other 6 (omega arith));
@@ -62,5 +62,5 @@ pub coded : (cmd : ℕ) → Coded cmd (ruleOf cmd)
 unfolding ruleOf
 coded cmd =
     each-at 0 rules
-    (record { right = λ u asker. refl; runs = λ x. refl; range = λ h. refl; room = λ a p. refl; found = λ a p. refl; shown = λ h l. refl; idle = λ e h s l. refl }, (record { right = λ u asker. refl; runs = λ x. refl; range = λ h. refl; room = λ a p. refl; found = λ a p. refl; shown = λ h l. refl; idle = λ e. absurd (true≢false e) }, (record { right = λ u asker. refl; runs = λ x. refl; range = λ h. refl; room = λ a p. refl; found = λ a p. refl; shown = λ h l. refl; idle = λ e. absurd (true≢false e) }, (record { right = λ u asker. refl; runs = λ x. refl; range = λ h. refl; room = λ a p. refl; found = λ a p. refl; shown = λ h l. refl; idle = λ e. absurd (true≢false e) }, (record { right = λ u asker. refl; runs = λ x. refl; range = λ h. refl; room = λ a p. refl; found = λ a p. refl; shown = λ h l. refl; idle = λ e. absurd (true≢false e) }, (record { right = λ u asker. refl; runs = λ x. refl; range = λ h. refl; room = λ a p. refl; found = λ a p. refl; shown = λ h l. refl; idle = λ e. absurd (true≢false e) }, (record { right = λ u asker. refl; runs = λ x. refl; range = λ h. refl; room = λ a p. refl; found = λ a p. refl; shown = λ h l. refl; idle = λ e h s l. refl }, (record { right = λ u asker. refl; runs = λ x. refl; range = λ h. refl; room = λ a p. refl; found = λ a p. refl; shown = λ h l. refl; idle = λ e. absurd (true≢false e) }, (record { right = λ u asker. refl; runs = λ x. refl; range = λ h. refl; room = λ a p. refl; found = λ a p. refl; shown = λ h l. refl; idle = λ e. absurd (true≢false e) }, (record { right = λ u asker. refl; runs = λ x. refl; range = λ h. refl; room = λ a p. refl; found = λ a p. refl; shown = λ h l. refl; idle = λ e. absurd (true≢false e) }, (record { right = λ u asker. refl; runs = λ x. refl; range = λ h. refl; room = λ a p. refl; found = λ a p. refl; shown = λ h l. refl; idle = λ e. absurd (true≢false e) }, (record { right = λ u asker. refl; runs = λ x. refl; range = λ h. refl; room = λ a p. refl; found = λ a p. refl; shown = λ h l. refl; idle = λ e. absurd (true≢false e) }, (record { right = λ u asker. refl; runs = λ x. refl; range = λ h. refl; room = λ a p. refl; found = λ a p. refl; shown = λ h l. refl; idle = λ e h s l. refl }, (record { right = λ u asker. refl; runs = λ x. refl; range = λ h. refl; room = λ a p. refl; found = λ a p. refl; shown = λ h l. refl; idle = λ e. absurd (true≢false e) }, past))))))))))))))
+    (record { right = λ u asker. refl; runs = λ x. refl; range = λ h size. refl; room = λ a p. refl; found = λ a p. refl; shown = λ h l. refl; idle = λ e h s l. refl }, (record { right = λ u asker. refl; runs = λ x. refl; range = λ h size. refl; room = λ a p. refl; found = λ a p. refl; shown = λ h l. refl; idle = λ e. absurd (true≢false e) }, (record { right = λ u asker. refl; runs = λ x. refl; range = λ h size. refl; room = λ a p. refl; found = λ a p. refl; shown = λ h l. refl; idle = λ e. absurd (true≢false e) }, (record { right = λ u asker. refl; runs = λ x. refl; range = λ h size. refl; room = λ a p. refl; found = λ a p. refl; shown = λ h l. refl; idle = λ e. absurd (true≢false e) }, (record { right = λ u asker. refl; runs = λ x. refl; range = λ h size. refl; room = λ a p. refl; found = λ a p. refl; shown = λ h l. refl; idle = λ e. absurd (true≢false e) }, (record { right = λ u asker. refl; runs = λ x. refl; range = λ h size. refl; room = λ a p. refl; found = λ a p. refl; shown = λ h l. refl; idle = λ e. absurd (true≢false e) }, (record { right = λ u asker. refl; runs = λ x. refl; range = λ h size. refl; room = λ a p. refl; found = λ a p. refl; shown = λ h l. refl; idle = λ e h s l. refl }, (record { right = λ u asker. refl; runs = λ x. refl; range = λ h size. refl; room = λ a p. refl; found = λ a p. refl; shown = λ h l. refl; idle = λ e. absurd (true≢false e) }, (record { right = λ u asker. refl; runs = λ x. refl; range = λ h size. refl; room = λ a p. refl; found = λ a p. refl; shown = λ h l. refl; idle = λ e. absurd (true≢false e) }, (record { right = λ u asker. refl; runs = λ x. refl; range = λ h size. refl; room = λ a p. refl; found = λ a p. refl; shown = λ h l. refl; idle = λ e. absurd (true≢false e) }, (record { right = λ u asker. refl; runs = λ x. refl; range = λ h size. refl; room = λ a p. refl; found = λ a p. refl; shown = λ h l. refl; idle = λ e. absurd (true≢false e) }, (record { right = λ u asker. refl; runs = λ x. refl; range = λ h size. refl; room = λ a p. refl; found = λ a p. refl; shown = λ h l. refl; idle = λ e. absurd (true≢false e) }, (record { right = λ u asker. refl; runs = λ x. refl; range = λ h size. refl; room = λ a p. refl; found = λ a p. refl; shown = λ h l. refl; idle = λ e h s l. refl }, (record { right = λ u asker. refl; runs = λ x. refl; range = λ h size. refl; room = λ a p. refl; found = λ a p. refl; shown = λ h l. refl; idle = λ e. absurd (true≢false e) }, past))))))))))))))
     cmd cmd (omega arith)

@@ -13,7 +13,6 @@ use ops::RESUME;
 use ops::SINGLE_STEP;
 use ops::UNBREAK;
 use process::FoundEntry;
-use process::MEMORY_BYTES;
 use process::Process;
 use process::VECTOR_BYTES;
 use run_state::Run;
@@ -24,7 +23,6 @@ ghost use lib.Dec.{leb};
 ghost use Rattle.rules.specs.Rule.{public, ruleOf};
 ghost use Rattle.checks.specs.Decision.{entryDecision, ruleDecision};
 ghost use Rattle.ops.specs.Codes.{BREAK, UNBREAK};
-ghost use Rattle.process.specs.Sizes.{memoryBytes};
 ghost use Rattle.format.specs.Sizes.{stringBytes};
 
 // 8: the asker debugs the process; for DEBUG, no other host does.
@@ -60,31 +58,31 @@ fn end_of(at: u16, count: u16) -> usize
     at as usize + count as usize
 }
 
-// Whether so many bytes from this address on may be examined.
-fn readable(end: usize, count: u16) -> bool
-    ensures { λ r. ⌜ r ≡ leb end memoryBytes && leb count stringBytes ⌝ }
+// Whether so many bytes up to this end may be examined, in a process of this size.
+fn readable(end: usize, count: u16, size: u16) -> bool
+    ensures { λ r. ⌜ r ≡ leb end size && leb count stringBytes ⌝ }
 {
-    end <= MEMORY_BYTES && count <= 256
+    end <= size as usize && count <= 256
 }
 
-// 10: what is asked for lies inside memory or vector.
-fn range(h: Header) -> bool
-    ensures { λ r. ⌜ r ≡ ruleOf (h .cmd) .range h ⌝ }
+// 10: what is asked for lies inside the process, which has this size, or inside its vector.
+fn range(h: Header, size: u16) -> bool
+    ensures { λ r. ⌜ r ≡ ruleOf (h .cmd) .range h size ⌝ }
 {
     let arg1 = h.arg1;
     let arg2 = h.arg2;
     let end = end_of(arg1, arg2);
     if h.cmd == DEPOSIT {
-        return end <= MEMORY_BYTES;
+        return end <= size as usize;
     }
     if h.cmd == EXAMINE {
-        return readable(end, arg2);
+        return readable(end, arg2, size);
     }
     if h.cmd == DEPOSIT_VECTOR {
         return end <= VECTOR_BYTES;
     }
     if h.cmd == BREAK {
-        return valid_break_address(arg1);
+        return valid_break_address(size, arg1);
     }
     true
 }
@@ -138,7 +136,7 @@ pub(crate) fn rule_decision(h: Header, process: Process) -> Decision
     if !runs(cmd, run) {
         return Decision::Refuse(9);
     }
-    if !range(h) {
+    if !range(h, process.size) {
         return Decision::Refuse(10);
     }
     entry_decision(cmd, arg1, process)

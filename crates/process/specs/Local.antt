@@ -27,6 +27,11 @@ pub record Tested (p : Process) (bytes : List ℕ) : Type 0 where
   pub sound : soundTest p ≡ true
   pub size : length bytes ≡ extent p
 
+-- and of one that is there: it passed test 7 as well
+pub record Present (p : Process) (bytes : List ℕ) : Type 0 where
+  pub tested : Tested p bytes
+  pub there : p .there ≡ true
+
 -- the word of every breakpoint is within the process's bytes
 abbrev pub Inside : Process → List ℕ → Type 0
 Inside p bytes = (k : ℕ) → k < entryCount → entry p k .used ≡ true → entry p k .address + 1 < length bytes

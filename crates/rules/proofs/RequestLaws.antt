@@ -54,7 +54,7 @@ module _ (cmd : ℕ) (r : Rule) (row : Row cmd r) (h : Header) (string : List �
 
   open-none : Open r → (l : Local) → firstFailing (ruleAccess r h string .inner l) ≡ 0
   unfolding ruleAccess firstFailing
-  open-none o l = rw (o .runs (l .process .run), o .range h (l .process), o .room (h .arg1) (l .process), o .found (h .arg1) (l .process))
+  open-none o l = rw (o .runs (l .process .run), o .range h (l .process .size), o .room (h .arg1) (l .process), o .found (h .arg1) (l .process))
 
   rule-guarded : (u : Public) → firstFailing (ruleAccess r h string .outer u) ≡ 0 → May (by (h .host)) u (ruleAccess r h string) (publicThen cmd (h .host))
   unfolding ruleAccess May

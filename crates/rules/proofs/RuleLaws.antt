@@ -38,14 +38,14 @@ pub record Passing (r : Rule) (h : Header) (string : List ℕ) (p : Process) : T
   pub carried : length string ≤ h .arg2
   pub right : r .right (public p) (h .host) ≡ true
   pub runs : r .runs (p .run) ≡ true
-  pub range : r .range h p ≡ true
+  pub range : r .range h (p .size) ≡ true
   pub room : r .room (h .arg1) p ≡ true
   pub found : r .found (h .arg1) p ≡ true
 
 -- a rule that asks no more than the right, and shows nothing
 pub record Open (r : Rule) : Type 0 where
   pub runs : (x : Run) → r .runs x ≡ true
-  pub range : (h : Header) (p : Process) → r .range h p ≡ true
+  pub range : (h : Header) (size : ℕ) → r .range h size ≡ true
   pub room : (a : ℕ) (p : Process) → r .room a p ≡ true
   pub found : (a : ℕ) (p : Process) → r .found a p ≡ true
   pub shown : (h : Header) (l : Local) → r .shown h l ≡ []
@@ -174,7 +174,7 @@ no-row : (cmd : ℕ) → Kept cmd → Row cmd noRule
 no-row cmd kept = quiet-row cmd noRule kept held (λ h s l. refl) (λ h s l n. n) (λ h s l g p. g)
 
 debug-open : Open debugRule
-debug-open = record { runs = λ x. refl; range = λ h p. refl; room = λ a p. refl; found = λ a p. refl; shown = λ h l. refl }
+debug-open = record { runs = λ x. refl; range = λ h size. refl; room = λ a p. refl; found = λ a p. refl; shown = λ h l. refl }
 
 alone : (u : Public) (asker : ℕ) → eqb (u .host) 0 || eqb (u .host) asker ≡ true → (u .host ≡ 0) ⊎ (u .host ≡ asker)
 alone u asker = go (eqb (u .host) 0) refl
@@ -199,7 +199,7 @@ debug-row = record {
     begins h e u (inr i) = inl (sym i)
 
 end-debug-open : Open endDebugRule
-end-debug-open = record { runs = λ x. refl; range = λ h p. refl; room = λ a p. refl; found = λ a p. refl; shown = λ h l. refl }
+end-debug-open = record { runs = λ x. refl; range = λ h size. refl; room = λ a p. refl; found = λ a p. refl; shown = λ h l. refl }
 
 end-debug-row : Row 2 endDebugRule
 unfolding endDebugged public publicThen
@@ -220,10 +220,10 @@ stop-row =
     (λ h s l n. by-cond count (moving (l .process .run)) _ l 9 (count-replanted l ∙ n) n)
     (λ h s l g p. stop-proper l g)
 
-deposit-row : Row 4 (inRange (λ h p. upTo (p .size) h) (λ h s. deposited (h .arg1) s))
+deposit-row : Row 4 (inRange (λ h size. upTo size h) (λ h s. deposited (h .arg1) s))
 unfolding deposited public
 deposit-row =
-    quiet-row 4 (inRange (λ h p. upTo (p .size) h) (λ h s. deposited (h .arg1) s)) (by-others 4 refl refl refl) held (λ h s l. refl) (λ h s l n. n)
+    quiet-row 4 (inRange (λ h size. upTo size h) (λ h s. deposited (h .arg1) s)) (by-others 4 refl refl refl) held (λ h s l. refl) (λ h s l n. n)
     (λ h s l g p. deposit-proper l g (h .arg1) s (omega (arith, leb-true (h .arg1 + h .arg2) (l .process .size) (p .range), p .carried, whole l g (p .there))))
 
 resume-row : Row 5 (whileRun stoppedOrAtBreak (λ h s. resumed))
@@ -233,10 +233,10 @@ resume-row = quiet-row 5 (whileRun stoppedOrAtBreak (λ h s. resumed)) (by-other
 examine-row : Row 6 examineRule
 examine-row = quiet-row 6 examineRule (by-others 6 refl refl refl) held (λ h s l. refl) (λ h s l n. n) (λ h s l g p. g)
 
-vector-row : Row 7 (inRange (λ h p. upTo 18 h) (λ h s. vectorDeposited (h .arg1) s))
+vector-row : Row 7 (inRange (λ h size. upTo 18 h) (λ h s. vectorDeposited (h .arg1) s))
 unfolding public vectorAfter vectorOf
 vector-row =
-    quiet-row 7 (inRange (λ h p. upTo 18 h) (λ h s. vectorDeposited (h .arg1) s)) (by-others 7 refl refl refl) held (λ h s l. refl) (λ h s l n. refl) (λ h s l g p. vector-proper _ l g)
+    quiet-row 7 (inRange (λ h size. upTo 18 h) (λ h s. vectorDeposited (h .arg1) s)) (by-others 7 refl refl refl) held (λ h s l. refl) (λ h s l n. refl) (λ h s l g p. vector-proper _ l g)
 
 -- where there is none at the address there is room
 room-or : (t u : Bool) → t || u ≡ true → t ≡ false → u ≡ true
@@ -277,7 +277,7 @@ proceed-row =
     (λ h s l g p. proceed-proper l g (p .runs))
 
 destroy-open : Open (plain (λ h s. destroyed))
-destroy-open = record { runs = λ x. refl; range = λ h p. refl; room = λ a p. refl; found = λ a p. refl; shown = λ h l. refl }
+destroy-open = record { runs = λ x. refl; range = λ h size. refl; room = λ a p. refl; found = λ a p. refl; shown = λ h l. refl }
 
 destroy-row : Row 13 (plain (λ h s. destroyed))
 unfolding publicThen public cleared fresh

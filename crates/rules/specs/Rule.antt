@@ -31,7 +31,7 @@ pub record Rule : Type 0 where
   -- test 9
   pub runs : Run → Bool
   -- test 10, by the size of the process
-  pub range : Header → Process → Bool
+  pub range : Header → ℕ → Bool
   -- test 11, at the address ARG1
   pub room : ℕ → Process → Bool
   -- test 12, at the address ARG1
@@ -58,7 +58,7 @@ abbrev pub plain : (Header → List ℕ → Local → Local) → Rule
 plain effect = record {
   right = holds;
   runs = λ r. true;
-  range = λ h p. true;
+  range = λ h size. true;
   room = λ a p. true;
   found = λ a p. true;
   effect = effect;
@@ -70,7 +70,7 @@ abbrev pub whileRun : (Run → Bool) → (Header → List ℕ → Local → Loca
 whileRun runs effect = record {
   right = holds;
   runs = runs;
-  range = λ h p. true;
+  range = λ h size. true;
   room = λ a p. true;
   found = λ a p. true;
   effect = effect;
@@ -78,7 +78,7 @@ whileRun runs effect = record {
 }
 
 -- and a range
-abbrev pub inRange : (Header → Process → Bool) → (Header → List ℕ → Local → Local) → Rule
+abbrev pub inRange : (Header → ℕ → Bool) → (Header → List ℕ → Local → Local) → Rule
 inRange range effect = record {
   right = holds;
   runs = λ r. true;
@@ -94,7 +94,7 @@ abbrev pub debugRule : Rule
 debugRule = record {
   right = noOther;
   runs = λ r. true;
-  range = λ h p. true;
+  range = λ h size. true;
   room = λ a p. true;
   found = λ a p. true;
   effect = λ h s. debugged (h .host);
@@ -110,7 +110,7 @@ abbrev pub examineRule : Rule
 examineRule = record {
   right = holds;
   runs = λ r. true;
-  range = λ h p. upTo (p .size) h && leb (h .arg2) 256;
+  range = λ h size. upTo size h && leb (h .arg2) 256;
   room = λ a p. true;
   found = λ a p. true;
   effect = λ h s l. l;
@@ -122,7 +122,7 @@ abbrev pub breakRule : Rule
 breakRule = record {
   right = holds;
   runs = λ r. true;
-  range = λ h p. validBreakAddress (p .size) (h .arg1);
+  range = λ h size. validBreakAddress size (h .arg1);
   room = λ a p. hasBreak a p || hasRoom p;
   found = λ a p. true;
   effect = λ h s. breakSet (h .arg1) (h .arg2);
@@ -134,7 +134,7 @@ abbrev pub unbreakRule : Rule
 unbreakRule = record {
   right = holds;
   runs = λ r. true;
-  range = λ h p. true;
+  range = λ h size. true;
   room = λ a p. true;
   found = hasBreak;
   effect = λ h s. breakRemoved (h .arg1);
@@ -152,10 +152,10 @@ rules =
     ∷ debugRule  -- 1 DEBUG
     ∷ endDebugRule  -- 2 END DEBUG
     ∷ plain (λ h s. stopped)  -- 3 STOP
-    ∷ inRange (λ h p. upTo (p .size) h) (λ h s. deposited (h .arg1) s)  -- 4 DEPOSIT
+    ∷ inRange (λ h size. upTo size h) (λ h s. deposited (h .arg1) s)  -- 4 DEPOSIT
     ∷ whileRun stoppedOrAtBreak (λ h s. resumed)  -- 5 RESUME
     ∷ examineRule  -- 6 EXAMINE
-    ∷ inRange (λ h p. upTo 18 h) (λ h s. vectorDeposited (h .arg1) s)  -- 7 DEPOSIT STATE VECTOR
+    ∷ inRange (λ h size. upTo 18 h) (λ h s. vectorDeposited (h .arg1) s)  -- 7 DEPOSIT STATE VECTOR
     ∷ breakRule  -- 8 BREAK
     ∷ unbreakRule  -- 9 UNBREAK
     ∷ whileRun stoppedOrAtBreak (λ h s. stepped)  -- 10 SINGLE STEP

@@ -50,7 +50,7 @@ outerTests r h u = test 8 (not (r .right u (h .host))) ∷ []
 abbrev pub innerTests : Rule → Header → Process → List Test
 innerTests r h p =
     test 9 (not (r .runs (p .run)))
-    ∷ test 10 (not (r .range h p))
+    ∷ test 10 (not (r .range h (p .size)))
     ∷ test 11 (not (r .room (h .arg1) p))
     ∷ test 12 (not (r .found (h .arg1) p))
     ∷ []

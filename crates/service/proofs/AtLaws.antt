@@ -1,5 +1,5 @@
 -- A call at one process, by the number of its tests. Assumes nothing.
-use mathlib.Core.Path.{_≡_, refl}
+use mathlib.Core.Path.{_≡_, refl, sym, ap}
 use mathlib.Core.List.{List}
 use mathlib.Core.Bool.{false}
 use Prim.Native.Nat.{ℕ, zero, suc}
@@ -7,16 +7,17 @@ use borrow.Author.Tests.{eqb-true, not-false}
 use Rattle.format.specs.declared.header.Header.{Header}
 use Rattle.format.specs.declared.outcome.Outcome.the-variants.{Refused}
 use Rattle.format.specs.Outcome.{firstFailing}
-use Rattle.process.specs.Local.{Local}
+use Rattle.process.specs.Local.{Local, local}
 use Rattle.rules.specs.Rule.{ruleOf}
 use Rattle.checks.specs.Decision.{processTests}
+use Rattle.service.proofs.EffectLaws.{stays}
 use Rattle.service.specs.At.{leaving, answer, cantBy, changes, namedBy, namedAt, reportBy}
 
 -- ---- EXAMINE leaves its process
 
 named-kept : (n : ℕ) (h : Header) (string buffer : List ℕ) (l : Local) → h .cmd ≡ 6 → namedBy n h string buffer l .left ≡ l
 unfolding namedBy ruleOf
-named-kept zero h string buffer l e = rw e
+named-kept zero h string buffer l e = rw e (ap (local (l .process)) (sym (stays (l .bytes))))
 named-kept (suc n) h string buffer l e = refl
 
 pub unchanged : (h : Header) (string buffer : List ℕ) (l : Local) → changes (h .cmd) ≡ false → namedAt h string buffer l .left ≡ l

@@ -1,10 +1,14 @@
 -- What the tests 8 to 12 of a request that passed say to what it does. Assumes nothing.
-use mathlib.Core.Path.{_≡_, ap, _∙_}
+use mathlib.Core.Path.{_≡_, sym, ap, _∙_}
 use mathlib.Core.Bool.{true, _&&_}
+use mathlib.Core.List.{List}
 use Prim.Native.Nat.{ℕ, _+_, _≤_, _<_, _%_}
 use native.Mathlib.Omega.{arith}
 use borrow.Author.Tests.{ltb-true, leb-true, not-false}
+use lib.ListN.{length}
 use lib.Dec.{eqb, leb, ltb}
+use Rattle.lists.specs.Buffer.{overlay}
+use Rattle.lists.proofs.Buffer.{overlay-all}
 use Rattle.lists.proofs.Bool.{&&-left, &&-right}
 use Rattle.format.specs.declared.header.Header.{Header}
 use Rattle.format.specs.Outcome.{firstFailing}
@@ -12,6 +16,7 @@ use Rattle.format.proofs.OutcomeLaws.{first-passes, rest-passes}
 use Rattle.process.specs.declared.record.Process.{Process}
 use Rattle.breakpoints.specs.declared.entry_query.EntryQuery.the-variants.{At}
 use Rattle.process.specs.Find.{find}
+use Rattle.process.specs.Local.{Present}
 use Rattle.breakpoints.specs.Entry.{validBreakAddress}
 use Rattle.process.specs.Request.{hasBreak, entryFor}
 use Rattle.process.proofs.EntryLaws.{entry-low}
@@ -19,8 +24,20 @@ use Rattle.rules.specs.Rule.{Rule, ruleOf}
 use Rattle.rules.specs.Tests.{ruleTests}
 use Rattle.checks.specs.Decision.{entryOf}
 
+-- a process that is there has as many bytes as its size says
+pub whole : (p : Process) (bytes : List ℕ) → Present p bytes → length bytes ≡ p .size
+whole p bytes here = rw (here .there) at (here .tested .size)
+
+-- as many bytes as there were are laid over all of them
+pub laid : (bytes before after : List ℕ) → length after ≡ length before → after ≡ bytes → after ≡ overlay bytes before
+laid bytes before after same e = e ∙ sym (overlay-all bytes before (omega (arith, same, ap length e)))
+
+-- bytes that stay
+pub stays : (bytes : List ℕ) → bytes ≡ overlay bytes bytes
+stays bytes = sym (overlay-all bytes bytes (omega arith))
+
 module _ (r : Rule) (h : Header) (p : Process) (e : firstFailing (ruleTests r h p) ≡ 0) where
-  pub rule-range : r .range h ≡ true
+  pub rule-range : r .range h (p .size) ≡ true
   rule-range = not-false _ (first-passes 9 _ _ (rest-passes 8 _ _ (rest-passes 7 _ _ e)))
 
   pub rule-room : r .room (h .arg1) p ≡ true
@@ -32,19 +49,19 @@ module _ (r : Rule) (h : Header) (p : Process) (e : firstFailing (ruleTests r h 
 -- ---- by the op code
 
 module _ (h : Header) (p : Process) (e : firstFailing (ruleTests (ruleOf (h .cmd)) h p) ≡ 0) where
-  pub deposit-within : (n : ℕ) → h .cmd ≡ 4 → n ≤ h .arg2 → h .arg1 + n ≤ 4096
+  pub deposit-within : (n : ℕ) → h .cmd ≡ 4 → n ≤ h .arg2 → h .arg1 + n ≤ p .size
   unfolding ruleOf
-  deposit-within n op short = omega (arith, leb-true (h .arg1 + h .arg2) 4096 (rw op at (rule-range (ruleOf (h .cmd)) h p e)), short)
+  deposit-within n op short = omega (arith, leb-true (h .arg1 + h .arg2) (p .size) (rw op at (rule-range (ruleOf (h .cmd)) h p e)), short)
 
   pub vector-within : (n : ℕ) → h .cmd ≡ 7 → n ≤ h .arg2 → h .arg1 + n ≤ 18
   unfolding ruleOf
   vector-within n op short = omega (arith, leb-true (h .arg1 + h .arg2) 18 (rw op at (rule-range (ruleOf (h .cmd)) h p e)), short)
 
-  pub break-within : h .cmd ≡ 8 → h .arg1 + 1 < 4096
+  pub break-within : h .cmd ≡ 8 → h .arg1 + 1 < p .size
   unfolding ruleOf validBreakAddress
   break-within op =
       let range = rw op at (rule-range (ruleOf (h .cmd)) h p e) in
-      omega (arith, leb-true (h .arg1) 4094 (&&-right (eqb (h .arg1 % 2) 0) (leb (h .arg1) 4094) range))
+      omega (arith, leb-true (h .arg1 + 2) (p .size) (&&-right (eqb (h .arg1 % 2) 0) (leb (h .arg1 + 2) (p .size)) range))
 
   module _ (k : ℕ) (i : k ≡ entryOf (h .cmd) (h .arg1) p) where
     pub break-is : h .cmd ≡ 8 → k ≡ entryFor (h .arg1) p
@@ -68,12 +85,12 @@ module _ (h : Header) (p : Process) (e : firstFailing (ruleTests (ruleOf (h .cmd
         ltb-true k 8 (ap (λ (n : ℕ). ltb n 8) (unbreak-is op) ∙ found)
 
   -- EXAMINE's range, and its count
-  pub examine-within : h .cmd ≡ 6 → h .arg1 + h .arg2 ≤ 4096
+  pub examine-within : h .cmd ≡ 6 → h .arg1 + h .arg2 ≤ p .size
   unfolding ruleOf
   examine-within op =
-      leb-true (h .arg1 + h .arg2) 4096 (&&-left (leb (h .arg1 + h .arg2) 4096) (leb (h .arg2) 256) (rw op at (rule-range (ruleOf (h .cmd)) h p e)))
+      leb-true (h .arg1 + h .arg2) (p .size) (&&-left (leb (h .arg1 + h .arg2) (p .size)) (leb (h .arg2) 256) (rw op at (rule-range (ruleOf (h .cmd)) h p e)))
 
   pub examine-short : h .cmd ≡ 6 → h .arg2 ≤ 256
   unfolding ruleOf
   examine-short op =
-      leb-true (h .arg2) 256 (&&-right (leb (h .arg1 + h .arg2) 4096) (leb (h .arg2) 256) (rw op at (rule-range (ruleOf (h .cmd)) h p e)))
+      leb-true (h .arg2) 256 (&&-right (leb (h .arg1 + h .arg2) (p .size)) (leb (h .arg2) 256) (rw op at (rule-range (ruleOf (h .cmd)) h p e)))

@@ -42,6 +42,10 @@ served o p bytes buffer = leaving (answer o buffer) (local p bytes)
 
 -- ---- requests
 
+-- the process after a request, its bytes laid over those that it had: one that is destroyed has none, and leaves them as they are
+abbrev pub laidOver : Local → Local → Local
+laidOver after l = local (after .process) (overlay (after .bytes) (l .bytes))
+
 -- where a request goes, by the form of its op code: to the process that it names, to none where that is a 'number over 7', to a new one for
 -- CREATE, or to none for NOP
 unfoldable pub targetOf : Form → Header → Target
@@ -53,7 +57,7 @@ cantBy number h buffer = answer (outcome number 0) (overlay (written (cantOf h) 
 
 -- a request to the process that it names, by the number of its tests
 unfoldable pub namedBy : ℕ → Header → List ℕ → List ℕ → Local → ProcessResult
-namedBy zero h string buffer l = leaving (replyOf h (ruleOf (h .cmd) .shown h l) buffer) (ruleOf (h .cmd) .effect h string l)
+namedBy zero h string buffer l = leaving (replyOf h (ruleOf (h .cmd) .shown h l) buffer) (laidOver (ruleOf (h .cmd) .effect h string l) l)
 namedBy (suc n) h string buffer l = leaving (cantBy (suc n) h buffer) l
 
 -- the same by its tests 7 to 12

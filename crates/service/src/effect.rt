@@ -16,8 +16,9 @@ use process::Process;
 ghost use mathlib.Core.Path.{_≡_};
 ghost use Prim.Native.Nat.{_≤_};
 ghost use lib.ListN.{length};
+ghost use Rattle.lists.specs.Buffer.{overlay};
 ghost use Rattle.format.specs.Outcome.{firstFailing};
-ghost use Rattle.process.specs.Local.{local, Tested};
+ghost use Rattle.process.specs.Local.{local, Present};
 ghost use Rattle.rules.specs.Rule.{ruleOf};
 ghost use Rattle.rules.specs.Tests.{ruleTests};
 ghost use Rattle.checks.specs.Decision.{entryOf};
@@ -38,12 +39,12 @@ pub(crate) fn perform(
     bytes: &mut [u8],
     string: &[u8],
 ) -> Process
-    requires { ⌜ Tested process (now bytes) ⌝ }
+    requires { ⌜ Present process (now bytes) ⌝ }
     requires { ⌜ firstFailing (ruleTests (ruleOf (h .cmd)) h process) ≡ 0 ⌝ }
     requires { ⌜ k ≡ entryOf (h .cmd) (h .arg1) process ⌝ }
     requires { ⌜ length (now string) ≤ h .arg2 ⌝ }
     ensures { λ r. ⌜ r ≡ ruleOf (h .cmd) .effect h (now (string .entry)) (local process (now (bytes .entry))) .process ⌝ }
-    ensures { λ _. ⌜ now (bytes .exit) ≡ ruleOf (h .cmd) .effect h (now (string .entry)) (local process (now (bytes .entry))) .bytes ⌝ }
+    ensures { λ _. ⌜ now (bytes .exit) ≡ overlay (ruleOf (h .cmd) .effect h (now (string .entry)) (local process (now (bytes .entry))) .bytes) (now (bytes .entry)) ⌝ }
 {
     let cmd = h.cmd;
     let at = h.arg1;

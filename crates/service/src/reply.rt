@@ -11,14 +11,13 @@ ghost use mathlib.Core.List.{[]};
 ghost use Prim.Native.Nat.{_+_, _≤_};
 ghost use lib.ListN.{length};
 ghost use Rattle.format.specs.Outcome.{firstFailing};
-ghost use Rattle.process.specs.Local.{local};
+ghost use Rattle.process.specs.Local.{local, Present};
 ghost use Rattle.process.specs.Request.{examined};
 ghost use Rattle.rules.specs.Rule.{ruleOf};
 ghost use Rattle.rules.specs.Tests.{ruleTests};
 ghost use Rattle.rules.specs.Step.{replyOf};
 ghost use Rattle.service.specs.At.{answer, cantBy};
 ghost use Rattle.format.specs.Sizes.{messageBytes, stringBytes};
-ghost use Rattle.process.specs.Sizes.{memoryBytes};
 
 // Writes the reply that carries no string.
 pub fn reply_plain(h: Header, reply: &mut [u8]) -> Outcome
@@ -52,7 +51,7 @@ fn reply_contents(h: Header, process: Process, bytes: &[u8], reply: &mut [u8]) -
 
 // Writes the reply to a request whose tests have passed.
 pub(crate) fn reply_to(h: Header, process: Process, bytes: &[u8], reply: &mut [u8]) -> Outcome
-    requires { ⌜ length (now bytes) ≡ memoryBytes ⌝ }
+    requires { ⌜ Present process (now bytes) ⌝ }
     requires { ⌜ firstFailing (ruleTests (ruleOf (h .cmd)) h process) ≡ 0 ⌝ }
     requires { ⌜ messageBytes ≤ length (now reply) ⌝ }
     ensures { λ r. ⌜ answer r (now (reply .exit)) ≡ replyOf h (ruleOf (h .cmd) .shown h (local process (now (bytes .entry)))) (now (reply .entry)) ⌝ }

@@ -12,7 +12,7 @@ ghost use mathlib.Core.Path.{_≡_};
 ghost use Prim.Native.Nat.{_≤_, _<_};
 ghost use lib.ListN.{length};
 ghost use Rattle.format.specs.Outcome.{firstFailing};
-ghost use Rattle.process.specs.Local.{local, Tested};
+ghost use Rattle.process.specs.Local.{local, Tested, Present};
 ghost use Rattle.rules.specs.Rule.{ruleOf};
 ghost use Rattle.rules.specs.Tests.{ruleTests};
 ghost use Rattle.checks.specs.Decision.{entryOf};
@@ -29,7 +29,7 @@ fn grant(
     string: &[u8],
     reply: &mut [u8],
 ) -> ServiceResult
-    requires { ⌜ Tested process (now bytes) ⌝ }
+    requires { ⌜ Present process (now bytes) ⌝ }
     requires { ⌜ firstFailing (ruleTests (ruleOf (h .cmd)) h process) ≡ 0 ⌝ }
     requires { ⌜ k ≡ entryOf (h .cmd) (h .arg1) process ⌝ }
     requires { ⌜ length (now string) ≤ h .arg2 ⌝ }

@@ -2,11 +2,12 @@
 use mathlib.Core.Path.{refl}
 use borrow.Author.Needs.{needs}
 use borrow.Author.Tests.{ne-eqb}
+use Rattle.lists.specs.Buffer.{overlay}
 use Rattle.process.specs.Request.{breakRemoved}
 use Rattle.process.proofs.TestedLaws.{tested-inside}
 use Rattle.rules.specs.Rule.{ruleOf}
 use Rattle.checks.proofs.OpLaws.{coded}
-use Rattle.service.proofs.EffectLaws.{deposit-within, vector-within, break-within, break-is, break-low, unbreak-is, unbreak-low}
+use Rattle.service.proofs.EffectLaws.{deposit-within, vector-within, whole, laid, stays, break-within, break-is, break-low, unbreak-is, unbreak-low}
 use Rattle.service.proofs.effect.perform.Statement.{statement}
 use Rattle.service.proofs.effect.perform.Tie as tie
 
@@ -23,7 +24,7 @@ cast-deposit : tie.Need-cast-deposit
 cast-deposit c = search needs
 
 deposit-requires : tie.Need-deposit-requires
-deposit-requires c κs = let m = c .before in let s = m .before .before .before in let a = s .args in (s .pre .0, deposit-within (a .h) (a .process) (s .pre .1 .0) _ (m .match .keys4) (s .pre .1 .1 .1))
+deposit-requires c κs = let m = c .before in let s = m .before .before .before in let a = s .args in (s .pre .0 .tested, rw (whole (a .process) (a .bytes .now) (s .pre .0)) (deposit-within (a .h) (a .process) (s .pre .1 .0) _ (m .match .keys4) (s .pre .1 .1 .1)))
 
 resume-requires : tie.Need-resume-requires
 resume-requires c κs = search needs
@@ -35,10 +36,10 @@ deposit-vector-requires : tie.Need-deposit-vector-requires
 deposit-vector-requires c κs = let s = c .before .before .before in let a = s .args in vector-within (a .h) (a .process) (s .pre .1 .0) _ (c .match .keys6) (s .pre .1 .1 .1)
 
 set-break-requires : tie.Need-set-break-requires
-set-break-requires c κs = let m = c .before in let s = m .before .before .before in let a = s .args in (break-low (a .h) (a .process) (s .pre .1 .0) (a .k) (s .pre .1 .1 .0) (m .match .keys7), break-is (a .h) (a .process) (s .pre .1 .0) (a .k) (s .pre .1 .1 .0) (m .match .keys7), rw (s .pre .0 .size) (break-within (a .h) (a .process) (s .pre .1 .0) (m .match .keys7)))
+set-break-requires c κs = let m = c .before in let s = m .before .before .before in let a = s .args in (break-low (a .h) (a .process) (s .pre .1 .0) (a .k) (s .pre .1 .1 .0) (m .match .keys7), break-is (a .h) (a .process) (s .pre .1 .0) (a .k) (s .pre .1 .1 .0) (m .match .keys7), rw (whole (a .process) (a .bytes .now) (s .pre .0)) (break-within (a .h) (a .process) (s .pre .1 .0) (m .match .keys7)))
 
 remove-from-requires : tie.Need-remove-from-requires
-remove-from-requires c κs = let m = c .before in let s = m .before .before .before in let a = s .args in (unbreak-low (a .h) (a .process) (s .pre .1 .0) (a .k) (s .pre .1 .1 .0) (m .match .keys8), tested-inside (a .process) (a .bytes .now) (s .pre .0))
+remove-from-requires c κs = let m = c .before in let s = m .before .before .before in let a = s .args in (unbreak-low (a .h) (a .process) (s .pre .1 .0) (a .k) (s .pre .1 .1 .0) (m .match .keys8), tested-inside (a .process) (a .bytes .now) (s .pre .0 .tested))
 
 single-step-requires : tie.Need-single-step-requires
 single-step-requires c κs = search needs
@@ -51,7 +52,7 @@ destroy-requires c κs = search needs
 
 returns : tie.Need-returns
 unfolding ruleOf
-returns c = rw (c .before .match .keys1) (c .debug .ensures, refl)
+returns c = rw (c .before .match .keys1) (c .debug .ensures, stays _)
 
 same-length : tie.Need-same-length
 same-length c = search needs
@@ -61,7 +62,7 @@ unfolding ruleOf
 returns-2 c =
     let d = c .before .before in
     let m = d .before .before in
-    rw (m .match .keys2) (d .end-debug .ensures)
+    rw (m .match .keys2) (d .end-debug .ensures .0, laid _ _ _ (search needs) (d .end-debug .ensures .1))
 
 same-length-2 : tie.Need-same-length-2
 same-length-2 c = search needs
@@ -71,7 +72,7 @@ unfolding ruleOf
 returns-3 c =
     let d = c .before .before in
     let m = d .before .before in
-    rw (m .match .keys3) (d .stop .ensures)
+    rw (m .match .keys3) (d .stop .ensures .0, laid _ _ _ (search needs) (d .stop .ensures .1))
 
 same-length-3 : tie.Need-same-length-3
 same-length-3 c = search needs
@@ -81,15 +82,15 @@ unfolding ruleOf
 returns-4 c =
     let d = c .before .before in
     let m = d .before .before in
-    rw (m .match .keys4) (d .deposit .ensures)
+    rw (m .match .keys4) (d .deposit .ensures .0, laid _ _ _ (search needs) (d .deposit .ensures .1))
 
 returns-5 : tie.Need-returns-5
 unfolding ruleOf
-returns-5 c = rw (c .before .match .keys5) (c .resume .ensures, refl)
+returns-5 c = rw (c .before .match .keys5) (c .resume .ensures, stays _)
 
 returns-6 : tie.Need-returns-6
 unfolding ruleOf
-returns-6 c = rw (c .before .match .keys6) (c .deposit-vector .ensures, refl)
+returns-6 c = rw (c .before .match .keys6) (c .deposit-vector .ensures, stays _)
 
 same-length-4 : tie.Need-same-length-4
 same-length-4 c = search needs
@@ -99,7 +100,7 @@ unfolding ruleOf
 returns-7 c =
     let d = c .before .before in
     let m = d .before .before in
-    rw (m .match .keys7) (d .set-break .ensures)
+    rw (m .match .keys7) (d .set-break .ensures .0, laid _ _ _ (search needs) (d .set-break .ensures .1))
 
 same-length-5 : tie.Need-same-length-5
 same-length-5 c = search needs
@@ -111,7 +112,7 @@ returns-8 c =
     let m = d .before .before in
     let s = m .before .before .before in
     let a = s .args in
-    rw (m .match .keys8, ← unbreak-is (a .h) (a .process) (s .pre .1 .0) (a .k) (s .pre .1 .1 .0) (m .match .keys8)) (d .remove-from .ensures)
+    rw (m .match .keys8, ← unbreak-is (a .h) (a .process) (s .pre .1 .0) (a .k) (s .pre .1 .1 .0) (m .match .keys8)) (d .remove-from .ensures .0, laid _ _ _ (search needs) (d .remove-from .ensures .1))
 
 same-length-6 : tie.Need-same-length-6
 same-length-6 c = search needs
@@ -121,7 +122,7 @@ unfolding ruleOf
 returns-9 c =
     let d = c .before .before in
     let m = d .before .before in
-    rw (m .match .keys9) (d .single-step .ensures)
+    rw (m .match .keys9) (d .single-step .ensures .0, laid _ _ _ (search needs) (d .single-step .ensures .1))
 
 same-length-7 : tie.Need-same-length-7
 same-length-7 c = search needs
@@ -131,17 +132,17 @@ unfolding ruleOf
 returns-10 c =
     let d = c .before .before in
     let m = d .before .before in
-    rw (m .match .keys10) (d .proceed .ensures)
+    rw (m .match .keys10) (d .proceed .ensures .0, laid _ _ _ (search needs) (d .proceed .ensures .1))
 
 returns-11 : tie.Need-returns-11
-unfolding ruleOf
+unfolding ruleOf overlay
 returns-11 c = rw (c .before .match .keys11) (c .destroy .ensures, refl)
 
 returns-12 : tie.Need-returns-12
 returns-12 c =
     let a = c .before .before .before .args in
     let n = c .match .rest in
-    rw (coded (a .h .cmd) .idle (rw (ne-eqb _ 1 (n .0 .0 .0 .0 .0 .0 .0 .0 .0 .0 .1), ne-eqb _ 2 (n .0 .0 .0 .0 .0 .0 .0 .0 .0 .1), ne-eqb _ 3 (n .0 .0 .0 .0 .0 .0 .0 .0 .1), ne-eqb _ 4 (n .0 .0 .0 .0 .0 .0 .0 .1), ne-eqb _ 5 (n .0 .0 .0 .0 .0 .0 .1), ne-eqb _ 7 (n .0 .0 .0 .0 .0 .1), ne-eqb _ 8 (n .0 .0 .0 .0 .1), ne-eqb _ 9 (n .0 .0 .0 .1), ne-eqb _ 10 (n .0 .0 .1), ne-eqb _ 11 (n .0 .1), ne-eqb _ 13 (n .1))) (a .h) _ _) (refl, refl)
+    rw (coded (a .h .cmd) .idle (rw (ne-eqb _ 1 (n .0 .0 .0 .0 .0 .0 .0 .0 .0 .0 .1), ne-eqb _ 2 (n .0 .0 .0 .0 .0 .0 .0 .0 .0 .1), ne-eqb _ 3 (n .0 .0 .0 .0 .0 .0 .0 .0 .1), ne-eqb _ 4 (n .0 .0 .0 .0 .0 .0 .0 .1), ne-eqb _ 5 (n .0 .0 .0 .0 .0 .0 .1), ne-eqb _ 7 (n .0 .0 .0 .0 .0 .1), ne-eqb _ 8 (n .0 .0 .0 .0 .1), ne-eqb _ 9 (n .0 .0 .0 .1), ne-eqb _ 10 (n .0 .0 .1), ne-eqb _ 11 (n .0 .1), ne-eqb _ 13 (n .1))) (a .h) _ _) (refl, stays _)
 
 pub perform-spec : {M : Type 1} → statement M
 perform-spec =

@@ -1,7 +1,7 @@
 -- `service::reply::reply_to` meets its contract, by whether the reply carries bytes. Assumes nothing.
 use borrow.Author.Tests.{eq-eqb, ne-eqb}
 use Rattle.checks.proofs.OpLaws.{coded}
-use Rattle.service.proofs.EffectLaws.{examine-within, examine-short}
+use Rattle.service.proofs.EffectLaws.{whole, examine-within, examine-short}
 use borrow.Author.Needs.{needs}
 use Rattle.service.proofs.reply.reply_to.Statement.{statement}
 use Rattle.service.proofs.reply.reply_to.Tie as tie
@@ -11,7 +11,7 @@ reply-contents-requires c κs =
     let i = c .before in
     let s = c .before .before .before .before in
     let a = s .args in
-    ((rw (s .pre .0) (examine-within (a .h) (a .process) (s .pre .1 .0) (i .if1 .taken)), examine-short (a .h) (a .process) (s .pre .1 .0) (i .if1 .taken)), s .pre .1 .1)
+    ((rw (whole (a .process) (a .bytes .now) (s .pre .0)) (examine-within (a .h) (a .process) (s .pre .1 .0) (i .if1 .taken)), examine-short (a .h) (a .process) (s .pre .1 .0) (i .if1 .taken)), s .pre .1 .1)
 
 same-length : tie.Need-same-length
 same-length c = search needs

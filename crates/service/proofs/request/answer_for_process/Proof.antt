@@ -22,7 +22,7 @@ grant-requires c κs =
     let s = c .before .before .before .before .before .before .before .before .before in
     let a = s .args in
     let d = says (a .h) (a .process) (Allow _) (sym (t .decision .given .1) ∙ k .decide .ensures) in
-    (s .pre .0, (d .rule, (d .entry, s .pre .1)))
+    (record { tested = s .pre .0; there = d .there }, (d .rule, (d .entry, s .pre .1)))
 
 enum-known-decision-2 : tie.Need-enum-known-decision-2
 enum-known-decision-2 c = search needs
