@@ -2,3 +2,5 @@
 pub mod SignLaws
 pub mod ShortLaws
 pub mod ReturnLaws
+pub mod NarrowLaws
+pub mod DeskLaws

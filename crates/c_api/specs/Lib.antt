@@ -1,2 +1,3 @@
 -- The definitions that the contracts of the exported functions cite.
 pub mod Called
+pub mod Desk
