@@ -293,6 +293,42 @@ const WRONG: &[Wrong] = &[
             answer
         },
     },
+    Wrong {
+        name: "the byte after the reply buffer is written",
+        answer: |mut made| {
+            let answer = made.right();
+            if let Made::Request { reply, .. } = made {
+                // the guard bytes follow the buffer
+                unsafe { *reply.as_mut_ptr().add(reply.len()) = 0 };
+            }
+            answer
+        },
+    },
+    Wrong {
+        name: "a byte past the notice is touched",
+        answer: |mut made| {
+            let answer = made.right();
+            if let Made::Report { notice, .. } = made {
+                if answer > 0 {
+                    notice[answer as usize] ^= 1;
+                }
+            }
+            answer
+        },
+    },
+    Wrong {
+        name: "a report that is refused with 9 stores its words",
+        answer: |mut made| {
+            let answer = made.right();
+            if let Made::Report { state, numbers: [p, ..], words, .. } = made {
+                if answer == -9 {
+                    let at = RECORD_BYTES * p as usize + 3;
+                    state[at..at + VECTOR].copy_from_slice(words);
+                }
+            }
+            answer
+        },
+    },
 ];
 
 /// A request of host 200 to a process is refused as a stranger's.

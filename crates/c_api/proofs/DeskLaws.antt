@@ -2,7 +2,7 @@
 use mathlib.Core.Path.{_≡_, refl}
 use mathlib.Core.Bool.{Bool, true, false, not, cond, _&&_, _||_, true≢false}
 use mathlib.Core.List.{List, [], _∷_}
-use Prim.Native.Nat.{ℕ, zero, suc, _+_, _<_, _≤_}
+use Prim.Native.Nat.{ℕ, zero, suc, _+_, _≤_}
 use native.Mathlib.Omega.{arith}
 use borrow.Author.Tests.{ltb-true, ltb-false, lt-ltb, le-ltb, ne-eqb}
 use lib.ListN.{length, set}
@@ -22,6 +22,7 @@ use Rattle.message.specs.Exchange.{wrote, answered, writes, reads, readNumber}
 use Rattle.message.specs.Exchange.{writeNumber as messageNumber}
 use Rattle.message.proofs.ExchangeLaws.{writeNumber-room}
 use Rattle.c_api.specs.Called.{byteOf, Short}
+use Rattle.c_api.specs.InRange.{Fits}
 use Rattle.c_api.proofs.NarrowLaws.{same-byte, over-byte}
 use Rattle.c_api.specs.Desk.{argumentsFit, fieldsFit, writeNumber, misfitNumber, writeOn}
 
@@ -46,19 +47,11 @@ or-true true = refl
 or-true false = refl
 
 module _ (h : Header) where
-  -- each field's bound, where all have room
-  pub record Fits : Type 0 where
-    pub host : h .host < 256
-    pub cmd : h .cmd < 256
-    pub pid : h .pid < 256
-    pub arg1 : h .arg1 < 65536
-    pub arg2 : h .arg2 < 65536
-
   arguments-fit : fieldsFit h ≡ true → argumentsFit h ≡ true
   unfolding fieldsFit
   arguments-fit e = &&-right (ltb (h .host) 256 && ltb (h .cmd) 256) (argumentsFit h) e
 
-  pub fits : fieldsFit h ≡ true → Fits
+  pub fits : fieldsFit h ≡ true → Fits h
   unfolding fieldsFit argumentsFit
   fits e =
       let host = ltb (h .host) 256 in
@@ -76,6 +69,10 @@ module _ (h : Header) where
         arg1 = ltb-true (h .arg1) 65536 (&&-right pid arg1 b);
         arg2 = ltb-true (h .arg2) 65536 (&&-right (pid && arg1) arg2 r);
       }
+
+  pub all-fit : Fits h → fieldsFit h ≡ true
+  unfolding fieldsFit argumentsFit
+  all-fit f = rw (lt-ltb _ 256 (f .host), lt-ltb _ 256 (f .cmd), lt-ltb _ 256 (f .pid), lt-ltb _ 65536 (f .arg1), lt-ltb _ 65536 (f .arg2))
 
   module _ (carried : ℕ) (buffer : List ℕ) where
     fit-number : fieldsFit h ≡ true → writeNumber h carried buffer ≡ messageNumber (requestForm (h .cmd)) h carried buffer

@@ -22,7 +22,7 @@ use Rattle.rules.specs.Step.{Answer, StepResult, request, report, step, localOf
 use Rattle.rules.proofs.StepLaws.{by-test}
 use Rattle.checks.proofs.OpLaws.{coded}
 use Rattle.state_bytes.specs.State.{stateOf, stateFormed}
-use Rattle.gateway.specs.Called.{Called, finished, callOn, startOn}
+use Rattle.gateway.specs.Called.{Called, finished, callOn}
 use Rattle.c_api.specs.Called.{Short}
 
 slot-short : (p : ℕ) (m : List ℕ) → length (slot p m) ≤ 4096

@@ -61,12 +61,12 @@ bitsOf n =
     ∷ []
 
 -- a process over 7 is refused with 7, and before it, with 1, a state's buffer of the wrong length
-unfoldable pub tooMany : List ℕ → ℕ
-tooMany state = cond (eqb (length state) stateWidth) 7 1
+unfoldable pub startRefusal : List ℕ → ℕ
+startRefusal state = cond (eqb (length state) stateWidth) 7 1
 
 -- a fresh start with the processes whose bits are set; a bit above the eighth is a process over 7
 unfoldable pub startWith : ℕ → List ℕ → StartResult
-startWith there state = cond (ltb there 256) (startOn (bitsOf there) state) (started (Refused (tooMany state)) state)
+startWith there state = cond (ltb there 256) (startOn (bitsOf there) state) (started (Refused (startRefusal state)) state)
 
 -- a fresh start returned this number, and left these bytes of the state
 pub record Starts (x : StartResult) (result : ℤ) (state : List ℕ) : Type 0 where

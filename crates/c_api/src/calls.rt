@@ -13,7 +13,7 @@ ghost use lib.ListN.{length};
 ghost use Rattle.lists.specs.Word.{vectorOf};
 ghost use Rattle.rules.specs.Step.{request};
 ghost use Rattle.gateway.specs.Called.{callOn};
-ghost use Rattle.c_api.specs.Called.{Returns, Starts, startWith, tooMany, reportOn, bitsOf};
+ghost use Rattle.c_api.specs.Called.{Returns, Starts, startWith, startRefusal, reportOn, bitsOf};
 
 fn bits(there: u64) -> [bool; 8]
     ensures { λ r. ⌜ r ≡ bitsOf there ⌝ }
@@ -31,8 +31,8 @@ fn bits(there: u64) -> [bool; 8]
 }
 
 // The number that refuses a fresh start with a process over 7.
-fn too_many(state: &[u8]) -> u8
-    ensures { λ r. ⌜ r ≡ tooMany (now (state .entry)) ⌝ }
+fn start_refusal(state: &[u8]) -> u8
+    ensures { λ r. ⌜ r ≡ startRefusal (now (state .entry)) ⌝ }
 {
     if state.len() == STATE_BYTES { 7 } else { 1 }
 }
@@ -43,7 +43,7 @@ pub extern "C" fn palustrode_fresh_start(there: u64, state: &mut [u8]) -> i64
     ensures { λ r. ⌜ Starts (startWith there (now (state .entry))) r (now (state .exit)) ⌝ }
 {
     if 256 <= there {
-        return minus(too_many(state));
+        return minus(start_refusal(state));
     }
     let outcome = fresh_start(bits(there), state);
     signed(outcome)

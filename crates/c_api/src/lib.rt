@@ -2,5 +2,6 @@
 // the number of the refusal.
 mod calls;
 mod desk;
+pub mod in_range;
 mod narrow;
 mod result;

@@ -15,8 +15,8 @@ use borrow.Author.Needs.{needs}
 use Rattle.c_api.proofs.calls.palustrode_fresh_start.Statement.{statement}
 use Rattle.c_api.proofs.calls.palustrode_fresh_start.Tie as tie
 
-too-many-requires : tie.Need-too-many-requires
-too-many-requires c κs = search needs
+start-refusal-requires : tie.Need-start-refusal-requires
+start-refusal-requires c κs = search needs
 
 minus-requires : tie.Need-minus-requires
 minus-requires c κs = search needs
@@ -31,7 +31,7 @@ returns c =
     let a = m .before .before .before .before .args in
     let same : toZ w64 (ofZ w64 (c .minus .result)) ≡ c .minus .result = search needs in
     rw (le-ltb (a .there) 256 (m .before .before .if1 .taken))
-    (record { result-is = same ∙ c .minus .ensures ∙ ap minus (m .too-many .ensures); state-is = refl })
+    (record { result-is = same ∙ c .minus .ensures ∙ ap minus (m .start-refusal .ensures); state-is = refl })
 
 bits-requires : tie.Need-bits-requires
 bits-requires c κs = search needs
@@ -61,7 +61,7 @@ pub palustrode-fresh-start-spec : {M : Type 1} → statement M
 palustrode-fresh-start-spec =
     tie.close
     (tie.spec
-    too-many-requires
+    start-refusal-requires
     minus-requires
     same-length
     returns

@@ -8,7 +8,8 @@ use mir.Syntax.{w64}
 use mir.Val.{toZ, ofZ}
 use Rattle.c_api.specs.Called.{minus, signed, Short}
 use Rattle.c_api.specs.Desk.{fields, fieldsFit}
-use Rattle.c_api.proofs.DeskLaws.{Fits, fits, fit-writes, misfit-writes, writes-short}
+use Rattle.c_api.specs.InRange.{Fits}
+use Rattle.c_api.proofs.DeskLaws.{fits, fit-writes, misfit-writes, writes-short}
 use borrow.Author.Needs.{needs}
 use Rattle.c_api.proofs.desk.palustrode_write_request.Statement.{statement}
 use Rattle.c_api.proofs.desk.palustrode_write_request.Tie as tie
