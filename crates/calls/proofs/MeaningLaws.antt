@@ -68,27 +68,25 @@ module _ (p : ℕ) (m : List ℕ) (low : p < 8) (size : length m ≡ 32768) wher
   rest-long = omega (arith, length-drop (startOf p) m, at, low, size)
 
   -- one byte of them
-  set-slot : (a v : ℕ) → a < 4096 → set m (4096 * p + a) v ≡ withSlot p (set (slot p m) a v) m
+  set-slot : (a v : ℕ) → a < 4096 → set m (startOf p + a) v ≡ withSlot p (set (slot p m) a v) m
   unfolding withSlot slot
   set-slot a v h =
       let s = startOf p in
       let rest : List ℕ = drop s m in
-      let back : 4096 * p + a ≡ s + a = omega (arith, at) in
       let front : take s (set m (s + a) v) ≡ take s m = take-set-le s m (s + a) v (omega arith) in
       let behind : drop s (set m (s + a) v) ≡ set rest a v = drop-set-add s m a v in
       let inner : set rest a v ≡ set (take 4096 rest) a v ++ drop 4096 rest =
       sym (take-append-drop 4096 (set rest a v)) ∙ ap (λ (l : List ℕ). l ++ drop 4096 (set rest a v)) (take-set-lt 4096 rest a v h) ∙ ap (λ (l : List ℕ). set (take 4096 rest) a v ++ l) (drop-set-lt 4096 rest a v h) in
-      ap (λ (n : ℕ). set m n v) back
-      ∙ sym (take-append-drop s (set m (s + a) v))
+      sym (take-append-drop s (set m (s + a) v))
       ∙ ap (λ (l : List ℕ). l ++ drop s (set m (s + a) v)) front
       ∙ ap (λ (l : List ℕ). take s m ++ l) (behind ∙ inner)
 
-  pub stores : (a v : ℕ) (s : List ℕ) → a < 4096 → set m (4096 * p + a) v ≡ machineStored p a v s m .memory
+  pub stores : (a v : ℕ) (s : List ℕ) → a < 4096 → set m (startOf p + a) v ≡ machineStored p a v s m .memory
   unfolding machineStored stored putLocal
   stores a v s h = rw (lt-ltb p 8 low) (set-slot a v h)
 
   -- some of them
-  part-slot : (a c from : ℕ) → from ≡ 4096 * p + a → a + c ≤ 4096 → take (from + c - from) (drop from m) ≡ take c (drop a (slot p m))
+  part-slot : (a c from : ℕ) → from ≡ startOf p + a → a + c ≤ 4096 → take (from + c - from) (drop from m) ≡ take c (drop a (slot p m))
   unfolding slot
   part-slot a c from f h =
       let s = startOf p in
@@ -101,11 +99,10 @@ module _ (p : ℕ) (m : List ℕ) (low : p < 8) (size : length m ≡ 32768) wher
       ∙ ap (take c) (drop-at (take a rest) (take (4096 - a) (drop a rest)) a front)
       ∙ take-take c (4096 - a) (drop a rest) (omega (arith, h)) in
       let many : from + c - from ≡ c = omega arith in
-      let where-from : s + a ≡ from = omega (arith, at, f) in
       ap (λ (n : ℕ). take n (drop from m)) many
-      ∙ sym (cut ∙ ap (take c) (drop-drop a s m ∙ ap (λ (n : ℕ). drop n m) where-from))
+      ∙ sym (cut ∙ ap (take c) (drop-drop a s m ∙ ap (λ (n : ℕ). drop n m) (sym f)))
 
-  pub memory-line : (a c from : ℕ) → from ≡ 4096 * p + a → a + c ≤ 4096 → pairsLine (take (from + c - from) (drop from m)) ≡ pairsLine (take c (drop a (slot p m)))
+  pub memory-line : (a c from : ℕ) → from ≡ startOf p + a → a + c ≤ 4096 → pairsLine (take (from + c - from) (drop from m)) ≡ pairsLine (take c (drop a (slot p m)))
   memory-line a c from f h = ap pairsLine (part-slot a c from f h)
 
 -- ---- zeros one after another

@@ -8,11 +8,12 @@ use process::MEMORY_BYTES;
 use state::start;
 use state_bytes::read_process_at;
 ghost use mathlib.Core.Path.{_≡_};
-ghost use Prim.Native.Nat.{_+_, _*_, _≤_, _<_};
+ghost use Prim.Native.Nat.{_+_, _≤_, _<_};
 ghost use lib.ListN.{length};
 ghost use Rattle.calls.specs.Effect.{longestText, memorySize, Does};
 ghost use Rattle.calls.specs.Meaning.{unknownEffect, memoryEffect, processEffect};
 ghost use Rattle.process.specs.Sizes.{memoryBytes};
+ghost use Rattle.state.specs.Slot.{capacity, startOf};
 
 // A line that is no call.
 pub fn answer_unknown(state: &[u8], memory: &[u8], out: &mut [u8]) -> usize
@@ -26,7 +27,8 @@ pub fn answer_unknown(state: &[u8], memory: &[u8], out: &mut [u8]) -> usize
 pub(crate) fn place(p: usize, address: usize) -> usize
     requires { ⌜ p < 8 ⌝ }
     requires { ⌜ address ≤ memoryBytes ⌝ }
-    ensures { λ r. ⌜ r ≡ 4096 * p + address ⌝ }
+    ensures { λ r. ⌜ r ≡ startOf p + address ⌝ }
+    ensures { λ _. ⌜ startOf p + memoryBytes ≤ capacity ⌝ }
 {
     start(p) + address
 }

@@ -6,9 +6,12 @@ use mathlib.Core.Logic.{_⊎_, inl, inr}
 use Prim.Native.Nat.{ℕ, _+_, _*_, _≤_, _<_}
 use native.Mathlib.Omega.{arith}
 use borrow.Author.Tests.{eqb-true, ltb-true, ltb-false}
-use lib.ListN.{length, take, drop, take-append-drop}
+use lib.ListN.{length, take, drop, getD, take-append-drop}
 use lib.Dec.{eqb, ltb}
+use Rattle.lists.specs.Elements.{elements}
 use Rattle.lists.specs.Every.{below}
+use Rattle.lists.specs.Word.{high, word}
+use Rattle.lists.proofs.Elements.{getD-elements}
 use Rattle.lists.proofs.Every.{below-at}
 use Rattle.lists.proofs.Part.{length-part, length-replaced, part-same, part-other}
 use Rattle.state.specs.Slot.{startOf, slot, withSlot}
@@ -25,6 +28,10 @@ all-right = refl
 pub startOf-is : (p : ℕ) → p < 8 → startOf p ≡ 4096 * p
 unfolding right
 startOf-is p h = eqb-true (startOf p) (4096 * p) (below-at right 8 p h all-right)
+
+-- byte p of a table of the starts' high bytes gives the start
+pub start-at : (p r : ℕ) → p < 8 → r ≡ word (getD (elements (λ (k : ℕ). high (startOf k)) 8) p 0) 0 → r ≡ startOf p
+start-at p r h e = omega (arith, rw (getD-elements (λ (k : ℕ). high (startOf k)) 8 p h) at e, startOf-is p h)
 
 -- the bytes of a process are within the memory
 inside : (p : ℕ) (memory : List ℕ) → p < 8 → length memory ≡ 32768 → startOf p + 4096 ≤ length memory

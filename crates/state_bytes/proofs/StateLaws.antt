@@ -2,54 +2,67 @@
 use mathlib.Core.Path.{_≡_, refl, sym, ap, _∙_}
 use mathlib.Core.Bool.{Bool, true, false, not, _&&_}
 use mathlib.Core.List.{List, _++_}
-use Prim.Native.Nat.{ℕ, _+_, _-_, _*_, _%_, _<_}
+use Prim.Native.Nat.{ℕ, suc, _+_, _-_, _*_, _/_, _%_, _<_}
 use native.Mathlib.Omega.{arith}
 use borrow.Author.Tests.{eqb-true, eq-eqb, ne-eqb}
 use lib.ListN.{length, take, drop, getD}
 use lib.Seq.{getD-take, getD-drop}
 use lib.Dec.{eqb}
 use Rattle.lists.specs.Buffer.{Bytes, overlay}
+use Rattle.lists.specs.Elements.{elements}
 use Rattle.lists.specs.Every.{every, below}
 use Rattle.lists.specs.Joined.{joined}
+use Rattle.lists.specs.Word.{high, low, word}
 use Rattle.lists.proofs.Bool.{&&-left, &&-right, &&-both}
 use Rattle.lists.proofs.Buffer.{overlay-all}
+use Rattle.lists.proofs.Elements.{getD-elements}
 use Rattle.lists.proofs.Every.{every-below}
 use Rattle.lists.proofs.Part.{length-replaced}
 use Rattle.lists.proofs.Short.{take-short}
-use Rattle.lists.proofs.Word.{length-lowFirst}
+use Rattle.lists.proofs.Word.{word-high-low, length-lowFirst}
 use Rattle.process.specs.declared.record.Process.{Process}
 use Rattle.process.specs.Sound.{soundTest as soundProcess}
 use Rattle.state.specs.Records.{Records, nobody, processAt, withProcess, soundTest}
 use Rattle.state_bytes.specs.Chunk.{chunks, everyChunk}
 use Rattle.state_bytes.specs.Number.{flagOf}
 use Rattle.state_bytes.specs.Process.{processBytes, processOf, processFormed, processSound}
-use Rattle.state_bytes.specs.State.{stateBytes, withProcessBytes, stateOf, stateFormed, stateSound}
+use Rattle.state_bytes.specs.State.{stateBytes, withProcessBytes, stateOf, stateFormed, stateSound, SoundBefore}
 use Rattle.state_bytes.specs.Theorems.{Sized, Inverse}
 use Rattle.state_bytes.specs.Widths.{thereAt, processCount, processWidth, stateWidth}
-use Rattle.state_bytes.proofs.ChunkLaws.{length-joined, length-chunks, getD-chunks, chunks-joined, every-joined, joined-chunks, joined-with, every-read, every-both}
+use Rattle.state_bytes.proofs.ChunkLaws.{length-joined, length-chunks, getD-chunks, chunks-joined, every-joined, joined-chunks, joined-with, every-read, every-both, every-snoc}
 use Rattle.state_bytes.proofs.ProcessLaws.{length-processBytes, process-back, process-formed, process-forth}
 
 -- ---- one process
+
+-- byte p of a table of the starts' bytes is that byte of the start
+pub start-at : (p r : ℕ) → p < processCount
+    → r ≡ word (getD (elements (λ (k : ℕ). high (processWidth * k)) processCount) p 0) (getD (elements (λ (k : ℕ). low (processWidth * k)) processCount) p 0) → r ≡ processWidth * p
+start-at p r h e =
+    let highs = getD-elements (λ (k : ℕ). high (processWidth * k)) processCount p h in
+    let lows = getD-elements (λ (k : ℕ). low (processWidth * k)) processCount p h in
+    rw (highs, lows) at e ∙ word-high-low (processWidth * p)
 
 one-piece : (at : ℕ) → at + processWidth - at ≡ processWidth
 one-piece at = omega arith
 
 -- the record that is read from a process's bytes is that of the state
-pub read-at : (m : List ℕ) (p : ℕ) (r : Process) → p < processCount → r ≡ processOf (take (processWidth * p + processWidth - processWidth * p) (drop (processWidth * p) m)) → r ≡ processAt (stateOf m) p
+pub read-at : (m : List ℕ) (p at : ℕ) (r : Process) → p < processCount → at ≡ processWidth * p → r ≡ processOf (take (at + processWidth - at) (drop at m)) → r ≡ processAt (stateOf m) p
 unfolding stateOf
-read-at m p r h e =
-    e ∙ ap (λ (n : ℕ). processOf (take n (drop (processWidth * p) m))) (one-piece (processWidth * p)) ∙ sym (getD-chunks processWidth processOf processCount p m nobody h)
+read-at m p at r h start e =
+    e
+    ∙ ap (λ (n : ℕ). processOf (take n (drop at m))) (one-piece at)
+    ∙ ap (λ (n : ℕ). processOf (take processWidth (drop n m))) start
+    ∙ sym (getD-chunks processWidth processOf processCount p m nobody h)
 
 -- a record written over a process's bytes, in the shape in which the part comes back
-pub put-at : (m last : List ℕ) (p : ℕ) (q : Process) → length (processBytes q) ≡ processWidth
-    → last ≡ overlay (processBytes q) (take (processWidth * p + processWidth - processWidth * p) (drop (processWidth * p) m))
-    → take (processWidth * p) m ++ (last ++ drop (processWidth * p + processWidth - processWidth * p) (drop (processWidth * p) m)) ≡ withProcessBytes p q m
+pub put-at : (m last : List ℕ) (p at : ℕ) (q : Process) → at ≡ processWidth * p → length (processBytes q) ≡ processWidth
+    → last ≡ overlay (processBytes q) (take (at + processWidth - at) (drop at m))
+    → take at m ++ (last ++ drop (at + processWidth - at) (drop at m)) ≡ withProcessBytes p q m
 unfolding withProcessBytes
-put-at m last p q size e =
-    let piece = one-piece (processWidth * p) in
-    let short = take-short (processWidth * p + processWidth - processWidth * p) (drop (processWidth * p) m) .0 in
-    let all : last ≡ processBytes q = e ∙ overlay-all (processBytes q) (take (processWidth * p + processWidth - processWidth * p) (drop (processWidth * p) m)) (omega (arith, short, size)) in
-    rw (all, piece)
+put-at m last p at q start size e =
+    let short = take-short (at + processWidth - at) (drop at m) .0 in
+    let all : last ≡ processBytes q = e ∙ overlay-all (processBytes q) (take (at + processWidth - at) (drop at m)) (omega (arith, short, size)) in
+    rw (all, one-piece at, start)
 
 -- there are as many bytes as before
 pub length-with : (m : List ℕ) (p : ℕ) (q : Process) → p < processCount → length m ≡ stateWidth → length (processBytes q) ≡ processWidth → length (withProcessBytes p q m) ≡ stateWidth
@@ -90,6 +103,13 @@ each-sound m size =
     let reads = every-read processWidth processOf soundProcess processCount m in
     let count = every-below soundProcess (chunks processWidth processOf processCount m) nobody in
     rw (eq-eqb _ _ size) (sym (all ∙ ap (λ (b : Bool). everyChunk processWidth processFormed processCount m && b) (reads ∙ count)))
+
+-- one more, at an index
+pub sound-next : (at : ℕ) (m : List ℕ) → SoundBefore at m → at < stateWidth → processSound (take processWidth (drop (processWidth * (at / processWidth)) m)) ≡ true → SoundBefore (at + processWidth) m
+sound-next at m s h e =
+    let n = at / processWidth in
+    let more : (at + processWidth) / processWidth ≡ suc n = omega arith in
+    (omega (arith, more, s .0), omega (arith, h, s .0), s .2, rw more (every-snoc processWidth processSound n m (s .3) e))
 
 -- ---- there and back
 

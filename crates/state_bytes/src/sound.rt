@@ -6,7 +6,6 @@ use crate::process_form::head_sound;
 use crate::process_form::read_process;
 use crate::widths::ENTRIES_AT;
 use crate::widths::PROCESS_BYTES;
-use crate::widths::PROCESS_COUNT;
 use crate::widths::STATE_BYTES;
 ghost use mathlib.Core.Path.{_≡_};
 ghost use Prim.Native.Nat.{_≤_};
@@ -26,22 +25,20 @@ fn process_plain(bytes: &[u8]) -> bool
     entries_bits(&bytes[ENTRIES_AT..]) == 0
 }
 
-// The number of the first process that is not plain, or 8. No slow path stands in this loop.
+// The index of the first process that is not plain, or that after the last. No slow path stands in this loop.
 fn plain_before(state: &[u8]) -> usize
     requires { ⌜ length (now state) ≡ stateWidth ⌝ }
     ensures { λ r. ⌜ SoundBefore r (now (state .entry)) ⌝ }
 {
-    let mut n = 0;
     let mut at = 0;
-    while n < PROCESS_COUNT {
+    while at < STATE_BYTES {
         let end = at + PROCESS_BYTES;
         if !process_plain(&state[at..end]) {
-            return n;
+            return at;
         }
         at = end;
-        n += 1;
     }
-    n
+    at
 }
 
 // The bytes of a process are those of a sound record.
@@ -69,15 +66,13 @@ pub fn state_sound(state: &[u8]) -> bool
     if state.len() != STATE_BYTES {
         return false;
     }
-    let mut p = plain_before(state);
-    let mut at = PROCESS_BYTES * p;
-    while p < PROCESS_COUNT {
-        let end = at + PROCESS_BYTES;
-        if !process_sound(&state[at..end]) {
+    let mut start = plain_before(state);
+    while start < STATE_BYTES {
+        let end = start + PROCESS_BYTES;
+        if !process_sound(&state[start..end]) {
             return false;
         }
-        at = end;
-        p += 1;
+        start = end;
     }
     true
 }

@@ -29,3 +29,27 @@ pub(crate) const PROCESS_BYTES: usize = ENTRIES_AT + ENTRIES_BYTES;
 pub(crate) const PROCESS_COUNT: usize = 8;
 
 pub const STATE_BYTES: usize = PROCESS_BYTES * PROCESS_COUNT;
+
+// The index of each process's first byte, as its low and its high byte. Byte p of a table is found by an addition alone; an element of two
+// bytes or more would be found by p times its size.
+pub(crate) const STARTS_LOW: [u8; 8] = [
+    0,
+    (PROCESS_BYTES % 256) as u8,
+    (2 * PROCESS_BYTES % 256) as u8,
+    (3 * PROCESS_BYTES % 256) as u8,
+    (4 * PROCESS_BYTES % 256) as u8,
+    (5 * PROCESS_BYTES % 256) as u8,
+    (6 * PROCESS_BYTES % 256) as u8,
+    (7 * PROCESS_BYTES % 256) as u8,
+];
+
+pub(crate) const STARTS_HIGH: [u8; 8] = [
+    0,
+    (PROCESS_BYTES / 256) as u8,
+    (2 * PROCESS_BYTES / 256) as u8,
+    (3 * PROCESS_BYTES / 256) as u8,
+    (4 * PROCESS_BYTES / 256) as u8,
+    (5 * PROCESS_BYTES / 256) as u8,
+    (6 * PROCESS_BYTES / 256) as u8,
+    (7 * PROCESS_BYTES / 256) as u8,
+];

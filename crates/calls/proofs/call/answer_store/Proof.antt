@@ -94,7 +94,7 @@ returns-2 c =
     rw (← is .2, ← is .1, ← is .0)
     (does-right _ _ _ _ _ _ _ _ _ right (record {
       state = refl;
-      memory = ap (λ (k : ℕ). set (a .memory .now) k (byte .value)) (q .place .ensures) ∙ stores (n1 .then .result .value) (a .memory .now) (omega (arith, n1 .then .ensures .1)) (s .pre .0) (n2 .then2 .result .value) (byte .value) (a .state .now) (omega (arith, n2 .then2 .ensures .1));
+      memory = ap (λ (k : ℕ). set (a .memory .now) k (byte .value)) (q .place .ensures .0) ∙ stores (n1 .then .result .value) (a .memory .now) (omega (arith, n1 .then .ensures .1)) (s .pre .0) (n2 .then2 .result .value) (byte .value) (a .state .now) (omega (arith, n2 .then2 .ensures .1));
       text = prints-put ok _ _ _ (omega (arith, s .pre .1)) (p .put .ensures);
     }))
 

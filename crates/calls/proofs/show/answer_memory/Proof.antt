@@ -88,7 +88,7 @@ returns-2 c =
     let s = c .before .before .before .before .before .before .before .before .before .before .before .before .before .before .before .before .before .before in
     let is = numbers e in
     let right = sym (e .ends .ensures) ∙ not-false _ (c .before .before .before .before .before .before .before .if1 .left) in
-    let same = memory-line (n1 .then .result .value) (s .args .memory .now) (omega (arith, n1 .then .ensures .1)) (s .pre .0) (n2 .then2 .result .value) (n3 .then3 .result .value) (q .place .result) (q .place .ensures) (omega (arith, n2 .then2 .ensures .1, n3 .then3 .ensures .1)) in
+    let same = memory-line (n1 .then .result .value) (s .args .memory .now) (omega (arith, n1 .then .ensures .1)) (s .pre .0) (n2 .then2 .result .value) (n3 .then3 .result .value) (q .place .result) (q .place .ensures .0) (omega (arith, n2 .then2 .ensures .1, n3 .then3 .ensures .1)) in
     rw (← is .2, ← is .1, ← is .0)
     (does-right _ _ _ _ _ _ _ _ _ right (record { state = refl; memory = refl; text = prints-as _ _ _ _ _ same (record { size = p .0; fits = p .1 .0; laid = p .1 .1 }) }))
 

@@ -12,7 +12,7 @@ add-result : tie.Need-add-result
 add-result c = let s = c .before in omega (arith, c .start .ensures, startOf-is (s .args .p) (omega arith))
 
 returns : tie.Need-returns
-returns c = let s = c .before in omega (arith, c .start .ensures, startOf-is (s .args .p) (omega arith))
+returns c = let s = c .before in (omega (arith, c .start .ensures), omega (arith, startOf-is (s .args .p) (omega arith)))
 
 pub place-spec : {M : Type 1} → statement M
 place-spec = tie.close (tie.spec start-requires add-result returns)

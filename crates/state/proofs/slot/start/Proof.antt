@@ -1,19 +1,22 @@
--- `state::slot::start` meets its contract: the code's table and the definition's are one list. Assumes nothing.
-use mathlib.Core.Path.{refl}
+-- `state::slot::start` meets its contract: byte p of the table is the high byte of the start. Assumes nothing.
 use borrow.Author.Needs.{needs}
 use Rattle.state.specs.Slot.{startOf}
+use Rattle.state.proofs.SlotLaws.{start-at}
 use Rattle.state.proofs.slot.start.Statement.{statement}
 use Rattle.state.proofs.slot.start.Tie as tie
 
-mul-result : tie.Need-mul-result
-mul-result c = search needs
+array-read-word-of : tie.Need-array-read-word-of
+array-read-word-of c = search needs
 
-array-read-result : tie.Need-array-read-result
-array-read-result c = search needs
+word-of-requires : tie.Need-word-of-requires
+word-of-requires c κs = search needs
+
+cast-result : tie.Need-cast-result
+cast-result c = search needs
 
 returns : tie.Need-returns
 unfolding startOf
-returns c = refl
+returns c = start-at (c .before .args .p) (c .word-of .result) (c .before .pre) (c .word-of .ensures)
 
 pub start-spec : {M : Type 1} → statement M
-start-spec = tie.close (tie.spec mul-result array-read-result returns)
+start-spec = tie.close (tie.spec array-read-word-of word-of-requires cast-result returns)

@@ -4,8 +4,8 @@ use borrow.Author.Needs.{needs}
 use Rattle.state_bytes.proofs.place.put_process_at.Statement.{statement}
 use Rattle.state_bytes.proofs.place.put_process_at.Tie as tie
 
-mul-at : tie.Need-mul-at
-mul-at c = search needs
+process-start-requires : tie.Need-process-start-requires
+process-start-requires c κs = search needs
 
 add-end : tie.Need-add-end
 add-end c = search needs
@@ -28,14 +28,15 @@ same-length c = search needs
 returns : tie.Need-returns
 returns c =
     let w = c .before .before in
-    let s = w .before .before .before in
-    put-at (s .args .state .now) (w .put-process .last .1 .0) (s .args .p) (s .args .q) (w .put-process .ensures .0) (w .put-process .ensures .1)
+    let at = w .before .before in
+    let s = at .before .before in
+    put-at (s .args .state .now) (w .put-process .last .1 .0) (s .args .p) (at .process-start .result) (s .args .q) (at .process-start .ensures) (w .put-process .ensures .0) (w .put-process .ensures .1)
 
 pub put-process-at-spec : {M : Type 1} → statement M
 put-process-at-spec =
     tie.close
     (tie.spec
-    mul-at
+    process-start-requires
     add-end
     sub-put-process
     part-put-process-start

@@ -4,8 +4,8 @@ use borrow.Author.Needs.{needs}
 use Rattle.state_bytes.proofs.place.read_process_at.Statement.{statement}
 use Rattle.state_bytes.proofs.place.read_process_at.Tie as tie
 
-mul-start : tie.Need-mul-start
-mul-start c = search needs
+process-start-requires : tie.Need-process-start-requires
+process-start-requires c κs = search needs
 
 add-end : tie.Need-add-end
 add-end c = search needs
@@ -23,13 +23,16 @@ read-process-requires : tie.Need-read-process-requires
 read-process-requires c κs = search needs
 
 returns : tie.Need-returns
-returns c = let s = c .before .before .before in read-at (s .args .state .now) (s .args .p) _ (s .pre .0) (c .read-process .ensures)
+returns c =
+    let at = c .before .before in
+    let s = at .before .before in
+    read-at (s .args .state .now) (s .args .p) (at .process-start .result) _ (s .pre .0) (at .process-start .ensures) (c .read-process .ensures)
 
 pub read-process-at-spec : {M : Type 1} → statement M
 read-process-at-spec =
     tie.close
     (tie.spec
-    mul-start
+    process-start-requires
     add-end
     sub-read-process
     part-read-process-start

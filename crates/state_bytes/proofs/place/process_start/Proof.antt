@@ -1,0 +1,23 @@
+-- `state_bytes::place::process_start` meets its contract: byte p of the two tables is the low and the high byte of the start. Assumes nothing.
+use borrow.Author.Needs.{needs}
+use Rattle.state_bytes.proofs.StateLaws.{start-at}
+use Rattle.state_bytes.proofs.place.process_start.Statement.{statement}
+use Rattle.state_bytes.proofs.place.process_start.Tie as tie
+
+array-read-word-of : tie.Need-array-read-word-of
+array-read-word-of c = search needs
+
+array-read-word-of-2 : tie.Need-array-read-word-of-2
+array-read-word-of-2 c = search needs
+
+word-of-requires : tie.Need-word-of-requires
+word-of-requires c κs = search needs
+
+cast-result : tie.Need-cast-result
+cast-result c = search needs
+
+returns : tie.Need-returns
+returns c = start-at (c .before .args .p) (c .word-of .result) (c .before .pre) (c .word-of .ensures)
+
+pub process-start-spec : {M : Type 1} → statement M
+process-start-spec = tie.close (tie.spec array-read-word-of array-read-word-of-2 word-of-requires cast-result returns)
