@@ -5,12 +5,12 @@ use mathlib.Core.List.{List, [], _∷_}
 use Prim.Native.Nat.{ℕ, zero, suc, _<_}
 use native.Mathlib.Omega.{arith}
 use borrow.Author.Tests.{eqb-true, not-true}
-use lib.ListN.{length, getD, replicate}
+use lib.ListN.{replicate}
 use lib.Dec.{eqb}
 use Rattle.lists.specs.Every.{every, below}
 use Rattle.lists.proofs.Bool.{&&-left, &&-right}
 use Rattle.lists.proofs.Every.{below-at}
-use Rattle.state.specs.Records.{processAt, freshStart, soundTest as soundState, lowestAbsent}
+use Rattle.state.specs.Records.{freshStart, soundTest as soundState, lowestAbsent}
 use Rattle.lists.specs.Buffer.{overlay}
 use Rattle.lists.specs.Word.{lowFirst}
 use Rattle.format.specs.Answer.{cantOf, createdOf, noticeOf}
@@ -35,7 +35,7 @@ use Rattle.rules.specs.Step.{put, grantedNamed, grantedCreate, granted, refused
 use Rattle.rules.specs.Tests.{askedTests, requestNumber, reportNumber}
 use Rattle.rules.specs.Access.{insider}
 use Rattle.rules.specs.Tests.{State}
-use Rattle.rules.specs.Step.{Answer, localOf, stored}
+use Rattle.rules.specs.Step.{localOf, stored}
 use Rattle.rules.specs.Ready.{Ready}
 use Rattle.rules.specs.Run.{TraceItem, run}
 use Rattle.rules.specs.Total.{oneOf}
