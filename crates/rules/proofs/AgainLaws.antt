@@ -93,14 +93,13 @@ module _ (H : Hosts) where
   creating : (s : State) (c : Call) (p : ℕ) → createdFor H (traceItem s c) p ≡ true → Creating s c p
   unfolding createdFor
   creating s c p i =
-      let x = step s c .answer in
-      let two = &&-right (isOne H (asker c)) (creates (fieldsOf c .cmd) && (isGranted (x .outcome) && eqb p (getD (x .buffer) 5 0))) i in
-      let three = &&-right (creates (fieldsOf c .cmd)) (isGranted (x .outcome) && eqb p (getD (x .buffer) 5 0)) two in
+      let two = &&-right (isOne H (asker c)) _ i in
+      let three = &&-right (creates (fieldsOf c .cmd)) _ two in
       record {
         asked = &&-left (isOne H (asker c)) _ i;
         op = eqb-true _ CREATE (&&-left (creates (fieldsOf c .cmd)) _ two);
-        granted = &&-left (isGranted (x .outcome)) (eqb p (getD (x .buffer) 5 0)) three;
-        number = sym (eqb-true p _ (&&-right (isGranted (x .outcome)) _ three));
+        granted = &&-left (isGranted (step s c .answer .outcome)) _ three;
+        number = sym (eqb-true p _ (&&-right (isGranted (step s c .answer .outcome)) _ three));
       }
 
   -- a call by which nothing is created for them
