@@ -41,10 +41,10 @@ use Rattle.rules.specs.Isolation.{namesOne, asker, subject, event, passedOver, 
 use Rattle.rules.specs.Outsider.{only, Never, Outside}
 use Rattle.cases.specs.Pair.{one, other, oneCalls, otherCalls, PremisesMet}
 
-abbrev eightTest : State → Bool
+abbrev pub eightTest : State → Bool
 eightTest s = below (λ (p : ℕ). eqb (length (processAt (s .records) p .breaks)) 8) 8
 
-eight : (s : State) → eightTest s ≡ true → (p : ℕ) → p < 8 → length (processAt (s .records) p .breaks) ≡ 8
+pub eight : (s : State) → eightTest s ≡ true → (p : ℕ) → p < 8 → length (processAt (s .records) p .breaks) ≡ 8
 eight s e p h = eqb-true _ 8 (below-at (λ (q : ℕ). eqb (length (processAt (s .records) q .breaks)) 8) 8 p h e)
 
 one-ready : Ready one
@@ -76,8 +76,8 @@ unfolding namesOne fieldsOf insider isGranted publicThen toldOf Never stored ove
 outside =
     (refl, (refl, (refl, (refl, (refl, (refl, (refl, (refl, (refl, refl)))))))))
 
--- the byte that host 6 examined
-abbrev firstByte : List Answer → ℕ
+-- the byte of the first answer, to an EXAMINE
+abbrev pub firstByte : List Answer → ℕ
 firstByte [] = 0
 firstByte (a ∷ rest) = getD (a .buffer) 10 0
 

@@ -2,3 +2,4 @@
 pub mod Case
 pub mod Cases
 pub mod Pair
+pub mod Again

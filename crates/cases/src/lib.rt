@@ -2,6 +2,7 @@
 // its contract is the claim, so that the check of this crate includes it.
 ghost use Rattle.cases.specs.Cases.{CasesHold};
 ghost use Rattle.cases.specs.Pair.{PremisesMet};
+ghost use Rattle.cases.specs.Again.{CreatedAgain};
 
 pub fn cases_hold()
     ensures { λ _. ⌜ CasesHold ⌝ }
@@ -10,4 +11,9 @@ pub fn cases_hold()
 // Two gateways and two lists that meet every premise of isolation, while the other host's answers differ.
 pub fn premises_met()
     ensures { λ _. ⌜ PremisesMet ⌝ }
+{}
+
+// The same for two hosts and two processes, of which one is destroyed by the host that debugs it and created again for one of the two.
+pub fn created_again()
+    ensures { λ _. ⌜ CreatedAgain ⌝ }
 {}

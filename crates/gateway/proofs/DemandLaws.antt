@@ -11,15 +11,13 @@ use Rattle.format.proofs.OutcomeLaws.{numberOf-outcome, outcome-other}
 use Rattle.rules.specs.Tests.{State, noRoom}
 use Rattle.rules.specs.Step.{Call, request, report, store, step, localOf}
 use Rattle.rules.specs.Turn.{bufferOf}
-use Rattle.rules.specs.Run.{TraceItem, run, leave}
+use Rattle.rules.specs.Run.{TraceItem, run}
 use Rattle.rules.specs.Total.{oneOf, numbersOf}
-use Rattle.rules.specs.Isolation.{isGranted, heard, theirs}
-use Rattle.rules.specs.Outsider.{Outsiders}
+use Rattle.rules.specs.Isolation.{isGranted, heard}
+use Rattle.rules.specs.Together.{withoutTheirs, callsOf}
 use Rattle.rules.proofs.TotalLaws.{total}
 use Rattle.rules.proofs.RightsLaws.{rights}
-use Rattle.rules.proofs.ListLaws.{claim}
-use Rattle.rules.proofs.DebuggerLaws.{debuggers}
-use Rattle.rules.proofs.OutsiderLaws.{outsider}
+use Rattle.rules.proofs.OutsiderLaws.{isolation}
 use Rattle.state_bytes.specs.State.{stateOf, stateFormed, stateSound}
 use Rattle.gateway.specs.Called.{Called, called, finished, lentOn, refusedBy, callOn, machineStored, Did}
 use Rattle.gateway.specs.Sequence.{Begins, Made, readFrom}
@@ -105,22 +103,23 @@ module _ (made : List ℕ → List ℕ → List Call → List TraceItem → Type
     runs = runs;
     changes = λ state memory b c e m p low none.
         ap (λ (after : State). localOf after p) (one-after state memory b c e m) ∙ rights .changes (readFrom state memory) (b .ready) c p low none;
-    same-heard = λ H P s₁ m₁ s₂ m₂ b₁ b₂ apart l₁ l₂ alike away es₁ es₂ d₁ d₂.
-        ap (heard H) (runs s₁ m₁ b₁ l₁ es₁ d₁)
-        ∙ claim H P .same-heard (readFrom s₁ m₁) (readFrom s₂ m₂) (b₁ .ready) (b₂ .ready) apart l₁ l₂ alike away
-        ∙ ap (heard H) (sym (runs s₂ m₂ b₂ l₂ es₂ d₂));
-    left-out = λ H P state memory b l away marks es fewer d f.
-        runs state memory b (leave (theirs H P) marks l) fewer f
-        ∙ claim H P .left-out (readFrom state memory) (b .ready) l away marks
-        ∙ ap (leave (λ (i : TraceItem). theirs H P (i .call)) marks) (sym (runs state memory b l es d));
+    same-heard = λ H P s₁ m₁ s₂ m₂ b₁ b₂ apart l₁ l₂ es₁ es₂ d₁ d₂ alike away.
+        let first = runs s₁ m₁ b₁ l₁ es₁ d₁ in
+        let second = runs s₂ m₂ b₂ l₂ es₂ d₂ in
+        ap (heard H) first
+        ∙ isolation .together H P .same-heard (readFrom s₁ m₁) (readFrom s₂ m₂) l₁ l₂
+        (record { ready₁ = b₁ .ready; ready₂ = b₂ .ready; apart = apart; alike = rw (first, second) at alike; away = rw first at away })
+        ∙ ap (heard H) (sym second);
+    left-out = λ H P state memory b l es fewer d away marks f.
+        let whole = runs state memory b l es d in
+        runs state memory b (callsOf (withoutTheirs H P marks es)) fewer f
+        ∙ ap (λ (xs : List TraceItem). run (readFrom state memory) (callsOf (withoutTheirs H P marks xs))) whole
+        ∙ isolation .together H P .left-out (readFrom state memory) (b .ready) l (rw whole at away) marks
+        ∙ ap (withoutTheirs H P marks) (sym whole);
   }
 
 made-runs : (state memory : List ℕ) → Begins state memory → (l : List Call) (es : List TraceItem) → Made state memory l es → es ≡ run (readFrom state memory) l
 made-runs state memory b l es m = m .trace ∙ done-run state memory b l (m .typed) (m .answers) (m .done)
-
-outsiders : Outsiders
-unfolding Outsiders
-outsiders = outsider
 
 pub demands : Demands
 demands = record {
@@ -129,6 +128,5 @@ demands = record {
   lists = lists-on-bytes Made made-runs;
   total = total;
   rights = rights;
-  isolation = record { debuggers = debuggers; claim = claim };
-  outsiders = outsiders;
+  isolation = isolation;
 }

@@ -8,11 +8,11 @@ use Rattle.format.specs.Outcome.{numberOf}
 use Rattle.state.specs.Slot.{capacity}
 use Rattle.rules.specs.Step.{Call, request, report, localOf}
 use Rattle.rules.specs.Ready.{Typed}
-use Rattle.rules.specs.Run.{TraceItem, run, leave}
+use Rattle.rules.specs.Run.{TraceItem, run}
 use Rattle.rules.specs.Total.{Total, oneOf, numbersOf}
 use Rattle.rules.specs.Rights.{Rights, MayChange}
-use Rattle.rules.specs.Isolation.{Isolation, Hosts, Processes, Alike, Apart, NeverDebugs, heard, theirs}
-use Rattle.rules.specs.Outsider.{Outsiders}
+use Rattle.rules.specs.Isolation.{Hosts, Processes, Apart, heard}
+use Rattle.rules.specs.Together.{Away, AlikeRuns, withoutTheirs, callsOf, Isolation}
 use Rattle.state_bytes.specs.Widths.{stateWidth}
 use Rattle.gateway.specs.Called.{Called, Did, lentOn, refusedBy, startOn}
 use Rattle.gateway.specs.Sequence.{Begins, Made, readFrom}
@@ -52,12 +52,12 @@ pub record ListsOnBytes (made : List ℕ → List ℕ → List Call → List Tra
   -- demand 3, part one: what these hosts are answered is the same in both gateways
   pub same-heard : (H : Hosts) (P : Processes) (state₁ memory₁ state₂ memory₂ : List ℕ) → Begins state₁ memory₁ → Begins state₂ memory₂
       → Apart P (readFrom state₁ memory₁) (readFrom state₂ memory₂)
-      → (l₁ l₂ : List Call) → Alike H P l₁ l₂ → NeverDebugs H P (readFrom state₁ memory₁) l₁
-      → (es₁ es₂ : List TraceItem) → made state₁ memory₁ l₁ es₁ → made state₂ memory₂ l₂ es₂ → heard H es₁ ≡ heard H es₂
-  -- part two: without some or all of their requests that name one of the processes, every other call answers and leaves the same
-  pub left-out : (H : Hosts) (P : Processes) (state memory : List ℕ) → Begins state memory → (l : List Call) → NeverDebugs H P (readFrom state memory) l
-      → (marks : List Bool) (es fewer : List TraceItem) → made state memory l es → made state memory (leave (theirs H P) marks l) fewer
-      → fewer ≡ leave (λ (e : TraceItem). theirs H P (e .call)) marks es
+      → (l₁ l₂ : List Call) (es₁ es₂ : List TraceItem) → made state₁ memory₁ l₁ es₁ → made state₂ memory₂ l₂ es₂
+      → AlikeRuns H P es₁ es₂ → Away H P (readFrom state₁ memory₁) es₁ → heard H es₁ ≡ heard H es₂
+  -- part two: without some or all of their requests that name a hidden process, every other call answers and leaves the same
+  pub left-out : (H : Hosts) (P : Processes) (state memory : List ℕ) → Begins state memory → (l : List Call) (es fewer : List TraceItem)
+      → made state memory l es → Away H P (readFrom state memory) es → (marks : List Bool)
+      → made state memory (callsOf (withoutTheirs H P marks es)) fewer → fewer ≡ withoutTheirs H P marks es
 
 -- the demands hold of the calls
 pub record Demands : Type 0 where
@@ -70,4 +70,3 @@ pub record Demands : Type 0 where
   pub rights : Rights
   -- demand 3, for sets of hosts and processes, and for one host and one process
   pub isolation : Isolation
-  pub outsiders : Outsiders

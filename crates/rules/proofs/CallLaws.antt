@@ -1,7 +1,7 @@
 -- The law of a call: all that the theorems ask of one. Each call has one proof of it (RequestLaws, ReportLaws), and every theorem follows
 -- for all calls alike. Assumes nothing.
 use mathlib.Core.Path.{_≡_}
-use mathlib.Core.Bool.{true, cond}
+use mathlib.Core.Bool.{true, false, cond}
 use mathlib.Core.List.{List, []}
 use mathlib.Core.Logic.{_⊎_}
 use Prim.Native.Nat.{ℕ, _<_}
@@ -11,7 +11,7 @@ use lib.ListN.{getD}
 use Rattle.ops.specs.Codes.{CREATE}
 use Rattle.process.specs.Local.{Local}
 use Rattle.rules.specs.Outsider.{only}
-use Rattle.rules.specs.Rule.{Public}
+use Rattle.rules.specs.Rule.{Public, creates}
 use Rattle.rules.specs.Tests.{State}
 use Rattle.rules.specs.Access.{nobody, Access, Place, nowhere, atProcess, grants, taken}
 use Rattle.rules.specs.Step.{Answer, Call, step}
@@ -43,6 +43,8 @@ pub record There (s : State) (c : Call) (p : ℕ) (a : Access) : Type 0 where
   pub reaches : (subject (only p) c ≡ true) ⊎ (fieldsOf c .cmd ≡ CREATE)
   -- the reply to a CREATE carries the number of the process
   pub carries : (l : Local) → fieldsOf c .cmd ≡ CREATE → getD (grants (a .reply l) (bufferOf c) .buffer) 5 0 ≡ p
+  -- and what it creates does not rest on what was there
+  pub anew : fieldsOf c .cmd ≡ CREATE → (l k : Local) → a .effect l ≡ a .effect k
   -- the call and its answer tell the public part after it
   pub told : (d : ℕ → Public) (l : Local) (q : ℕ) → toldOf d c (grants (a .reply l) (bufferOf c)) q ≡ cond (eqb q p) (then (d q)) (d q)
   -- when the right to debug begins and ends
@@ -67,6 +69,8 @@ pub record Lawful (c : Call) : Type 0 where
   -- the parts go by what everyone may know
   pub alike : (s t : State) → Ready s → Ready t → Shown s t → turnOf s c ≡ turnOf t c
   pub placed : (s : State) → Ready s → firstFailing (turnOf s c .tests) ≡ 0 → Placed s c (turnOf s c .place)
+  -- a call that names a process or is about it creates none
+  pub subject-creates : (P : Processes) → subject P c ≡ true → creates (fieldsOf c .cmd) ≡ false
   -- what is struck from a list is asked by nobody, and tells nothing of rights
   pub event-asker : event c ≡ true → asker c ≡ nobody
   pub event-silent : event c ≡ true → Silent c

@@ -14,14 +14,14 @@ use Rattle.process.specs.Local.{Local}
 use Rattle.rules.specs.Rule.{Public, public}
 use Rattle.rules.specs.Tests.{State}
 use Rattle.rules.specs.Access.{Asker, nobody, by, insider, Access, Place, nowhere, atProcess, Turn, numberAt, reached, taken}
-use Rattle.rules.specs.Step.{Answer, StepResult, localOf, Call, step}
+use Rattle.rules.specs.Step.{Answer, StepResult, localOf, put, Call, step}
 use Rattle.rules.specs.Turn.{turnOf, bufferOf}
 use Rattle.rules.specs.Ready.{Ready}
 use Rattle.rules.specs.Run.{traceItem}
 use Rattle.rules.specs.Isolation.{Hosts, Processes, asker, subject, event, passedOver, isOne, publicOf, Debuggers, noticed, sentTo, part, struck, withoutData, Apart, NoneDebugs, theirs}
 use Rattle.rules.proofs.StateLaws.{local-proper, Changed, unchanged, put-changed}
 use Rattle.rules.proofs.AccessLaws.{saidAt, leftAt, Taking, May, Discreet, Fair, outer-zero, said-stranger, left-alike, quiet}
-use Rattle.rules.proofs.CallLaws.{Silent, Placed}
+use Rattle.rules.proofs.CallLaws.{Silent, There, Placed}
 use Rattle.rules.proofs.LawfulLaws.{lawful}
 use Rattle.rules.proofs.StepLaws.{by-test, Done, stays, idles, acts, done, acts-changed}
 use Rattle.rules.proofs.DebuggerLaws.{acts-public, debuggers}
@@ -108,23 +108,29 @@ module _ (H : Hosts) (P : Processes) where
 
   -- ---- their own calls that name one of the processes
 
+  -- such a call, granted at one of the processes, lets them in
+  pub lets-in : (host : ℕ) (s : State) (c : Call) (r : Ready s) → asker c ≡ by host → H host ≡ true → (p : ℕ) (a : Access) (t : There s c p a) → numberAt a (localOf s p) ≡ 0
+      → step s c .after ≡ put p (a .effect (localOf s p)) s → P p ≡ true → NoneDebugs H P s → NoneDebugs H P (step s c .after) → ⊥
+  unfolding May
+  lets-in host s c r e h p a t z q i before after =
+      may (subst (λ (w : Asker). May w (publicOf s p) a (t .then)) e (t .fair .guarded (publicOf s p) (outer-zero a (localOf s p) z)))
+    where
+      after-public : publicOf (step s c .after) p ≡ t .then (publicOf s p)
+      after-public = rw q (acts-public s r c p a t z)
+
+      may : (insider (publicOf s p) host ≡ true) ⊎ Taking host a (t .then) → ⊥
+      may (inl k) = true≢false (sym k ∙ before p (t .low) i host h)
+      may (inr k) = true≢false (sym (k .takes (publicOf s p)) ∙ sym (ap (λ (u : Public). insider u host) after-public) ∙ after p (t .low) i host h)
+
   idle-by : (w : Asker) (s : State) (c : Call) → Ready s → asker c ≡ w → isOne H w ≡ true → subject P c ≡ true → NoneDebugs H P s → NoneDebugs H P (step s c .after) → step s c .after ≡ s
-  unfolding isOne May
+  unfolding isOne
   idle-by nobody s c r e h i before after = absurd (true≢false (sym h))
   idle-by (by host) s c r e h i before after = go (done s r c)
     where
       go : Done s c (step s c) → step s c .after ≡ s
       go (stays number bytes q) = rw q
       go (idles bytes w q) = rw q
-      go (acts p a t z q) =
-          absurd (may (subst (λ (w : Asker). May w (publicOf s p) a (t .then)) e (t .fair .guarded (publicOf s p) (outer-zero a (localOf s p) z))))
-        where
-          after-public : publicOf (step s c .after) p ≡ t .then (publicOf s p)
-          after-public = rw q (acts-public s r c p a t z)
-
-          may : (insider (publicOf s p) host ≡ true) ⊎ Taking host a (t .then) → ⊥
-          may (inl k) = true≢false (sym k ∙ before p (t .low) (t .named P i) host h)
-          may (inr k) = true≢false (sym (k .takes (publicOf s p)) ∙ sym (ap (λ (u : Public). insider u host) after-public) ∙ after p (t .low) (t .named P i) host h)
+      go (acts p a t z q) = absurd (lets-in host s c r e h p a t z (ap (λ (x : StepResult). x .after) q) (t .named P i) before after)
 
   pub theirs-idle : (s : State) → Ready s → (c : Call) → theirs H P c ≡ true → NoneDebugs H P s → NoneDebugs H P (step s c .after) → step s c .after ≡ s
   unfolding theirs

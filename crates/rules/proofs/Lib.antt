@@ -14,6 +14,8 @@ pub mod DebuggerLaws
 pub mod RightsLaws
 pub mod TotalLaws
 pub mod IsolationLaws
+pub mod AgainLaws
 pub mod TraceLaws
+pub mod TogetherLaws
 pub mod ListLaws
 pub mod OutsiderLaws

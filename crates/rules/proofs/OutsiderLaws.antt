@@ -1,4 +1,4 @@
--- One host and one process: the claim for sets, at the set of one each. Assumes nothing.
+-- One host and one process: the claim for sets, at the set of one each; and all of isolation together. Assumes nothing.
 use mathlib.Core.Path.{_≡_, refl, sym, ap, ap₂, _∙_, subst, fun-ext}
 use mathlib.Core.Bool.{Bool, true, false}
 use mathlib.Core.List.{List, [], _∷_}
@@ -13,8 +13,10 @@ use Rattle.rules.specs.Step.{Call, step}
 use Rattle.rules.specs.Ready.{Ready}
 use Rattle.rules.specs.Run.{run}
 use Rattle.rules.specs.Isolation.{isOne, Apart, NoneDebugs, NeverDebugs, toldOf, publicOf, Debuggers, Claim}
-use Rattle.rules.specs.Outsider.{only, Differ, Never, Outside, Outsider}
+use Rattle.rules.specs.Outsider.{only, Differ, Never, Outside, Outsider, Outsiders}
+use Rattle.rules.specs.Together.{Isolation}
 use Rattle.rules.proofs.StepLaws.{step-ready}
+use Rattle.rules.proofs.TogetherLaws.{together}
 use Rattle.rules.proofs.ListLaws.{claim}
 use Rattle.rules.proofs.DebuggerLaws.{debuggers}
 
@@ -65,7 +67,7 @@ module _ (host p : ℕ) where
         (away-out low l (step s c .after) (step-ready s r c) (w .1)),
   )
 
-  pub outsider : p < 8 → Outsider host p
+  outsider : p < 8 → Outsider host p
   unfolding isOne
   outsider low = record {
     either = λ s₁ s₂ r₁ r₂ d l₁ l₂ e w. away-out low l₂ s₂ r₂ (c .both-away s₁ s₂ r₁ r₂ (differ-apart p s₁ s₂ d) l₁ l₂ e (out-away l₁ s₁ r₁ w));
@@ -78,3 +80,10 @@ module _ (host p : ℕ) where
     where
       c : Claim (only host) (only p)
       c = claim (only host) (only p)
+
+outsiders : Outsiders
+unfolding Outsiders
+outsiders = outsider
+
+pub isolation : Isolation
+isolation = record { debuggers = debuggers; together = together; claim = claim; outsiders = outsiders }

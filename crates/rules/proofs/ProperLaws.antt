@@ -126,9 +126,14 @@ module _ (l : Local) (g : Proper l) where
 
 -- ---- a new process, and one that is gone
 
-pub create-proper : (host : ℕ) → Proper (created host)
+-- whatever its bytes are
+pub new-proper : (host : ℕ) (bytes : List ℕ) → length bytes ≡ 4096 → Proper (local (created host .process) bytes)
 unfolding created fresh
-create-proper host = proper-of (created host) (sound-stays .create host) refl (length-replicate {A = ℕ} 4096 0)
+new-proper host bytes size = proper-of (local (created host .process) bytes) (sound-stays .create host) refl size
+
+pub create-size : (host : ℕ) → length (created host .bytes) ≡ 4096
+unfolding created
+create-size host = length-replicate {A = ℕ} 4096 0
 
 pub destroy-proper : (l : Local) → Proper l → Proper (local cleared (l .bytes))
 unfolding cleared fresh

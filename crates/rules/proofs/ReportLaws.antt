@@ -84,12 +84,13 @@ module _ (p kind reason : ℕ) (words : List ℕ) where
       named = λ P e. e;
       reaches = inl (eq-eqb p p refl);
       carries = λ l e. absurd (omega (arith, e));
+      anew = λ e. absurd (omega (arith, e));
       told = λ d l q. report-silent d _ q ∙ sym (same-cond (eqb q p) (d q));
       turns = λ z. inl refl;
     }
 
     pub report-lawful : Lawful here
-    unfolding step turnOf bufferOf testsOf numbersOf reportNumber event asker passedOver subject reportTurn Placed
+    unfolding step turnOf bufferOf testsOf numbersOf reportNumber event asker passedOver subject fieldsOf reportTurn Placed
     report-lawful = record {
       turn = report-turn p kind reason words buffer;
       number = report-number p kind reason words buffer;
@@ -97,6 +98,7 @@ module _ (p kind reason : ℕ) (words : List ℕ) where
       alike = λ s t r q a. rw (r .memory, q .memory, r .sound, q .sound);
       placed = λ s r z.
           report-there s (ltb-true p 8 (not-false _ (first-passes 6 _ _ (rest-passes 13 _ _ (rest-passes 1 _ _ (rest-passes 0 _ _ z))))));
+      subject-creates = λ P e. refl;
       event-asker = λ e. refl;
       event-silent = λ e. report-silent;
       over-asker = refl;
@@ -132,12 +134,13 @@ module _ (p x v : ℕ) where
     named = λ P e. e;
     reaches = inl (eq-eqb p p refl);
     carries = λ l e. absurd (omega (arith, e));
+    anew = λ e. absurd (omega (arith, e));
     told = λ d l q. store-silent d _ q ∙ sym (same-cond (eqb q p) (d q));
     turns = λ z. inl refl;
   }
 
   pub store-lawful : Lawful (store p x v)
-  unfolding step turnOf bufferOf testsOf numbersOf event asker passedOver subject storeTurn Placed firstFailing
+  unfolding step turnOf bufferOf testsOf numbersOf event asker passedOver subject fieldsOf storeTurn Placed firstFailing
   store-lawful = record {
     turn = store-turn p x v;
     number = store-number p x v;
@@ -145,6 +148,7 @@ module _ (p x v : ℕ) where
     alike = λ s t r q a. refl;
     placed = λ s r z.
         by-test (Placed s (store p x v)) (ltb p 8) (λ e. store-there s (ltb-true p 8 e)) (λ e. record { told = λ d q. store-silent d _ q; quiet = λ i. refl });
+    subject-creates = λ P e. refl;
     event-asker = λ e. refl;
     event-silent = λ e. store-silent;
     over-asker = refl;

@@ -33,7 +33,7 @@ use Rattle.rules.specs.Turn.{ruleAccess, createAccess, placeTests, reque
 use Rattle.rules.specs.Ready.{Ready}
 use Rattle.rules.specs.Isolation.{Processes, namesOne, deposits, withoutString, asker, subject, event, passedOver, fieldsOf, isGranted, publicThen, toldOf, publicOf}
 use Rattle.rules.specs.Total.{testsOf, numbersOf, oneOf}
-use Rattle.rules.proofs.ProperLaws.{create-proper}
+use Rattle.rules.proofs.ProperLaws.{new-proper, create-size}
 use Rattle.rules.proofs.RuleLaws.{Open, Kept, Row, rule-row}
 use Rattle.rules.proofs.RuleLaws.{Taking as RowTaking}
 use Rattle.rules.proofs.NumberLaws.{by-test, same-cond, first-listed, orElse-zero, first-append, Sent, layout-sent}
@@ -112,7 +112,7 @@ create-fair : (h : Header) (p : ℕ) → (h .host ≡ 0 → ⊥) → Fair (by (h
 unfolding createAccess May Discreet insider firstFailing public created fresh
 create-fair h p asked = record {
   publicly = λ l z. refl;
-  keeps = λ l g z. create-proper (h .host);
+  keeps = λ l g z. new-proper (h .host) (createAccess h p .effect l .bytes) (omega (arith, g .tested .size, create-size (h .host)));
   guarded = λ u z. inr (record { none = λ l. refl; blind = λ l k. refl; takes = λ v. rw (ne-eqb (h .host) 0 asked, eq-eqb (h .host) (h .host) refl) });
   hides = inr (λ l. refl);
   plain = λ l k e. refl;
@@ -168,6 +168,7 @@ module _ (m buffer : List ℕ) (s : State) (r : Ready s) (sent : Sent m) where
     named = λ P e. &&-right (names (h .cmd)) (P (h .pid)) (&&-right (leb 10 (length m)) (names (h .cmd) && P (h .pid)) e);
     reaches = inl (&&-both (leb 10 (length m)) _ long (&&-both (names (h .cmd)) _ n (eq-eqb (h .pid) (h .pid) refl)));
     carries = λ l e. absurd (true≢false (sym (eq-eqb (h .cmd) 12 e) ∙ create-unnamed (h .cmd) n));
+    anew = λ e. absurd (true≢false (sym (eq-eqb (h .cmd) 12 e) ∙ create-unnamed (h .cmd) n));
     told = λ d l q. rw (n, create-unnamed (h .cmd) n);
     turns = λ z. known .turns h refl (publicOf s (h .pid)) (not-false _ (head-passes 7 _ _ (rest-passes 6 _ _ z)));
   }
@@ -183,6 +184,7 @@ module _ (m buffer : List ℕ) (s : State) (r : Ready s) (sent : Sent m) where
     named = λ P e. absurd (true≢false (sym (&&-left (names (h .cmd)) (P (h .pid)) (&&-right (leb 10 (length m)) (names (h .cmd) && P (h .pid)) e)) ∙ n));
     reaches = inr (eqb-true (h .cmd) 12 c);
     carries = λ l e. refl;
+    anew = λ e l k. refl;
     told = λ d l q. rw (n, c);
     turns = λ z. inr (inl (record { op = inr (eqb-true (h .cmd) 12 c); before = absent-unheld s r low; after = refl }));
   }
@@ -269,6 +271,12 @@ module _ (m buffer : List ℕ) where
       (&&-both (leb 10 (length (withoutString m))) _ (over-long m (&&-left (leb 10 (length m)) _ e)) (&&-right (leb 10 (length m)) (names (headerOf m .cmd) && P (headerOf m .pid)) e)))
       (λ d. e)
 
+  request-creates : (P : Processes) → subject P (request m buffer) ≡ true → creates (headerOf m .cmd) ≡ false
+  unfolding subject namesOne
+  request-creates P e =
+      create-unnamed (headerOf m .cmd)
+      (&&-left (names (headerOf m .cmd)) (P (headerOf m .pid)) (&&-right (leb 10 (length m)) (names (headerOf m .cmd) && P (headerOf m .pid)) e))
+
   request-listed : (s : State) → oneOf (numbersOf (request m buffer)) (firstFailing (requestTests s m buffer)) ≡ true
   unfolding numbersOf askedTests
   request-listed s = first-listed Listed (requestTests s m buffer) refl numbers
@@ -283,13 +291,14 @@ module _ (m buffer : List ℕ) where
       numbers = by-test Each (names (headerOf m .cmd)) (λ e. refl) (λ e. by-test Each (creates (headerOf m .cmd)) (λ i. refl) (λ i. refl))
 
   pub request-lawful : Lawful (request m buffer)
-  unfolding step turnOf bufferOf testsOf requestNumber event asker passedOver
+  unfolding step turnOf bufferOf testsOf requestNumber event asker passedOver fieldsOf
   request-lawful = record {
     turn = request-turn m buffer;
     number = request-number m buffer;
     listed = request-listed;
     alike = request-alike;
     placed = request-placed;
+    subject-creates = request-creates;
     event-asker = λ e. absurd (true≢false (sym e));
     event-silent = λ e. absurd (true≢false (sym e));
     over-asker = by-test (λ (n : List ℕ). by (headerOf n .host) ≡ by (headerOf m .host)) (deposits (headerOf m .cmd)) (λ d. ap by (over-host m)) (λ d. refl);

@@ -180,7 +180,7 @@ NeverDebugs H P s (c ∷ cs) = NoneDebugs H P s × NeverDebugs H P (step s c .af
 unfoldable pub theirs : Hosts → Processes → Call → Bool
 theirs H P c = isOne H (asker c) && subject P c
 
--- ---- the claim, for a set of hosts and a set of processes
+-- ---- the claim, for a set of hosts and a set of processes, where the same processes stay hidden to the end
 
 -- what a set of hosts is answered does not rest on processes that they do not debug, and their requests naming those could be left out
 pub record Claim (H : Hosts) (P : Processes) : Type 0 where
@@ -199,8 +199,3 @@ pub record Claim (H : Hosts) (P : Processes) : Type 0 where
   -- and at the end
   pub same-end : (s : State) → Ready s → (l : List Call) → NeverDebugs H P s l → (marks : List Bool)
       → final s (leave (theirs H P) marks l) ≡ final s l
-
--- who debugs is told by the calls and their answers, and the claim holds for every set of hosts and of processes
-pub record Isolation : Type 0 where
-  pub debuggers : Debuggers
-  pub claim : (H : Hosts) (P : Processes) → Claim H P

@@ -9,5 +9,6 @@ pub mod Ready
 pub mod Run
 pub mod Isolation
 pub mod Outsider
+pub mod Together
 pub mod Total
 pub mod Rights

@@ -2,8 +2,7 @@
 // includes it.
 ghost use Rattle.rules.specs.Total.{Total};
 ghost use Rattle.rules.specs.Rights.{Rights};
-ghost use Rattle.rules.specs.Isolation.{Isolation};
-ghost use Rattle.rules.specs.Outsider.{Outsiders};
+ghost use Rattle.rules.specs.Together.{Isolation};
 
 // Every call is answered by the number of the first test that fails; a refusal changes nothing; a sound state stays sound.
 pub fn total()
@@ -15,12 +14,8 @@ pub fn rights()
     ensures { λ _. ⌜ Rights ⌝ }
 {}
 
-// Over whole lists of calls, hosts learn nothing of processes that they do not debug, and leave no trace there.
+// Over whole lists of calls, hosts learn nothing of processes that they do not debug, and leave no trace there: any set of hosts and any
+// set of processes, also where one is created again for them; and one host and one process, in the words of the rules.
 pub fn isolation()
     ensures { λ _. ⌜ Isolation ⌝ }
-{}
-
-// The same for one host and one process, in the words of the rules.
-pub fn outsiders()
-    ensures { λ _. ⌜ Outsiders ⌝ }
 {}
