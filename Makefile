@@ -2,13 +2,14 @@
 # make edits     the wrong programs that the gate leaves out; CRATES="process rules" or SINCE=HEAD~3 (the crates changed since then) for some
 # make harmless  harmless changes at the places of the wrong programs, each of which has to be proved; CRATES and SINCE as for `make edits`
 # make model     the library against the model; CALLS=2000000 SEED=7 for a longer run
+# make model-teeth  wrong libraries against the model: the comparison of the gate has to see each of them
 # make bench     instructions a call, stack and code size of the library, beside the model
 # make fuzz      a coverage-guided fuzzer on library and model; SECONDS=600 for a longer run
 # make run       plays the recording examples/handover.txt: each call, and below it what came of it
 
 SECONDS = 60
 
-.PHONY: test edits harmless run model bench fuzz library
+.PHONY: test edits harmless run model model-teeth bench fuzz library
 
 test:
 	@sh checks/gate
@@ -24,6 +25,9 @@ SEED = 1
 
 model:
 	@sh checks/library $(CALLS) $(SEED)
+
+model-teeth:
+	@sh checks/teeth $(CALLS) $(SEED)
 
 library:
 	@sh checks/archive

@@ -1,4 +1,4 @@
-/* A gateway in C over the stub: host 5 debugs process 2, host 6 is refused, and process 2 stops at a breakpoint. */
+/* A gateway in C over the stub, and the desk that asks it: host 5 debugs process 2, host 6 is refused, and process 2 stops at a breakpoint. */
 #include "palustrode.h"
 #include <stdio.h>
 #include <string.h>
@@ -27,17 +27,38 @@ static void show_word(const char *what, int address) {
     printf("%-28s       %02x %02x\n", what, word[0], word[1]);
 }
 
-static void ask(const char *what, const uint8_t *message, size_t length) {
+/* Returns the length of the answer to send: a CAN'T has no string. */
+static size_t ask(const char *what, const uint8_t *message, size_t length) {
     int64_t r = palustrode_request(state, sizeof state, memory, sizeof memory, message, length, out, sizeof out);
-    show(what, r, r >= 0 ? (size_t)r : r <= -7 ? 10 : 0);
+    size_t written = r >= 0 ? (size_t)r : r <= -7 ? PALUSTRODE_HEADER_BYTES : 0;
+    show(what, r, written);
+    return written;
 }
 
-static void report(const char *what, uint8_t kind, uint16_t pc) {
+static void report(const char *what, uint64_t process, uint64_t kind, uint16_t pc) {
     uint8_t words[PALUSTRODE_WORDS_BYTES] = {0};
-    words[2 * PC] = pc & 255;
-    words[2 * PC + 1] = pc >> 8;
-    int64_t r = palustrode_report(state, sizeof state, memory, sizeof memory, 2, kind, 0, words, sizeof words, out, sizeof out);
+    words[2 * PC] = (uint8_t)(pc & 255);
+    words[2 * PC + 1] = (uint8_t)(pc >> 8);
+    int64_t r =
+        palustrode_report(state, sizeof state, memory, sizeof memory, process, kind, 0, words, sizeof words, out, sizeof out);
     show(what, r, r >= 0 ? (size_t)r : 0);
+}
+
+/* The desk's end: host 5 writes a request to process 2, the gateway answers it, and the desk reads the answer. */
+static void desk(const char *what, uint64_t cmd, uint64_t arg1, uint64_t arg2, const uint8_t *string, size_t length) {
+    static uint8_t request[PALUSTRODE_MESSAGE_BYTES];
+    uint16_t f[PALUSTRODE_FIELDS] = {0};
+    int64_t written = palustrode_write_request(5, cmd, 2, arg1, arg2, string, length, request, sizeof request);
+    if (written < 0) {
+        show(what, written, 0);
+        return;
+    }
+    size_t answered = ask(what, request, (size_t)written);
+    int64_t carried = palustrode_read_answer(out, answered, f, PALUSTRODE_FIELDS);
+    printf("%-28s %4lld  host %d, CMD %d, process %d, %d, %d", "  which the desk reads as", (long long)carried, f[PALUSTRODE_HOST],
+           f[PALUSTRODE_CMD], f[PALUSTRODE_PID], f[PALUSTRODE_ARG1], f[PALUSTRODE_ARG2]);
+    for (int64_t i = 0; i < carried; i++) printf("%s %02x", i == 0 ? ":" : "", out[PALUSTRODE_HEADER_BYTES + i]);
+    printf("\n");
 }
 
 /* A request while one byte of the state is wrong, and whether it left everything as it was; then the byte is put right. */
@@ -58,20 +79,26 @@ static void ask_on_wrong(const char *what, uint8_t *byte, uint8_t wrong, const u
 int main(void) {
     static const uint8_t debug5[] = {0, 5, 255, 0, PALUSTRODE_DEBUG, 2, 0, 0, 0, 0};
     static const uint8_t debug6[] = {0, 6, 255, 0, PALUSTRODE_DEBUG, 2, 0, 0, 0, 0};
-    static const uint8_t deposit[] = {0, 5, 255, 0, PALUSTRODE_DEPOSIT, 2, 1, 0, 0, 2, 18, 52};
-    static const uint8_t set[] = {0, 5, 255, 0, PALUSTRODE_BREAK, 2, 1, 0, 0, 1};
-    static const uint8_t examine[] = {0, 5, 255, 0, PALUSTRODE_EXAMINE, 2, 1, 0, 0, 2};
+    static const uint8_t word[] = {18, 52};
     static const uint8_t end[] = {0, 5, 255, 0, PALUSTRODE_END_DEBUG, 2, 0, 0, 0, 0};
 
+    uint16_t fields[PALUSTRODE_FIELDS];
+
+    show("fresh start, process 8", palustrode_fresh_start(1 << 8, state, sizeof state), 0);
     show("fresh start, process 2", palustrode_fresh_start(1 << 2, state, sizeof state), 0);
     ask("host 5 debugs it", debug5, sizeof debug5);
     ask("host 6 asks for it", debug6, sizeof debug6);
-    ask("host 5 deposits 18, 52", deposit, sizeof deposit);
-    ask("breakpoint there, count 1", set, sizeof set);
+    desk("the desk deposits 18, 52", PALUSTRODE_DEPOSIT, 256, sizeof word, word, sizeof word);
+    desk("breakpoint there, count 1", PALUSTRODE_BREAK, 256, 1, word, 0);
     show_word("memory holds", 256);
-    ask("host 5 examines it", examine, sizeof examine);
-    report("BPT there, passed silently", PALUSTRODE_KIND_BPT, 256);
-    report("BPT there, and a notice", PALUSTRODE_KIND_BPT, 256);
+    desk("the desk examines it", PALUSTRODE_EXAMINE, 256, 2, word, 0);
+    desk("an address over 65,535", PALUSTRODE_EXAMINE, 65536 + 256, 2, word, 0);
+    report("BPT there, passed silently", 2, PALUSTRODE_KIND_BPT, 256);
+    report("process 258 has a BPT", 258, PALUSTRODE_KIND_BPT, 256);
+    report("process 2 has kind 258", 2, 258, 256);
+    report("BPT there, and a notice", 2, PALUSTRODE_KIND_BPT, 256);
+    printf("%-28s %4lld\n", "  of which the desk reads",
+           (long long)palustrode_read_answer(out, PALUSTRODE_HEADER_BYTES + PALUSTRODE_WORDS_BYTES, fields, PALUSTRODE_FIELDS));
     ask("a message of no bytes", debug5, 0);
     ask_on_wrong("flag of a breakpoint is 7", process(2) + ENTRIES, 7, debug5, sizeof debug5);
     ask_on_wrong("absent process with a host", process(3) + HOST, 6, debug5, sizeof debug5);

@@ -1,12 +1,13 @@
 //! What the fuzzer runs: its bytes are read as a list of calls, the proved library and the model make each of them, and the program aborts
 //! at the first difference of result, state, memory, message, words or output buffer, or of the bytes around one of them.
 //!
-//! The first byte says which processes are there. Then come records of eight bytes; the low three bits of the first say what it is:
+//! The first byte says which processes are there; in the desk's calls, and where bit 7 of a report asks for it, numbers are wider than their
+//! fields. Then come records of eight bytes; the low three bits of the first say what it is:
 //!
 //!     0 to 2  a request: HOST, CMD, PID, ARG1, ARG2, with the string that its CMD carries
 //!     3       a request of any bytes: a length, and the message from the bytes that follow the record
 //!     4       a machine report
-//!     5       a store by the machine
+//!     5       a store by the machine, or, with bit 4, a call of the desk's end
 //!     6       damage: bytes of the state are changed for the next call
 //!     7       lengths: the next call is lent other lengths
 //!
@@ -19,6 +20,9 @@
 mod library;
 #[path = "../model/compare/sides.rs"]
 mod sides;
+#[allow(dead_code)] // how deep it is gone is not asked here
+#[path = "../model/compare/stack.rs"]
+mod stack;
 
 use model::*;
 use sides::{is_sound, Call, Pair, Side};
@@ -42,7 +46,7 @@ fn compare(call: &Call, pair: &mut Pair) {
 // ---------------------------------------------------------------- guiding
 
 /// The library is not instrumented. The fuzzer also counts as new what it answers to which call in which condition of the process.
-const CALLS: usize = 20;
+const CALLS: usize = 23;
 const ANSWERS: usize = 17;
 const CONDITIONS: usize = 5 * 3;
 
@@ -63,7 +67,8 @@ fn condition(state: &[u8], p: u8) -> usize {
 fn condition_for(call: &Call, state: &[u8]) -> usize {
     match call {
         Call::Request { message } => condition(state, message.get(5).copied().unwrap_or(0)),
-        Call::Report { process, .. } => condition(state, *process),
+        Call::Report { process, .. } => condition(state, *process as u8),
+        _ => 0,
     }
 }
 
@@ -71,7 +76,10 @@ fn note(call: &Call, found: usize, answer: i64) {
     let what = match call {
         Call::Request { message: m } if m.len() >= HEAD => usize::from(m[4]).min(14),
         Call::Request { .. } => 15,
-        Call::Report { kind, .. } => 16 + usize::from(*kind).min(3),
+        Call::Report { kind, .. } => 16 + (*kind).min(3) as usize,
+        Call::Write { .. } => 20,
+        Call::Read { .. } => 21,
+        Call::FreshStart { .. } => 22,
     };
     let answered = match answer {
         1.. => 0,
@@ -159,7 +167,25 @@ fn report_from(r: [u8; 8]) -> Call {
     }
     let mut words: Vec<u8> = (0..VECTOR).map(|i| (i as u8).wrapping_mul(r[7])).collect();
     words[2 * PC..2 * PC + 2].copy_from_slice(&pc.to_le_bytes());
-    Call::Report { process, kind, reason, words }
+    let wide = |n: u64| n | if any { u64::from(r[7] & 1) << (8 + r[7] % 56) } else { 0 };
+    let (process, kind) = (wide(process.into()), kind.into());
+    Call::Report { process, kind, reason: reason.into(), words }
+}
+
+/// A desk's call: bit 6 reads the message that the record would ask with, as an answer; otherwise its fields are written, with bit 7 wider
+/// by one bit.
+fn desk_from(r: [u8; 8]) -> Call {
+    let Call::Request { mut message } = request_from(r) else { unreachable!() };
+    if r[0] & 64 != 0 {
+        message[4] = r[2];
+        return Call::Read { message };
+    }
+    let word = |at: usize| u64::from(u16::from_be_bytes([message[at], message[at + 1]]));
+    let mut fields = [message[1].into(), message[4].into(), message[5].into(), word(6), word(8)];
+    if r[0] & 128 != 0 {
+        fields[usize::from(r[1]) % FIELDS] |= 1 << (r[3] % 64);
+    }
+    Call::Write { fields, string: message.split_off(HEAD) }
 }
 
 /// Changes for the next call alone.
@@ -228,7 +254,7 @@ impl Spoiled {
 fn started(there: u8) -> Pair {
     let memory: Vec<u8> = (0..MEMORY).map(|i| (i / 2 % 251) as u8).collect();
     let mut pair = Pair::new(Side::new(&[1; STATE_BYTES], &memory, &[0xee; LONGEST]));
-    if let Err(text) = pair.fresh_start(there) {
+    if let Err(text) = pair.call(&Call::FreshStart { there: there.into() }) {
         stop(&text);
     }
     pair
@@ -246,6 +272,15 @@ fn make(pair: &mut Pair, mut call: Call, spoiled: Spoiled) {
     if keep {
         *pair = copy;
     }
+}
+
+/// A desk's call, with room for what it writes.
+fn desk(pair: &Pair, call: Call) {
+    let mut copy = pair.clone();
+    if let Call::Read { .. } = call {
+        copy.change(|side| side.output = side.output.resized(2 * FIELDS));
+    }
+    compare(&call, &mut copy);
 }
 
 fn store(pair: &mut Pair, r: [u8; 8]) {
@@ -266,6 +301,7 @@ fn run(data: &[u8]) {
                 make(&mut pair, Call::Request { message }, std::mem::take(&mut spoiled));
             }
             4 => make(&mut pair, report_from(r), std::mem::take(&mut spoiled)),
+            5 if r[0] & 16 != 0 => desk(&pair, desk_from(r)),
             5 => store(&mut pair, r),
             6 => spoiled.damage_from(r),
             _ => spoiled.lengths = Some([r[1], r[2], r[3], r[4]]),

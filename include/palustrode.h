@@ -1,4 +1,4 @@
-/* The debugging stub for firmware in C. docs/EMBEDDING.md says what each byte means. */
+/* The debugging stub for firmware in C, and the desk's end of its protocol. docs/EMBEDDING.md says what each byte means. */
 #ifndef PALUSTRODE_H
 #define PALUSTRODE_H
 
@@ -10,8 +10,14 @@
 #define PALUSTRODE_PROCESS_BYTES 85
 #define PALUSTRODE_ENTRY_BYTES 8
 #define PALUSTRODE_MEMORY_BYTES 32768
-#define PALUSTRODE_MESSAGE_BYTES 266
 #define PALUSTRODE_WORDS_BYTES 18
+
+/* The longest message, which is the least room for any that is written; of it, the bytes before its string. */
+#define PALUSTRODE_MESSAGE_BYTES 266
+#define PALUSTRODE_HEADER_BYTES 10
+
+/* The stack that a call needs, in bytes, what it calls included: 944 were measured on x86-64 (docs/EMBEDDING.md says how). */
+#define PALUSTRODE_STACK_BYTES 1024
 
 /* The op codes of requests, in CMD. A CAN'T has PALUSTRODE_CANT added. */
 #define PALUSTRODE_NOP 0
@@ -37,29 +43,57 @@
 #define PALUSTRODE_KIND_TTRAP 3
 #define PALUSTRODE_NOTICE 64
 
+/* The fields of an answer that was read, by their places among the five. */
+#define PALUSTRODE_FIELDS 5
+#define PALUSTRODE_HOST 0
+#define PALUSTRODE_CMD 1
+#define PALUSTRODE_PID 2
+#define PALUSTRODE_ARG1 3
+#define PALUSTRODE_ARG2 4
+
 #ifdef __cplusplus
 extern "C" {
 #endif
 
 /* Each call returns the length granted, 0 or more, or minus the number of the refusal. Any bytes in the buffers are safe, and any lengths.
+ * Numbers are 64 bits wide, so that none is cut on its way in: one that its field has no room for is refused, with the number named below.
  *
- * What a caller must not do:
- * - lend a pointer that is not valid for its length; nothing is promised of NULL, even with a length of 0;
- * - lend buffers that overlap in one call, least of all the reply where the message is;
- * - make two calls at a time on one state or one memory;
- * - make a request or a report before the first fresh start. */
+ * What a caller must see to, since no call can test it:
+ * - each pointer is valid for the number that follows it: of bytes, and for the five fields of 16-bit words. Nothing is promised of NULL,
+ *   even with a length of 0;
+ * - the buffers lent in one call do not overlap, least of all the reply and the message;
+ * - one call at a time on a state and on its memory: no second thread, and no interrupt that calls while a call is under way;
+ * - the machine stores nothing into memory during a call, and nobody writes into a lent buffer; between calls the machine may store;
+ * - PALUSTRODE_STACK_BYTES of stack are left at a call;
+ * - the first call on a state is a fresh start, or the state is one that such calls left: any other sound state is taken for what it says.
+ *
+ * Buffers of bytes may lie at any address; the fields are aligned as uint16_t is. No call keeps a pointer, allocates or uses other memory
+ * than the stack and what it is lent, so calls on different states with different memories may be made at the same time. */
 
-/* A fresh start: process p is there where bit p of `there` is set. 0, or -1 where the state has not its 680 bytes. */
-int64_t palustrode_fresh_start(uint8_t there, uint8_t *state, size_t state_length);
+/* A fresh start: process p is there where bit p of `there` is set, running, with no host, and the others are not. Every byte of the state is
+ * written, whatever it held; memory is not touched, and stays as it is. 0; or, with nothing written, -1 where the state has not its 680
+ * bytes, and else -7 where a bit above the eighth is set. */
+int64_t palustrode_fresh_start(uint64_t there, uint8_t *state, size_t state_length);
 
 /* A request: any message, and the buffer for its reply. A CAN'T of ten bytes is written where -13 to -7 is returned. */
 int64_t palustrode_request(uint8_t *state, size_t state_length, uint8_t *memory, size_t memory_length,
                            const uint8_t *message, size_t message_length, uint8_t *reply, size_t reply_length);
 
-/* A machine report of one of the four kinds; the nine words R0 to R5, SP, PC, PS as 18 bytes, low byte first. */
-int64_t palustrode_report(uint8_t *state, size_t state_length, uint8_t *memory, size_t memory_length, uint8_t process,
-                          uint8_t kind, uint16_t reason, const uint8_t *words, size_t words_length, uint8_t *notice,
+/* A machine report of one of the four kinds; the nine words R0 to R5, SP, PC, PS as 18 bytes, low byte first. A kind over 3, a reason not 0
+ * with another kind than TRAP, and a reason over 65,535 are refused with -14; a process over 7 with -7. */
+int64_t palustrode_report(uint8_t *state, size_t state_length, uint8_t *memory, size_t memory_length, uint64_t process,
+                          uint64_t kind, uint64_t reason, const uint8_t *words, size_t words_length, uint8_t *notice,
                           size_t notice_length);
+
+/* The desk writes a request with these fields and this string: its length, or -1 (under 266 bytes of room), -3 (a string over 256 bytes),
+ * -4 (a host that is not 1 to 255), -5 (no op code) or -6 (an unused field is not 0, a PID over 255, an argument over 65,535, or a string
+ * of another length than the op code carries). Needs no state. */
+int64_t palustrode_write_request(uint64_t host, uint64_t cmd, uint64_t pid, uint64_t arg1, uint64_t arg2, const uint8_t *string,
+                                 size_t string_length, uint8_t *request, size_t request_length);
+
+/* The desk reads a reply or notice: the length of its string, which stands in the message from its eleventh byte on, and the five fields; or
+ * -1 (not five fields are lent), -3, -4, -5 or -6. Needs no state. */
+int64_t palustrode_read_answer(const uint8_t *message, size_t message_length, uint16_t *fields, size_t fields_count);
 
 #ifdef __cplusplus
 }

@@ -10,7 +10,7 @@
 #![no_main]
 
 use library::*;
-use model::{Run, State, LONGEST, MEMORY, STATE_BYTES, VECTOR, WORDS};
+use model::{Run, State, FIELDS, LONGEST, MEMORY, STATE_BYTES, VECTOR, WORDS};
 use std::arch::asm;
 use std::ffi::{c_char, c_int, CStr};
 use std::hint::black_box;
@@ -35,6 +35,10 @@ enum Step {
         words: [u16; WORDS],
         bytes: [u8; VECTOR],
     },
+    /// The desk writes a request with these fields and this string.
+    Write([u64; FIELDS], Vec<u8>),
+    /// The desk reads an answer.
+    Read(Vec<u8>),
     /// No call: the process is set back to running by one store into the state.
     Run,
 }
@@ -100,6 +104,11 @@ fn rows() -> Vec<Row> {
     rows.push(row("notice", "TRAP report with notice", vec![], back, 28));
     let turn = vec![ask(STRANGER, EXAMINE, P, AT, 16, 0)];
     rows.push(row("stranger", "EXAMINE of 16 by a stranger, refused", vec![], turn, -8));
+    let turn = vec![Step::Write([5, DEPOSIT.into(), 2, AT.into(), 16], vec![7; 16])];
+    rows.push(row("write", "the desk writes DEPOSIT of 16", vec![], turn, 26));
+    let Step::Request(head) = ask(OWNER, EXAMINE, P, AT, 16, 0) else { unreachable!() };
+    let turn = vec![Step::Read([head, vec![7; 16]].concat())];
+    rows.push(row("read", "the desk reads CONTENTS of 16", vec![], turn, 16));
     let session = vec![
         to(DEBUG, 0, 0),
         to(DEPOSIT_STATE_VECTOR, 0, 18),
@@ -125,12 +134,13 @@ struct Gate<S> {
     state: S,
     memory: Vec<u8>,
     output: Vec<u8>,
+    fields: [u16; FIELDS],
 }
 
 impl<S> Gate<S> {
     fn new(state: S) -> Self {
         let memory = (0..MEMORY).map(|i| (i % 251) as u8).collect();
-        Gate { state, memory, output: vec![0; LONGEST] }
+        Gate { state, memory, output: vec![0; LONGEST], fields: [0; FIELDS] }
     }
 }
 
@@ -167,7 +177,7 @@ const RUN_AT: usize = model::RECORD_BYTES * P as usize + 2;
 
 impl Side for Library {
     fn make(&mut self, step: &Step) -> i64 {
-        let Gate { state, memory, output } = &mut self.0;
+        let Gate { state, memory, output, fields } = &mut self.0;
         let (s, m, o) = (state.as_mut_ptr(), memory.as_mut_ptr(), output.as_mut_ptr());
         match step {
             Step::Request(a) => unsafe {
@@ -175,7 +185,17 @@ impl Side for Library {
             },
             Step::Report { kind, bytes: w, .. } => unsafe {
                 let w = w.as_ptr();
-                palustrode_report(s, STATE_BYTES, m, MEMORY, P, *kind, 0, w, VECTOR, o, LONGEST)
+                let (p, k) = (P.into(), (*kind).into());
+                palustrode_report(s, STATE_BYTES, m, MEMORY, p, k, 0, w, VECTOR, o, LONGEST)
+            },
+            Step::Write([host, cmd, pid, arg1, arg2], string) => unsafe {
+                let (string, length) = (string.as_ptr(), string.len());
+                palustrode_write_request(
+                    *host, *cmd, *pid, *arg1, *arg2, string, length, o, LONGEST,
+                )
+            },
+            Step::Read(a) => unsafe {
+                palustrode_read_answer(a.as_ptr(), a.len(), fields.as_mut_ptr(), FIELDS)
             },
             Step::Run => {
                 state[RUN_AT] = 0;
@@ -189,14 +209,26 @@ impl Side for Library {
     }
 }
 
+/// The desk's calls by the model, which need no state.
+fn by_desk(step: &Step, output: &mut [u8], fields: &mut [u16]) -> i64 {
+    match step {
+        Step::Write([host, cmd, pid, arg1, arg2], string) => {
+            model::write_request(*host, *cmd, *pid, *arg1, *arg2, string, output)
+        }
+        Step::Read(message) => model::read_answer(message, fields),
+        _ => 0,
+    }
+}
+
 impl Side for Bytes {
     fn make(&mut self, step: &Step) -> i64 {
-        let Gate { state, memory, output } = &mut self.0;
+        let Gate { state, memory, output, fields } = &mut self.0;
         match step {
             Step::Request(message) => model::request_bytes(state, memory, message, output),
             Step::Report { kind, bytes, .. } => {
-                model::report_bytes(state, memory, P, *kind, 0, bytes, output)
+                model::report_bytes(state, memory, P.into(), (*kind).into(), 0, bytes, output)
             }
+            Step::Write(..) | Step::Read(..) => by_desk(step, output, fields),
             Step::Run => {
                 state[RUN_AT] = 0;
                 0
@@ -211,12 +243,13 @@ impl Side for Bytes {
 
 impl Side for Typed {
     fn make(&mut self, step: &Step) -> i64 {
-        let Gate { state, memory, output } = &mut self.0;
+        let Gate { state, memory, output, fields } = &mut self.0;
         match step {
             Step::Request(message) => model::request(state, memory, message, output),
             Step::Report { kind, words, .. } => {
-                model::report(state, memory, P, *kind, 0, words, output)
+                model::report(state, memory, P.into(), (*kind).into(), 0, words, output)
             }
+            Step::Write(..) | Step::Read(..) => by_desk(step, output, fields),
             Step::Run => {
                 state.processes[usize::from(P)].run = Run::Running;
                 0
@@ -234,6 +267,8 @@ impl Side for Empty {
         match step {
             Step::Request(message) => black_box(message.len()) as i64,
             Step::Report { kind, .. } => i64::from(black_box(*kind)),
+            Step::Write(_, string) => black_box(string.len()) as i64,
+            Step::Read(message) => black_box(message.len()) as i64,
             Step::Run => {
                 self.0.state[RUN_AT] = 0;
                 0
@@ -248,7 +283,7 @@ impl Side for Empty {
 
 fn fresh_bytes() -> [u8; STATE_BYTES] {
     let mut state = [0; STATE_BYTES];
-    unsafe { palustrode_fresh_start(THERE, state.as_mut_ptr(), STATE_BYTES) };
+    unsafe { palustrode_fresh_start(THERE.into(), state.as_mut_ptr(), STATE_BYTES) };
     state
 }
 

@@ -8,7 +8,7 @@ use model::*;
 pub const HOSTS: [u8; 3] = [5, 6, 7];
 
 /// Numbers at the edges of the paper's ranges.
-const EDGES: [u16; 18] =
+pub const EDGES: [u16; 18] =
     [0, 1, 2, 16, 17, 18, 255, 256, 257, 4092, 4093, 4094, 4095, 4096, 4097, 32768, 65534, 65535];
 
 /// Ranges of memory, first byte and count, at the edges of what is granted. A
@@ -71,7 +71,7 @@ fn some_process(random: &mut Random, state: &State, test: impl Fn(&Process) -> b
     }
     match random.below(16) {
         0 => random.pick(&[8, 9, 10, 15, 16, 127, 128, 254, 255]),
-        1 => random.byte(),
+        1 => random.free_byte(),
         _ => random.below(8) as u8,
     }
 }
@@ -98,7 +98,7 @@ fn process_for(random: &mut Random, state: &State, cmd: u8) -> u8 {
 }
 
 /// A well-formed request, mostly one that can be granted.
-fn make_request(random: &mut Random, state: &State, mood: &Mood) -> Vec<u8> {
+pub fn make_request(random: &mut Random, state: &State, mood: &Mood) -> Vec<u8> {
     let cmd = random.weighted(&mood.weights) as u8;
     let pid = match cmd {
         NOP | CREATE_PROCESS => 0,
@@ -118,8 +118,18 @@ fn make_request(random: &mut Random, state: &State, mood: &Mood) -> Vec<u8> {
 fn some_host(random: &mut Random, debugging: u8) -> u8 {
     match random.below(24) {
         0 => random.pick(&[0, 1, 4, 8, 254, 255]),
-        1..=5 => random.pick(&HOSTS),
+        1 => random.free_byte(),
+        2..=5 => random.pick(&HOSTS),
         _ if debugging != NOBODY => debugging,
+        _ => new_host(random),
+    }
+}
+
+/// A host for a process that nobody debugs: one of a few, so that they meet, or
+/// any but nobody.
+pub fn new_host(random: &mut Random) -> u8 {
+    match random.below(4) {
+        0 => random.free_byte().max(1),
         _ => random.pick(&HOSTS),
     }
 }
@@ -137,7 +147,11 @@ fn make_arguments(random: &mut Random, process: &Process, cmd: u8) -> (u16, u16,
         DEPOSIT_STATE_VECTOR => vector_arguments(random, process),
         BREAK => {
             let address = breakpoint_address(random, process);
-            (address, random.pick(&[0, 0, 1, 1, 2, 3, 256, 65535]), Vec::new())
+            let count = match random.below(8) {
+                0 => random.free_word(),
+                _ => random.pick(&[0, 0, 1, 1, 2, 3, 256, 65535]),
+            };
+            (address, count, Vec::new())
         }
         UNBREAK if random.one_in(2) => (used_address(random, process), 0, Vec::new()),
         UNBREAK => (some_address(random, process), 0, Vec::new()),
@@ -162,9 +176,10 @@ fn some_string(random: &mut Random, count: u16) -> Vec<u8> {
 
 /// Mostly one that a string can have.
 fn some_count(random: &mut Random) -> u16 {
-    match random.below(4) {
+    match random.below(8) {
         0 => random.pick(&EDGES),
-        1 => random.below(257) as u16,
+        1 => random.free_word(),
+        2 | 3 => random.below(257) as u16,
         _ => random.pick(&[0, 1, 1, 2, 2, 3, 4, 8, 64, 255, 256]),
     }
 }
@@ -230,7 +245,8 @@ pub fn used_address(random: &mut Random, process: &Process) -> u16 {
 /// An address at or beside a breakpoint, in a small range, or at an edge.
 fn some_address(random: &mut Random, process: &Process) -> u16 {
     match random.below(8) {
-        0 | 1 => random.pick(&EDGES),
+        0 => random.pick(&EDGES),
+        1 => random.free_word(),
         2..=4 => {
             let address = used_address(random, process);
             address.wrapping_add(random.pick(&[0, 0, 0, 1, 1, 2, u16::MAX]))
@@ -246,41 +262,50 @@ pub fn breakpoint_address(random: &mut Random, process: &Process) -> u16 {
     match random.below(8) {
         0 => used_address(random, process),
         1 => random.pick(&EDGES),
-        2 => random.word(),
+        2 => random.free_word(),
         3 => 2 * random.below(SPACE / 2) as u16,
         _ => 2 * random.below(24) as u16,
     }
 }
 
-/// Breaks the layout of a message in one place.
-fn spoil_message(random: &mut Random, message: &mut Vec<u8>) {
-    let choice = random.below(13);
+/// Breaks the layout of a message in one place, by a telling value or by any.
+pub fn spoil_message(random: &mut Random, message: &mut Vec<u8>) {
+    let choice = random.below(14);
     if message.len() < HEAD {
         return;
     }
+    let mut byte = |telling: &[u8]| match random.below(2) {
+        0 => random.pick(telling),
+        _ => random.free_byte(),
+    };
     match choice {
         0 => message.truncate(random.below(HEAD)),
-        1 => message.resize(LONGEST + random.pick(&[0, 1, 2, 34, 1000]), 1),
-        2 => message[0] = random.pick(&[1, 4, 128, 255]),
-        3 => message[1] = 0,
-        4 => message[2] = random.pick(&[0, 1, 127, 254]),
-        5 => message[3] = random.pick(&[1, 2, 128, 255]),
-        6 => message[4] = random.pick(&[14, 15, 16, 63, 64, 66, 127, 128, 129, 141, 142, 255]),
+        1 => message.resize(LONGEST + random.length(&[0, 1, 2, 34, 1000], 2000), 1),
+        2 => message[0] = byte(&[1, 4, 128, 255]),
+        3 => message[1] = byte(&[0]),
+        4 => message[2] = byte(&[0, 1, 127, 254]),
+        5 => message[3] = byte(&[1, 2, 128, 255]),
+        6 => message[4] = byte(&[14, 15, 16, 63, 64, 66, 127, 128, 129, 141, 142, 255]),
         7 => message[4] = random.below(14) as u8,
-        8 => message[5] = random.pick(&[0, 1, 7, 8, 255]),
-        9 => message[6..8].copy_from_slice(&random.pick(&EDGES).to_be_bytes()),
-        10 => message[8..10].copy_from_slice(&random.pick(&EDGES).to_be_bytes()),
+        8 => message[5] = byte(&[0, 1, 7, 8, 255]),
+        9 | 10 => {
+            let at = if choice == 9 { 6 } else { 8 };
+            let word = if random.one_in(2) { random.pick(&EDGES) } else { random.free_word() };
+            message[at..at + 2].copy_from_slice(&word.to_be_bytes());
+        }
         11 => message.push(random.byte()),
+        12 => message.resize(random.below(LONGEST + 1), 2),
         _ => message.truncate(HEAD.max(message.len() - 1)),
     }
 }
 
 fn make_report(random: &mut Random, state: &State) -> Call {
     let kind = match random.below(32) {
-        0 => random.pick(&[4, 5, 64, 66, 128, 255]),
-        1..=3 => TRAP,
-        4 | 5 => HALT,
-        6..=24 => BPT,
+        0 if random.one_in(2) => random.pick(&[4, 5, 64, 66, 128, 255]),
+        0 => random.free_byte(),
+        1..=4 => TRAP,
+        5 | 6 => HALT,
+        7..=24 => BPT,
         _ => TTRAP,
     };
     // rather one with breakpoints than any
@@ -290,13 +315,26 @@ fn make_report(random: &mut Random, state: &State) -> Call {
         p.there && fits && (!narrow || p.breakpoints.iter().any(|b| b.used))
     });
     let reason = match kind {
+        TRAP if random.one_in(2) => random.free_word(),
         TRAP => random.pick(&[0, 1, 4, 255, 256, 257, 4660, 65535]),
         _ if random.one_in(10) => random.pick(&[1, 256, 65535]),
+        _ if random.one_in(10) => random.free_word(),
         _ => 0,
     };
     let mut words = [0; WORDS];
     words.fill_with(|| random.word());
     words[PC] = report_pc(random, &state.processes[usize::from(process) % PROCESSES]);
+    let (mut process, mut kind, mut reason) = (process.into(), kind.into(), reason.into());
+    // at times a number that has no room in its field, or any number
+    match random.below(48) {
+        0 => process = random.beyond(8, process),
+        1 => process = random.free(64),
+        2 => kind = random.beyond(8, kind),
+        3 => kind = random.free(64),
+        4 => reason = random.beyond(16, reason),
+        5 => reason = random.free(64),
+        _ => {}
+    }
     Call::Report { process, kind, reason, words: vector_bytes(&words).to_vec() }
 }
 
@@ -310,9 +348,11 @@ fn report_pc(random: &mut Random, process: &Process) -> u16 {
 
 /// An output buffer with random bytes in it, often longer than it need be.
 pub fn some_output(random: &mut Random) -> Vec<u8> {
-    let more = match random.below(4) {
-        0 => random.below(400),
-        1 => 1,
+    let more = match random.below(16) {
+        0..=3 => random.below(400),
+        4..=7 => 1,
+        8 => random.length(&[1000, 4096], 4000),
+        9 if random.one_in(8) => random.below(70_000),
         _ => 0,
     };
     random.bytes(LONGEST + more)

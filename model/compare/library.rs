@@ -2,7 +2,7 @@
 //! the measurement use this too.
 
 extern "C" {
-    pub fn palustrode_fresh_start(there: u8, state: *mut u8, state_len: usize) -> i64;
+    pub fn palustrode_fresh_start(there: u64, state: *mut u8, state_len: usize) -> i64;
     pub fn palustrode_request(
         state: *mut u8,
         state_len: usize,
@@ -18,12 +18,29 @@ extern "C" {
         state_len: usize,
         memory: *mut u8,
         memory_len: usize,
-        process: u8,
-        kind: u8,
-        reason: u16,
+        process: u64,
+        kind: u64,
+        reason: u64,
         words: *const u8,
         words_len: usize,
         notice: *mut u8,
         notice_len: usize,
+    ) -> i64;
+    pub fn palustrode_write_request(
+        host: u64,
+        cmd: u64,
+        pid: u64,
+        arg1: u64,
+        arg2: u64,
+        string: *const u8,
+        string_len: usize,
+        request: *mut u8,
+        request_len: usize,
+    ) -> i64;
+    pub fn palustrode_read_answer(
+        message: *const u8,
+        message_len: usize,
+        fields: *mut u16,
+        fields_count: usize,
     ) -> i64;
 }

@@ -1,31 +1,44 @@
-//! Compares a library with the model, call by call, on random call lists.
+//! Compares a library with the model, call by call, on random call lists and on
+//! every value of each field.
 //!
 //! Arguments: the number of calls (200000 if not given), which are made without
 //! damage to the state and as many again with it; a seed (1 if not given); and
-//! the word `each`, with which every call is printed before it is made (should
-//! the library not come back from one). The same seed always gives the same
+//! the word `each`, with which every call of the lists is printed before it is made
+//! (should the library not come back from one). The same seed always gives the same
 //! calls. The program ends with 1 at the first difference, and with 1 if a kind
-//! of answer that the paper makes possible, or one of the passages that are
-//! counted, was never met; otherwise with 0.
+//! of answer that the paper makes possible, or one of the passages or values that
+//! are counted, was never met; otherwise with 0.
 //!
 //! The library is given to the linker (`-L DIR -l static=palustrode`); with the
-//! feature `standin` the model itself takes its place. If the library was built
-//! by another compiler, or has a panic handler of its own, the linker needs
+//! feature `standin` the model itself takes its place, and with the word `wrong` in
+//! place of `each` there is a comparison for each wrong library of `wrong.rs`: the
+//! program ends with 0 if each of them was seen. If the library was built by another compiler, or has a
+//! panic handler of its own, the linker needs
 //! `-C link-arg=-Wl,--allow-multiple-definition` besides.
 
 mod calls;
+mod desk;
 mod library;
 mod passages;
 mod random;
 mod run;
 mod sides;
+mod stack;
 #[cfg(feature = "standin")]
 mod standin;
 mod states;
+mod sweeps;
 mod table;
+mod values;
+#[cfg(feature = "standin")]
+mod wrong;
 
 use run::Comparison;
 use std::process::ExitCode;
+
+/// The stack that include/palustrode.h says a call needs. The model in the library's
+/// place may need any.
+const STACK: usize = if cfg!(feature = "standin") { usize::MAX } else { 1024 };
 
 fn main() -> ExitCode {
     let mut arguments = std::env::args().skip(1);
@@ -37,7 +50,12 @@ fn main() -> ExitCode {
         eprintln!("arguments: [number of calls] [seed] [each]");
         return ExitCode::from(2);
     };
-    let print_each = arguments.next().is_some_and(|word| word == "each");
+    let word = arguments.next();
+    #[cfg(feature = "standin")]
+    if word.as_deref() == Some("wrong") {
+        return if wrong::all_seen(limit, seed) { ExitCode::SUCCESS } else { ExitCode::from(1) };
+    }
+    let print_each = word.as_deref() == Some("each");
     let mut comparison = Comparison::new(seed, print_each);
     if let Err(text) = comparison.run(limit) {
         println!("{text}\nseed {seed}, call number {}", comparison.calls);
@@ -45,6 +63,12 @@ fn main() -> ExitCode {
     }
     let wrong = comparison.print();
     println!("\n{} calls, seed {seed}: no difference", comparison.calls);
+    let deepest = stack::deepest();
+    println!("the deepest stack of a call: {deepest} bytes");
+    if deepest > STACK {
+        println!("but include/palustrode.h names {STACK}");
+        return ExitCode::from(1);
+    }
     if !wrong.is_empty() {
         println!("but possible and never met, or met and impossible:\n{}", wrong.join("\n"));
         return ExitCode::from(1);

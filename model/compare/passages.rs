@@ -155,9 +155,9 @@ impl<'a> About<'a> {
     fn new(state: &'a State, memory: &'a [u8], call: &Call) -> About<'a> {
         match call {
             Call::Report { process, kind, words, .. } => {
-                let about = About::process(state, memory, *process);
+                let about = About::process(state, memory, (*process).min(255) as u8);
                 let pc = u16::from_le_bytes([words[2 * PC], words[2 * PC + 1]]);
-                About { kind: Some(*kind), pc, ..about }
+                About { kind: Some((*kind).min(255) as u8), pc, ..about }
             }
             Call::Request { message: m } => {
                 let cmd = cmd_of(m);
@@ -166,6 +166,7 @@ impl<'a> About<'a> {
                 let about = About::process(state, memory, byte(5));
                 About { length: m.len(), cmd, first: word(6), count: word(8), ..about }
             }
+            _ => About::process(state, memory, 0),
         }
     }
 

@@ -27,6 +27,42 @@ impl Random {
         self.next() as u16
     }
 
+    /// Any number of so many bits: each as likely as another, or one of few bits,
+    /// one beside a power of two, or a round one, which wrong programs rather
+    /// treat apart.
+    pub fn free(&mut self, bits: u32) -> u64 {
+        let n = match self.below(4) {
+            0 => self.next(),
+            1 => self.next() >> self.below(64),
+            2 => (1u64 << self.below(bits as usize)).wrapping_add(self.pick(&[0, 0, 1, u64::MAX])),
+            _ => (1 + self.below(99) as u64) * 10u64.pow(self.below(5) as u32),
+        };
+        n & u64::MAX >> (64 - bits)
+    }
+
+    pub fn free_byte(&mut self) -> u8 {
+        self.free(8) as u8
+    }
+
+    pub fn free_word(&mut self) -> u16 {
+        self.free(16) as u16
+    }
+
+    /// A number that has no room in so many bits. If it is cut to them, it is the
+    /// one given.
+    pub fn beyond(&mut self, bits: u32, n: u64) -> u64 {
+        n | 1 << (bits as usize + self.below(64 - bits as usize))
+    }
+
+    /// A length from the list, or any up to the most.
+    pub fn length(&mut self, telling: &[usize], most: usize) -> usize {
+        match self.below(4) {
+            0 | 1 => self.pick(telling),
+            2 => self.below(most + 1),
+            _ => self.free(32) as usize % (most + 1),
+        }
+    }
+
     pub fn pick<T: Copy>(&mut self, from: &[T]) -> T {
         from[self.below(from.len())]
     }

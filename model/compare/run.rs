@@ -1,4 +1,5 @@
-//! The run: lists of calls, each on what the one before left, and what was met.
+//! The run: lists of calls, each on what the one before left, then every value of
+//! each field, and what was met.
 //!
 //! A list begins with a fresh start. First come lists without damage, then lists
 //! in which the bytes of the state are damaged now and then, in some from the
@@ -7,12 +8,15 @@
 //! back. Calls on damaged states, and on what follows from them, are counted
 //! apart.
 
-use crate::calls::{make_call, some_output, used_address, Mood, MOODS};
+use crate::calls::{make_call, make_request, some_output, used_address, Mood, MOODS};
+use crate::desk::make_desk_call;
 use crate::passages::{self, open, Open, Passages};
 use crate::random::Random;
-use crate::sides::{describe, is_sound, Call, Lent, Pair, Side};
+use crate::sides::{describe, is_sound, Call, Lent, Pair, Side, GUARD};
 use crate::states::{damage_state, some_sound_state};
-use crate::table::Table;
+use crate::sweeps::Sweep;
+use crate::table::{DeskTable, Table};
+use crate::values::Values;
 use model::*;
 
 /// What was met, on states that a fresh start leads to or on damaged ones.
@@ -37,6 +41,8 @@ pub struct Comparison {
     /// Whether the list goes on from a damaged state.
     damaged: bool,
     met: [Met; 2],
+    desk: DeskTable,
+    values: Values,
 }
 
 impl Comparison {
@@ -48,14 +54,21 @@ impl Comparison {
             print_each,
             damaged: false,
             met: [false, true].map(Met::new),
+            desk: DeskTable::new(),
+            values: Values::new(),
         }
     }
 
-    /// Makes so many calls in lists without damage, and as many in lists with
-    /// it: nothing, or the first difference.
+    /// Makes so many calls in lists without damage, as many in lists with it, and
+    /// then those with every value: nothing, or the first difference.
     pub fn run(&mut self, limit: u64) -> Result<(), String> {
         self.lists(limit, false)?;
-        self.lists(2 * limit, true)
+        self.lists(2 * limit, true)?;
+        let (calls, desk) = (&mut self.calls, &mut self.desk);
+        Sweep::all(&mut |call, _, answer| {
+            *calls += 1;
+            desk.count(call, answer);
+        })
     }
 
     /// Lists up to so many calls in all.
@@ -80,8 +93,9 @@ impl Comparison {
             self.stores();
             self.calls += 1;
             match self.random.below(40) {
-                0 => self.call_with_wrong_buffers(mood)?,
-                1..=8 if with_damage => self.call_on_damage(mood)?,
+                0 | 1 => self.call_with_wrong_buffers(mood)?,
+                2..=5 => self.desk_call(mood)?,
+                6..=13 if with_damage => self.call_on_damage(mood)?,
                 _ => self.call(mood)?,
             }
         }
@@ -89,35 +103,47 @@ impl Comparison {
     }
 
     /// A fresh start into a buffer with random bytes in it, at times after one
-    /// into a buffer of another length.
+    /// that is refused.
     fn start(&mut self) -> Result<(), String> {
         let there = match self.random.below(6) {
             0 => 0,
             1 => 255,
-            _ => self.random.byte(),
+            _ => u64::from(self.random.byte()),
         };
         if self.random.one_in(4) {
-            let length = self.random.pick(&[0, 1, 85, 679, 681, 1360]);
+            let length = self.random.length(&[0, 1, 85, 679, 681, 1360], 2000);
             self.fresh_start(there, length)?;
+        }
+        if self.random.one_in(4) {
+            let wide = [self.random.beyond(8, there), self.random.free(64)];
+            let wide = self.random.pick(&wide);
+            self.fresh_start(wide, STATE_BYTES)?;
         }
         self.fresh_start(there, STATE_BYTES)?;
         let mut memory = vec![0; MEMORY];
         if !self.random.one_in(4) {
             self.random.fill(&mut memory);
         }
-        self.pair.change(|side| side.memory = Lent::new(&memory));
+        let offset = self.offset();
+        self.pair.change(|side| side.memory = Lent::new(&memory, offset));
         self.damaged = false;
         Ok(())
     }
 
-    fn fresh_start(&mut self, there: u8, length: usize) -> Result<(), String> {
+    fn fresh_start(&mut self, there: u64, length: usize) -> Result<(), String> {
         let state = self.random.bytes(length);
         self.lend_state(&state);
-        self.pair.fresh_start(there)
+        self.compare(&Call::FreshStart { there }, None)
+    }
+
+    /// Where a buffer is to lie.
+    fn offset(&mut self) -> usize {
+        self.random.below(GUARD)
     }
 
     fn lend_state(&mut self, state: &[u8]) {
-        self.pair.change(|side| side.state = Lent::new(state));
+        let offset = self.offset();
+        self.pair.change(|side| side.state = Lent::new(state, offset));
     }
 
     fn state_bytes(&self) -> &[u8] {
@@ -160,6 +186,35 @@ impl Comparison {
         self.lend_output();
         let open = open(&state, self.pair.model.memory.bytes(), &call);
         self.compare(&call, Some(&open))
+    }
+
+    /// A call of the desk's end: a request is written, or an answer read, often the
+    /// one before.
+    fn desk_call(&mut self, mood: &Mood) -> Result<(), String> {
+        let state = self.state();
+        let request = make_request(&mut self.random, &state, mood);
+        let last = self.pair.model.output.bytes();
+        let length = if last.get(4) == Some(&EXAMINE) { LONGEST } else { HEAD };
+        let answer = last[..length.min(last.len())].to_vec();
+        let call = make_desk_call(&mut self.random, &request, &answer);
+        match call {
+            Call::Read { .. } => self.lend_fields(),
+            _ => self.lend_output(),
+        }
+        if self.random.one_in(16) {
+            let length = self.random.length(&[0, 1, 9, 10, 27, 28, 265], 265) & !1;
+            self.pair.change(|side| side.output = side.output.resized(length));
+        }
+        self.compare(&call, None)?;
+        self.lend_output();
+        Ok(())
+    }
+
+    /// Five words, or at times another number of them.
+    fn lend_fields(&mut self) {
+        let count = if self.random.one_in(16) { self.random.below(40) } else { FIELDS };
+        let (bytes, offset) = (self.random.bytes(2 * count), self.offset() & !1);
+        self.pair.change(|side| side.output = Lent::new(&bytes, offset));
     }
 
     /// A call on damaged bytes. Where they are those of a sound state the list
@@ -209,14 +264,14 @@ impl Comparison {
         let random = &mut self.random;
         match (random.below(3), call) {
             (0, _) => {
-                let length = random.pick(&[0, 1, 4096, 32767, 32769, 65536]);
+                let length = random.length(&[0, 1, 4096, 32767, 32769, 65536], 100_000);
                 self.pair.change(|side| side.memory = side.memory.resized(length));
             }
             (1, Call::Report { words, .. }) => {
-                words.resize(random.pick(&[0, 1, 16, 17, 19, 20, 36]), 0);
+                words.resize(random.length(&[0, 1, 16, 17, 19, 20, 36], 100), 0);
             }
             _ => {
-                let length = random.pick(&[0, 1, 9, 10, 27, 28, 265]);
+                let length = random.length(&[0, 1, 9, 10, 27, 28, 265], 265);
                 self.pair.change(|side| side.output = side.output.resized(length));
             }
         }
@@ -224,7 +279,8 @@ impl Comparison {
 
     fn lend_output(&mut self) {
         let output = some_output(&mut self.random);
-        self.pair.change(|side| side.output = Lent::new(&output));
+        let offset = self.offset();
+        self.pair.change(|side| side.output = Lent::new(&output, offset));
     }
 
     /// Makes the call on both sides and counts what was met.
@@ -232,7 +288,11 @@ impl Comparison {
         if self.print_each {
             println!("{} {}", self.calls, describe(call, &self.pair.model));
         }
+        let offset = self.offset();
+        self.pair.change(|side| side.input = Lent::new(&[], offset));
         let answer = self.pair.call(call)?;
+        self.desk.count(call, answer);
+        self.values.count(call, &self.pair.model, answer);
         let met = self.met();
         met.table.count(call, answer);
         if let Some(open) = open {
@@ -252,10 +312,13 @@ impl Comparison {
         println!("\n   fresh  damaged");
         passages::print(&fresh.passages, &damaged.passages);
         println!("{:>8} {:>8}  store into a planted word", fresh.stores, damaged.stores);
+        self.desk.print();
+        self.values.print();
         let mut wrong = passages::wrong(&fresh.passages, &damaged.passages);
         if fresh.stores == 0 || damaged.stores == 0 {
             wrong.push("store into a planted word".to_string());
         }
-        [fresh.table.wrong(), damaged.table.wrong(), wrong].concat()
+        [fresh.table.wrong(), damaged.table.wrong(), self.desk.wrong(), self.values.wrong(), wrong]
+            .concat()
     }
 }

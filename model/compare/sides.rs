@@ -2,56 +2,87 @@
 //! the comparison of all that they leave. The fuzzer uses this too.
 
 use crate::library::*;
+use crate::stack::on_painted;
 use model::*;
 
 pub enum Call {
+    FreshStart { there: u64 },
     Request { message: Vec<u8> },
-    Report { process: u8, kind: u8, reason: u16, words: Vec<u8> },
+    Report { process: u64, kind: u64, reason: u64, words: Vec<u8> },
+    Write { fields: [u64; FIELDS], string: Vec<u8> },
+    Read { message: Vec<u8> },
 }
 
 impl Call {
-    /// The message, or the words.
-    fn input(&self) -> &[u8] {
+    /// The message, the words or the string.
+    pub fn input(&self) -> &[u8] {
         match self {
-            Call::Request { message } => message,
+            Call::FreshStart { .. } => &[],
+            Call::Request { message } | Call::Read { message } => message,
             Call::Report { words, .. } => words,
+            Call::Write { string, .. } => string,
         }
     }
 }
 
 // ---------------------------------------------------------------- buffers
 
-/// Bytes in front of and behind each lent buffer, which no call may touch.
-const GUARD: usize = 64;
+/// Bytes in front of and behind each lent buffer, which no call may touch; and how
+/// a buffer's memory is aligned.
+pub const GUARD: usize = 64;
 
-/// A lent buffer between its guard bytes.
+#[derive(Clone, Copy, PartialEq)]
+#[repr(C, align(64))]
+struct Line([u8; GUARD]);
+
+/// A lent buffer between its guard bytes, at any offset from an aligned address.
 #[derive(Clone, PartialEq)]
-pub struct Lent(Vec<u8>);
+pub struct Lent {
+    lines: Vec<Line>,
+    offset: usize,
+    length: usize,
+}
 
 impl Lent {
-    pub fn new(bytes: &[u8]) -> Lent {
-        Lent([&[0x5a; GUARD], bytes, &[0x5a; GUARD]].concat())
+    pub fn new(bytes: &[u8], offset: usize) -> Lent {
+        let lines = (GUARD + offset + bytes.len() + GUARD).div_ceil(GUARD);
+        let lines = vec![Line([0x5a; GUARD]); lines];
+        let mut lent = Lent { lines, offset: offset % GUARD, length: bytes.len() };
+        lent.change().copy_from_slice(bytes);
+        lent
+    }
+
+    /// All its bytes, those around it included.
+    fn all(&self) -> &[u8] {
+        let first = self.lines.as_ptr().cast();
+        unsafe { std::slice::from_raw_parts(first, GUARD * self.lines.len()) }
     }
 
     pub fn bytes(&self) -> &[u8] {
-        &self.0[GUARD..self.0.len() - GUARD]
+        &self.all()[GUARD + self.offset..][..self.length]
     }
 
     pub fn change(&mut self) -> &mut [u8] {
-        let end = self.0.len() - GUARD;
-        &mut self.0[GUARD..end]
+        let first = self.lines.as_mut_ptr().cast();
+        let all = unsafe { std::slice::from_raw_parts_mut(first, GUARD * self.lines.len()) };
+        &mut all[GUARD + self.offset..][..self.length]
+    }
+
+    pub fn offset(&self) -> usize {
+        self.offset
     }
 
     /// A copy with another length.
     pub fn resized(&self, length: usize) -> Lent {
         let mut bytes = self.bytes().to_vec();
         bytes.resize(length, 0);
-        Lent::new(&bytes)
+        Lent::new(&bytes, self.offset)
     }
 }
 
-/// The buffers lent to one of the two; `input` is the message or the words,
-/// `output` the reply or the notice.
+/// The buffers lent to one of the two; `input` is the message, the words or the
+/// string, `output` the reply, the notice or the request, or the fields that are
+/// read, two bytes each.
 #[derive(Clone)]
 pub struct Side {
     pub state: Lent,
@@ -62,32 +93,62 @@ pub struct Side {
 
 impl Side {
     pub fn new(state: &[u8], memory: &[u8], output: &[u8]) -> Side {
-        let [state, memory, output] = [state, memory, output].map(Lent::new);
-        Side { state, memory, input: Lent::new(&[]), output }
+        let [state, memory, input, output] =
+            [state, memory, &[], output].map(|bytes| Lent::new(bytes, 0));
+        Side { state, memory, input, output }
     }
 
     fn by_model(&mut self, call: &Call) -> i64 {
         let (s, m, i, o) =
             (self.state.change(), self.memory.change(), self.input.bytes(), self.output.change());
         match *call {
+            Call::FreshStart { there } => fresh_start_bytes(there, s),
             Call::Request { .. } => request_bytes(s, m, i, o),
             Call::Report { process, kind, reason, .. } => {
                 report_bytes(s, m, process, kind, reason, i, o)
             }
+            Call::Write { fields: [host, cmd, pid, arg1, arg2], .. } => {
+                write_request(host, cmd, pid, arg1, arg2, i, o)
+            }
+            Call::Read { .. } => {
+                let pairs = o.chunks_exact(2);
+                let mut fields: Vec<u16> =
+                    pairs.map(|pair| u16::from_ne_bytes([pair[0], pair[1]])).collect();
+                let answer = read_answer(i, &mut fields);
+                for (pair, field) in o.chunks_exact_mut(2).zip(fields) {
+                    pair.copy_from_slice(&field.to_ne_bytes());
+                }
+                answer
+            }
         }
     }
 
+    /// The call, on the painted stack.
     fn by_library(&mut self, call: &Call) -> i64 {
+        let mut answer = 0;
+        on_painted(&mut || answer = self.by_library_here(call));
+        answer
+    }
+
+    fn by_library_here(&mut self, call: &Call) -> i64 {
         let (s, m, i, o) =
             (self.state.change(), self.memory.change(), self.input.change(), self.output.change());
         let (s_len, m_len, i_len, o_len) = (s.len(), m.len(), i.len(), o.len());
         let (s, m, i, o) = (s.as_mut_ptr(), m.as_mut_ptr(), i.as_mut_ptr(), o.as_mut_ptr());
         match *call {
+            Call::FreshStart { there } => unsafe { palustrode_fresh_start(there, s, s_len) },
             Call::Request { .. } => unsafe {
                 palustrode_request(s, s_len, m, m_len, i, i_len, o, o_len)
             },
             Call::Report { process: p, kind: k, reason: r, .. } => unsafe {
                 palustrode_report(s, s_len, m, m_len, p, k, r, i, i_len, o, o_len)
+            },
+            Call::Write { fields: [host, cmd, pid, arg1, arg2], .. } => unsafe {
+                palustrode_write_request(host, cmd, pid, arg1, arg2, i, i_len, o, o_len)
+            },
+            Call::Read { .. } => unsafe {
+                assert!(o as usize % 2 == 0 && o_len % 2 == 0, "fields are words");
+                palustrode_read_answer(i, i_len, o.cast(), o_len / 2)
             },
         }
     }
@@ -113,24 +174,15 @@ impl Pair {
         change(&mut self.library);
     }
 
-    /// A fresh start on both sides, in the state buffers as they are.
-    pub fn fresh_start(&mut self, there: u8) -> Result<(), String> {
-        let state = self.library.state.change();
-        let library = unsafe { palustrode_fresh_start(there, state.as_mut_ptr(), state.len()) };
-        let model = fresh_start_bytes(there, self.model.state.change());
-        let length = self.model.state.bytes().len();
-        match self.difference([model, library]) {
-            None => Ok(()),
-            Some(text) => {
-                Err(format!("call: fresh start, processes {there:08b}, {length} bytes\n{text}"))
-            }
-        }
+    /// The message, the words or the string, where the one before it was.
+    fn lend_input(&mut self, bytes: &[u8]) {
+        self.change(|side| side.input = Lent::new(bytes, side.input.offset()));
     }
 
     /// Makes a call on both sides and compares the results and all bytes of all
     /// buffers, those around them included: the answer, or what is wrong.
     pub fn call(&mut self, call: &Call) -> Result<i64, String> {
-        self.change(|side| side.input = Lent::new(call.input()));
+        self.lend_input(call.input());
         let before = self.model.clone();
         let answers = [self.model.by_model(call), self.library.by_library(call)];
         let wrong = self
@@ -146,7 +198,7 @@ impl Pair {
         let (model, library) = (&self.model, &self.library);
         let byte = first_difference("state", &model.state, &library.state)
             .or_else(|| first_difference("memory", &model.memory, &library.memory))
-            .or_else(|| first_difference("message or words", &model.input, &library.input))
+            .or_else(|| first_difference("message, words or string", &model.input, &library.input))
             .or_else(|| first_difference("output", &model.output, &library.output));
         if a == b && byte.is_none() {
             return None;
@@ -160,9 +212,10 @@ fn first_difference(name: &str, model: &Lent, library: &Lent) -> Option<String> 
     if model == library {
         return None;
     }
-    let i = model.0.iter().zip(&library.0).position(|(a, b)| a != b)?;
-    let place = match i.checked_sub(GUARD) {
-        None => format!("{} before the buffer", GUARD - i),
+    let i = model.all().iter().zip(library.all()).position(|(a, b)| a != b)?;
+    let start = GUARD + model.offset;
+    let place = match i.checked_sub(start) {
+        None => format!("{} before the buffer", start - i),
         Some(at) if at >= model.bytes().len() => {
             format!("{} behind the buffer", at + 1 - model.bytes().len())
         }
@@ -174,12 +227,14 @@ fn first_difference(name: &str, model: &Lent, library: &Lent) -> Option<String> 
         }
         Some(at) => at.to_string(),
     };
-    Some(format!("{name}, {place}: model {}, library {}", model.0[i], library.0[i]))
+    Some(format!("{name}, {place}: model {}, library {}", model.all()[i], library.all()[i]))
 }
 
 /// What the paper says of every call alike, should both sides break it.
 fn broken_rule(call: &Call, answer: i64, before: &Side, after: &Side) -> Option<&'static str> {
     let written = match (call, answer) {
+        (Call::FreshStart { .. }, _) => 0,
+        (Call::Read { .. }, 0..) => 2 * FIELDS,
         (_, 0..) => answer as usize,
         (Call::Request { .. }, -13..=-7) => HEAD,
         _ => 0,
@@ -191,7 +246,8 @@ fn broken_rule(call: &Call, answer: i64, before: &Side, after: &Side) -> Option<
     if before.output.bytes()[written..] != after.output.bytes()[written..] {
         return Some("both: buffer bytes past those written are touched");
     }
-    if !refused && !is_sound(after.state.bytes()) {
+    let on_state = !matches!(call, Call::Write { .. } | Call::Read { .. });
+    if !refused && on_state && !is_sound(after.state.bytes()) {
         return Some("both: the state is not sound after a granted call");
     }
     None
@@ -212,10 +268,15 @@ fn decimal(bytes: &[u8]) -> String {
 pub fn describe(call: &Call, side: &Side) -> String {
     let input = decimal(call.input());
     let call = match call {
+        Call::FreshStart { there } => format!("fresh start, processes {there:#b}"),
         Call::Request { .. } => format!("request, message of {input}"),
         Call::Report { process, kind, reason, .. } => {
             format!("report, process {process}, kind {kind}, reason {reason}, words of {input}")
         }
+        Call::Write { fields: [host, cmd, pid, arg1, arg2], .. } => format!(
+            "write request, HOST {host}, CMD {cmd}, PID {pid}, ARG1 {arg1}, ARG2 {arg2}, string of {input}"
+        ),
+        Call::Read { .. } => format!("read answer, message of {input}"),
     };
     let [s, m, o] = [&side.state, &side.memory, &side.output].map(|lent| lent.bytes().len());
     format!("call: {call}\nlent: state of {s} bytes, memory of {m}, output buffer of {o}")

@@ -1,17 +1,18 @@
-//! A stand-in for the library: the same three functions of the C interface,
-//! answered by the model.
+//! A stand-in for the library: the same functions of the C interface, answered by
+//! the model, with an error of `wrong.rs` or with none.
 //!
-//! Callers lend pointers to as many bytes as the length beside them says.
+//! Callers lend pointers to as many elements as the length beside them says.
 
+use crate::wrong::{answer, Made};
 use std::slice::{from_raw_parts, from_raw_parts_mut};
 
 #[no_mangle]
 pub unsafe extern "C" fn palustrode_fresh_start(
-    there: u8,
+    there: u64,
     state: *mut u8,
     state_len: usize,
 ) -> i64 {
-    model::fresh_start_bytes(there, from_raw_parts_mut(state, state_len))
+    answer(Made::Start { there, state: from_raw_parts_mut(state, state_len) })
 }
 
 #[no_mangle]
@@ -25,12 +26,12 @@ pub unsafe extern "C" fn palustrode_request(
     reply: *mut u8,
     reply_len: usize,
 ) -> i64 {
-    model::request_bytes(
-        from_raw_parts_mut(state, state_len),
-        from_raw_parts_mut(memory, memory_len),
-        from_raw_parts(message, message_len),
-        from_raw_parts_mut(reply, reply_len),
-    )
+    answer(Made::Request {
+        state: from_raw_parts_mut(state, state_len),
+        memory: from_raw_parts_mut(memory, memory_len),
+        message: from_raw_parts(message, message_len),
+        reply: from_raw_parts_mut(reply, reply_len),
+    })
 }
 
 #[no_mangle]
@@ -39,21 +40,51 @@ pub unsafe extern "C" fn palustrode_report(
     state_len: usize,
     memory: *mut u8,
     memory_len: usize,
-    process: u8,
-    kind: u8,
-    reason: u16,
+    process: u64,
+    kind: u64,
+    reason: u64,
     words: *const u8,
     words_len: usize,
     notice: *mut u8,
     notice_len: usize,
 ) -> i64 {
-    model::report_bytes(
-        from_raw_parts_mut(state, state_len),
-        from_raw_parts_mut(memory, memory_len),
-        process,
-        kind,
-        reason,
-        from_raw_parts(words, words_len),
-        from_raw_parts_mut(notice, notice_len),
-    )
+    answer(Made::Report {
+        state: from_raw_parts_mut(state, state_len),
+        memory: from_raw_parts_mut(memory, memory_len),
+        numbers: [process, kind, reason],
+        words: from_raw_parts(words, words_len),
+        notice: from_raw_parts_mut(notice, notice_len),
+    })
+}
+
+#[no_mangle]
+pub unsafe extern "C" fn palustrode_write_request(
+    host: u64,
+    cmd: u64,
+    pid: u64,
+    arg1: u64,
+    arg2: u64,
+    string: *const u8,
+    string_len: usize,
+    request: *mut u8,
+    request_len: usize,
+) -> i64 {
+    answer(Made::Write {
+        fields: [host, cmd, pid, arg1, arg2],
+        string: from_raw_parts(string, string_len),
+        request: from_raw_parts_mut(request, request_len),
+    })
+}
+
+#[no_mangle]
+pub unsafe extern "C" fn palustrode_read_answer(
+    message: *const u8,
+    message_len: usize,
+    fields: *mut u16,
+    fields_count: usize,
+) -> i64 {
+    answer(Made::Read {
+        message: from_raw_parts(message, message_len),
+        fields: from_raw_parts_mut(fields, fields_count),
+    })
 }

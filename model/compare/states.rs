@@ -1,7 +1,7 @@
 //! States that no fresh start leads to: sound ones, and changes to a state's
 //! bytes, after which they are sound, not sound, or no state at all.
 
-use crate::calls::{breakpoint_address, HOSTS};
+use crate::calls::{breakpoint_address, new_host};
 use crate::random::Random;
 use model::*;
 
@@ -22,7 +22,7 @@ fn some_sound_process(random: &mut Random, cleared: Process) -> Process {
     if !process.there || random.one_in(4) {
         return process;
     }
-    process.host = random.pick(&HOSTS);
+    process.host = new_host(random);
     let most = random.below(BREAKPOINTS + 1);
     for e in 0..BREAKPOINTS {
         add_breakpoint(random, &mut process, e, most);
@@ -40,7 +40,8 @@ fn add_breakpoint(random: &mut Random, process: &mut Process, e: usize, most: us
     if taken || random.below(BREAKPOINTS) >= most {
         return;
     }
-    let remaining = random.pick(&[0, 1, 2, 65535]);
+    let remaining =
+        if random.one_in(4) { random.free_word() } else { random.pick(&[0, 1, 2, 65535]) };
     let saved = [random.byte(), random.byte()];
     process.breakpoints[e] = Breakpoint { used: true, lifted: false, address, remaining, saved };
 }
@@ -73,7 +74,7 @@ const DAMAGES: [(usize, Damage); 12] = [
 /// Changes a state's bytes by one kind of damage, or their number.
 pub fn damage_state(random: &mut Random, state: &mut Vec<u8>) {
     if random.one_in(20) {
-        return state.resize(random.pick(&[0, 1, 85, 679, 681, 1360]), 0);
+        return state.resize(random.length(&[0, 1, 85, 679, 681, 1360], 2000), 0);
     }
     let kind = random.weighted(&DAMAGES.map(|(weight, _)| weight));
     DAMAGES[kind].1(random, state);
@@ -90,7 +91,8 @@ fn some_bytes(random: &mut Random, state: &mut [u8]) {
 
 /// A run state that there is not.
 fn wrong_run(random: &mut Random, state: &mut [u8]) {
-    state[some_record(random) + 2] = random.pick(&[5, 6, 128, 255]);
+    let any = random.free_byte().max(5);
+    state[some_record(random) + 2] = random.pick(&[5, 6, 128, 255, any, any]);
 }
 
 /// A flag that is neither 0 nor 1.
@@ -98,12 +100,13 @@ fn wrong_flag(random: &mut Random, state: &mut [u8]) {
     let record = some_record(random);
     let entry = some_entry(random, record);
     let at = random.pick(&[record, entry, entry + 1]);
-    state[at] = random.pick(&[2, 3, 128, 255]);
+    let any = random.free_byte().max(2);
+    state[at] = random.pick(&[2, 3, 128, 255, any, any]);
 }
 
 fn absent_with_host(random: &mut Random, state: &mut [u8]) {
     let record = some_record(random);
-    state[record..record + 2].copy_from_slice(&[0, random.pick(&HOSTS)]);
+    state[record..record + 2].copy_from_slice(&[0, new_host(random)]);
 }
 
 /// A breakpoint of an absent process, or of one with no host.
@@ -115,7 +118,8 @@ fn breakpoint_with_no_host(random: &mut Random, state: &mut [u8]) {
 
 fn wrong_address(random: &mut Random, state: &mut [u8]) {
     let record = some_debugged(random, state);
-    let wrong = [1, 7, 4093, 4095, 4096, 4097, 4098, 8192, 65534, 65535];
+    let any = random.free_word() | random.pick(&[1, 4096]);
+    let wrong = [1, 7, 4093, 4095, 4096, 4097, 4098, 8192, 65534, 65535, any, any, any, any];
     put_entry(state, some_entry(random, record), 0, random.pick(&wrong));
 }
 
@@ -158,7 +162,7 @@ fn old_bytes(random: &mut Random, state: &mut [u8]) {
 
 /// Sound where the process is there.
 fn another_host(random: &mut Random, state: &mut [u8]) {
-    state[some_record(random) + 1] = random.pick(&HOSTS);
+    state[some_record(random) + 1] = new_host(random);
 }
 
 /// Mostly sound: a planted breakpoint more.
@@ -183,7 +187,7 @@ fn some_debugged(random: &mut Random, state: &mut [u8]) -> usize {
     let record = some_record(random);
     state[record] = 1;
     if state[record + 1] == NOBODY {
-        state[record + 1] = random.pick(&HOSTS);
+        state[record + 1] = new_host(random);
     }
     record
 }

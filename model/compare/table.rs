@@ -1,5 +1,5 @@
-//! How often each op code, or kind of report, met each answer, and which of
-//! these the paper makes possible.
+//! How often each op code, kind of report, or call without a state met each
+//! answer, and which of these the paper makes possible.
 
 use crate::sides::Call;
 use model::*;
@@ -34,8 +34,8 @@ const SILENT_TTRAP: (usize, usize) = (REPORTS + TTRAP as usize, 1);
 /// call, 3, 4 and 6 in every request that has a CMD. All that name a process can
 /// fail 7 and 8; only 5, 10 and 11 ask for a run state (9); 4, 6, 7 and 8 have
 /// ranges (10); 8 alone fails 11, 9 alone 12, 12 alone 13. Reports are tested by
-/// 1, 2, 14, 7, 9; a TRAP may have any reason, and a kind over 3 never comes past
-/// 14. Every kind is silent for a process with no host.
+/// 1, 2, 14, 7, 9; a TRAP may have any reason of two bytes, and a kind over 3 never
+/// comes past 14. Every kind is silent for a process with no host.
 const ROWS: [Row; ROW_COUNT] = [
     request_row("0 NOP", &[1, 2, 3, 4, 6]),
     request_row("1 DEBUG", &[1, 2, 3, 4, 6, 7, 8]),
@@ -52,20 +52,22 @@ const ROWS: [Row; ROW_COUNT] = [
     request_row("12 CREATE", &[1, 2, 3, 4, 6, 13]),
     request_row("13 DESTROY", &[1, 2, 3, 4, 6, 7, 8]),
     refused_row("no op", &[1, 2, 3, 4, 5]),
-    report_row("TRAP", &[1, 2, 7, 9]),
+    report_row("TRAP", &[1, 2, 7, 9, 14]),
     report_row("HALT", &[1, 2, 7, 9, 14]),
     report_row("BPT", &[1, 2, 7, 9, 14]),
     report_row("TTRAP", &[1, 2, 7, 9, 14]),
     refused_row("over 3", &[1, 2, 14]),
 ];
 
-fn row_of(call: &Call) -> usize {
+/// The row of a call on a state.
+fn row_of(call: &Call) -> Option<usize> {
     match call {
-        Call::Report { kind, .. } => REPORTS + usize::from(*kind).min(4),
+        Call::Report { kind, .. } => Some(REPORTS + (*kind).min(4) as usize),
         Call::Request { message } => match message.get(4) {
-            Some(&cmd) if cmd <= DESTROY_PROCESS => usize::from(cmd),
-            _ => NO_OP,
+            Some(&cmd) if cmd <= DESTROY_PROCESS => Some(usize::from(cmd)),
+            _ => Some(NO_OP),
         },
+        _ => None,
     }
 }
 
@@ -105,7 +107,9 @@ impl Table {
     }
 
     pub fn count(&mut self, call: &Call, answer: i64) {
-        self.counts[row_of(call)][column_of(answer)] += 1;
+        if let Some(row) = row_of(call) {
+            self.counts[row][column_of(answer)] += 1;
+        }
     }
 
     /// Whether the paper makes an answer possible. From a fresh start calls lead
@@ -147,6 +151,105 @@ impl Table {
         cells
             .filter(|&(row, column)| self.feasible(row, column) != (self.counts[row][column] > 0))
             .map(|(row, column)| format!("{table}: {}, {}", ROWS[row].name, column_name(column)))
+            .collect()
+    }
+}
+
+// ---------------------------------------------------------------- the desk's end, and fresh starts
+
+/// Columns: granted, and the refusals that these calls can meet.
+const DESK_COLUMNS: [i64; 7] = [0, 1, 3, 4, 5, 6, 7];
+
+/// Rows: writing each op code and any other CMD; reading each reply, CAN'T, notice
+/// and any other CMD; and a fresh start.
+const WRITES: usize = 0;
+const READS: usize = WRITES + 15;
+const START: usize = READS + 256;
+
+pub struct DeskTable {
+    counts: Vec<[u64; DESK_COLUMNS.len()]>,
+}
+
+/// "The desk reader accepts CMD 0 to 13, 129 to 141 and 64 to 67"
+fn accepted(cmd: usize) -> bool {
+    matches!(cmd, 0..=13 | 64..=67 | 129..=141)
+}
+
+/// A CMD that is not accepted stands for all of them.
+const NO_ANSWER: usize = 255;
+
+impl DeskTable {
+    pub fn new() -> DeskTable {
+        DeskTable { counts: vec![[0; DESK_COLUMNS.len()]; START + 1] }
+    }
+
+    pub fn count(&mut self, call: &Call, answer: i64) {
+        let row = match call {
+            Call::FreshStart { .. } => START,
+            Call::Write { fields, .. } => WRITES + fields[1].min(14) as usize,
+            Call::Read { message } => match message.get(4).map(|&cmd| usize::from(cmd)) {
+                Some(cmd) if accepted(cmd) => READS + cmd,
+                _ => READS + NO_ANSWER,
+            },
+            _ => return,
+        };
+        let by = answer.min(0).abs();
+        if let Some(column) = DESK_COLUMNS.iter().position(|&number| number == by) {
+            self.counts[row][column] += 1;
+        }
+    }
+
+    fn rows() -> impl Iterator<Item = (usize, String)> {
+        let writes = (0..14).map(|cmd| (WRITES + cmd, format!("write {}", ROWS[cmd].name)));
+        let reads = (0..256).filter(|&cmd| accepted(cmd));
+        let reads = reads.map(|cmd| (READS + cmd, format!("read CMD {cmd}")));
+        writes
+            .chain([(WRITES + 14, "write no op".to_string())])
+            .chain(reads)
+            .chain([(READS + NO_ANSWER, "read no CMD".to_string())])
+            .chain([(START, "fresh start".to_string())])
+    }
+
+    /// Every op code and answer can be granted, and refused by 1, 3, 4 and 6; any
+    /// other CMD by 1, 3, 4 and 5; a fresh start by 1 and 7.
+    fn feasible(row: usize, column: usize) -> bool {
+        let unknown = row == WRITES + 14 || row == READS + NO_ANSWER;
+        match DESK_COLUMNS[column] {
+            0 => !unknown,
+            1 => true,
+            3 | 4 => row != START,
+            5 => unknown,
+            6 => !unknown && row != START,
+            _ => row == START,
+        }
+    }
+
+    pub fn print(&self) {
+        println!("\nthe desk's calls, and fresh starts");
+        let name = |number: &i64| match number {
+            0 => "granted".to_string(),
+            _ => number.to_string(),
+        };
+        let names = DESK_COLUMNS.iter().map(|number| format!("{:>8}", name(number)));
+        println!("{:>24}{}", "", names.collect::<String>());
+        for (row, name) in DeskTable::rows() {
+            let cell = |column: usize| match self.counts[row][column] {
+                0 if !DeskTable::feasible(row, column) => ".".to_string(),
+                n => n.to_string(),
+            };
+            let cells = (0..DESK_COLUMNS.len()).map(|column| format!("{:>8}", cell(column)));
+            println!("{name:>24}{}", cells.collect::<String>());
+        }
+    }
+
+    pub fn wrong(&self) -> Vec<String> {
+        let cells = DeskTable::rows()
+            .flat_map(|(row, name)| (0..DESK_COLUMNS.len()).map(move |c| (row, c, name.clone())));
+        cells
+            .filter(|&(row, column, _)| {
+                DeskTable::feasible(row, column) != (self.counts[row][column] > 0)
+            })
+            .map(|(_, column, name)| format!("{name}, {}", DESK_COLUMNS[column]))
             .collect()
     }
 }

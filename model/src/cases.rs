@@ -37,11 +37,11 @@ impl Gateway {
         self.send(&message(host, cmd, pid, arg1, arg2, string))
     }
 
-    fn report(&mut self, process: u8, kind: u8, reason: u16, pc: u16) -> i64 {
+    fn report(&mut self, process: u64, kind: impl Into<u64>, reason: u64, pc: u16) -> i64 {
         self.output.fill(UNTOUCHED);
         let words = words_with(pc);
         let (state, memory) = (&mut self.state, &mut self.memory);
-        report(state, memory, process, kind, reason, &words, &mut self.output)
+        report(state, memory, process, kind.into(), reason, &words, &mut self.output)
     }
 
     /// The bytes written, and a test that none past them is touched.
@@ -302,7 +302,7 @@ fn a_store_into_a_planted_word_is_not_seen() {
 #[test]
 fn the_order_of_a_reports_tests() {
     let mut g = Gateway::new(1);
-    assert_eq!(g.report(9, 4, 0, 0), -14);
+    assert_eq!(g.report(9, 4u8, 0, 0), -14);
     assert_eq!(g.report(9, HALT, 1, 0), -14);
     assert_eq!(g.report(9, TTRAP, 0, 0), -7);
     assert_eq!(g.report(1, TTRAP, 0, 0), -7);
@@ -310,6 +310,23 @@ fn the_order_of_a_reports_tests() {
     assert_eq!(g.report(0, TRAP, 4, 0), 0);
     assert_eq!(g.report(0, TRAP, 4, 0), -9);
     g.written(0);
+}
+
+#[test]
+fn numbers_that_no_field_holds() {
+    let mut g = Gateway::debugged();
+    assert_eq!(g.report(258, 257u64, 0, 0), -14);
+    assert_eq!(g.report(258, TRAP, 65_536, 0), -14);
+    assert_eq!(g.report(258, HALT, 65_536, 0), -14);
+    assert_eq!(g.report(258, HALT, 0, 0), -7);
+    assert_eq!(g.report(1 << 32, HALT, 0, 0), -7);
+    g.written(0);
+    let mut state = [9; STATE_BYTES];
+    assert_eq!(fresh_start_bytes(256, &mut state), -7);
+    assert_eq!(fresh_start_bytes(1 << 63, &mut state), -7);
+    assert_eq!(state, [9; STATE_BYTES]);
+    assert_eq!(fresh_start_bytes(256, &mut state[1..]), -1);
+    assert_eq!(fresh_start_bytes(255, &mut state), 0);
 }
 
 #[test]
@@ -395,8 +412,8 @@ fn the_byte_form() {
     assert_eq!(bytes[191..199], [1, 0, 0, 1, 3, 2, 18, 52]);
     let words = vector_bytes(&words_with(256));
     let (b, m, o) = (&mut bytes, &mut memory, &mut output);
-    assert_eq!(report_bytes(b, m, 2, BPT, 0, &words[1..], o), -1);
-    assert_eq!(report_bytes(b, m, 2, BPT, 0, &words, o), 0);
+    assert_eq!(report_bytes(b, m, 2, BPT.into(), 0, &words[1..], o), -1);
+    assert_eq!(report_bytes(b, m, 2, BPT.into(), 0, &words, o), 0);
     assert_eq!(b[173..191], words);
     assert_eq!(b[191..199], [1, 1, 0, 1, 2, 2, 18, 52]);
     assert_eq!(encode(&decode(b).unwrap()), *b);
@@ -425,4 +442,60 @@ fn the_bench_programs_input() {
     assert_eq!(g.written(10), [0, 6, 255, 0, 0x81, 2, 0, 0, 0, 0]);
     assert_eq!(g.send(&[0, 6, 255]), -3);
     g.written(0);
+}
+
+#[test]
+fn the_desk_writes() {
+    let mut output = vec![UNTOUCHED; LONGEST];
+    let o = &mut output;
+    let deposit = DEPOSIT.into();
+    assert_eq!(write_request(5, deposit, 2, 256, 2, &[18, 52], o), 12);
+    assert_eq!(o[..13], [0, 5, 255, 0, 4, 2, 1, 0, 0, 2, 18, 52, UNTOUCHED]);
+    assert_eq!(write_request(255, deposit, 255, 65_535, 256, &[7; 256], o), 266);
+    o.fill(UNTOUCHED);
+    assert_eq!(write_request(0, 99, 0, 0, 1, &[7; 257], &mut o[1..]), -1);
+    assert_eq!(write_request(0, 99, 0, 0, 1, &[7; 257], o), -3);
+    assert_eq!(write_request(0, 99, 0, 0, 1, &[], o), -4);
+    assert_eq!(write_request(256, 99, 0, 0, 1, &[], o), -4);
+    assert_eq!(write_request(5, 14, 0, 0, 1, &[], o), -5);
+    assert_eq!(write_request(5, 256, 0, 0, 1, &[], o), -5);
+    assert_eq!(write_request(5, 1, 2, 0, 1, &[], o), -6);
+    assert_eq!(write_request(5, 1, 2, 0, 0, &[1], o), -6);
+    assert_eq!(write_request(5, 1, 256, 0, 0, &[], o), -6);
+    assert_eq!(write_request(5, 9, 2, 65_536, 0, &[], o), -6);
+    assert_eq!(write_request(5, 8, 2, 0, 65_536, &[], o), -6);
+    assert_eq!(write_request(5, 0, 2, 0, 0, &[], o), -6);
+    assert_eq!(write_request(5, 12, 2, 0, 0, &[], o), -6);
+    assert!(o.iter().all(|&b| b == UNTOUCHED));
+}
+
+#[test]
+fn the_desk_reads() {
+    let mut fields = [0; FIELDS];
+    let contents = message(5, EXAMINE, 2, 258, 3, &[97, 98, 99]);
+    assert_eq!(read_answer(&contents, &mut fields), 3);
+    assert_eq!(fields, [5, 6, 2, 258, 3]);
+    let read = |host, cmd, pid, arg1, arg2, string: &[u8]| {
+        let mut fields = [9; FIELDS];
+        let answer = read_answer(&message(host, cmd, pid, arg1, arg2, string), &mut fields);
+        assert_eq!(answer < 0, fields == [9; FIELDS]);
+        answer
+    };
+    assert_eq!(read(5, 64, 2, 0x1234, 0, &[1; 18]), 18);
+    assert_eq!(read(5, 65, 2, 1, 0, &[1; 18]), -6);
+    assert_eq!(read(5, 67, 2, 0, 1, &[1; 18]), -6);
+    assert_eq!(read(5, 66, 255, 0, 0, &[1; 17]), -6);
+    assert_eq!(read(5, CREATE_PROCESS, 7, 0, 0, &[]), 0);
+    assert_eq!(read(5, 140, 7, 0, 0, &[]), -6);
+    assert_eq!(read(5, 134, 2, 65_535, 65_535, &[]), 0);
+    assert_eq!(read(5, 132, 2, 0, 2, &[1, 2]), -6);
+    assert_eq!(read(5, DEPOSIT, 2, 0, 2, &[]), 0);
+    assert_eq!(read(5, EXAMINE, 2, 0, 257, &[1; 256]), -6);
+    assert_eq!(read(0, 128, 0, 0, 0, &[]), -4);
+    for cmd in [14, 63, 68, 127, 128, 142, 255] {
+        assert_eq!(read(5, cmd, 1, 1, 1, &[1]), -5);
+    }
+    assert_eq!(read_answer(&contents[..9], &mut fields), -3);
+    assert_eq!(read_answer(&contents[..9], &mut fields[1..]), -1);
+    assert_eq!(read_answer(&[0; 267], &mut fields), -3);
 }

@@ -1,4 +1,5 @@
-//! A model of the gateway end, written from document 01 ("the paper") alone.
+//! A model of the gateway end and the desk end, written from document 01 ("the
+//! paper") alone.
 //!
 //! Each rule stands under the sentence of the paper that gives it, in quotes.
 //! Everything is done in place: the state, the memory and the output buffer
@@ -8,6 +9,9 @@
 
 #[cfg(test)]
 mod cases;
+mod desk;
+
+pub use desk::{read_answer, write_request, FIELDS};
 
 // ---------------------------------------------------------------- sizes
 
@@ -658,9 +662,9 @@ impl Process {
 pub fn report(
     state: &mut State,
     memory: &mut [u8],
-    process: u8,
-    kind: u8,
-    reason: u16,
+    process: u64,
+    kind: u64,
+    reason: u64,
     words: &[u16; WORDS],
     notice: &mut [u8],
 ) -> i64 {
@@ -670,10 +674,13 @@ pub fn report(
     if !sound(state) {
         return -NOT_SOUND;
     }
-    // 14: "report of kind over 3, or a reason not 0 with a kind that isn't TRAP"
-    if kind > TTRAP || reason != 0 && kind != TRAP {
+    let Some((kind, reason)) = kind_and_reason(kind, reason) else {
         return -WRONG_REPORT;
-    }
+    };
+    // 7: "number over 7"
+    let Ok(process) = u8::try_from(process) else {
+        return -ABSENT;
+    };
     let record = match named(state, process) {
         Ok(record) => record,
         Err(number) => return -number,
@@ -689,6 +696,15 @@ pub fn report(
     write_head(&mut notice[..HEAD], record.host, NOTICE_CMD + kind, process, reason, 0);
     notice[HEAD..NOTICE].copy_from_slice(&vector_bytes(words));
     NOTICE as i64
+}
+
+/// 14: "report of kind over 3, or a reason not 0 with a kind that isn't TRAP".
+/// "reason in ARG1", which has "two bytes": there is no report with a reason over
+/// 65,535, and one that is made is refused by 14 too.
+fn kind_and_reason(kind: u64, reason: u64) -> Option<(u8, u16)> {
+    let kind = u8::try_from(kind).ok().filter(|&kind| kind <= TTRAP)?;
+    let reason = u16::try_from(reason).ok().filter(|&reason| reason == 0 || kind == TRAP)?;
+    Some((kind, reason))
 }
 
 impl Process {
@@ -850,9 +866,9 @@ pub fn request_bytes(state: &mut [u8], memory: &mut [u8], message: &[u8], reply:
 pub fn report_bytes(
     state: &mut [u8],
     memory: &mut [u8],
-    process: u8,
-    kind: u8,
-    reason: u16,
+    process: u64,
+    kind: u64,
+    reason: u64,
     words: &[u8],
     notice: &mut [u8],
 ) -> i64 {
@@ -877,11 +893,15 @@ fn write_back(records: &State, answer: i64, state: &mut [u8]) {
     }
 }
 
-/// `fresh_start` into 680 bytes: 0, or minus 1 where the buffer has not 680.
-pub fn fresh_start_bytes(there: u8, state: &mut [u8]) -> i64 {
+/// `fresh_start` into 680 bytes: 0, or minus 1 where the buffer has not 680, or
+/// minus 7 where a bit over the eighth is set: "number over 7".
+pub fn fresh_start_bytes(there: u64, state: &mut [u8]) -> i64 {
     if state.len() != STATE_BYTES {
         return -WRONG_BUFFER;
     }
+    let Ok(there) = u8::try_from(there) else {
+        return -ABSENT;
+    };
     state.copy_from_slice(&encode(&fresh_start(there)));
     0
 }

@@ -3,3 +3,5 @@ pub mod SignLaws
 pub mod ShortLaws
 pub mod ReturnLaws
 pub mod LibraryLaws
+pub mod NarrowLaws
+pub mod DeskLaws

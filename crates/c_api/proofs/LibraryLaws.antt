@@ -2,24 +2,26 @@
 use mathlib.Core.Path.{_≡_, refl, sym, ap, ap₂, _∙_}
 use mathlib.Core.Bool.{true, true≢false}
 use mathlib.Core.List.{List, [], _∷_, map}
-use Prim.Native.Nat.{ℕ, zero, suc}
-use borrow.Author.Tests.{eq-eqb}
+use Prim.Native.Nat.{ℕ, zero, suc, _<_}
+use borrow.Author.Tests.{eq-eqb, lt-ltb}
 use lib.IntN.{negsuc, +ℤ-idl}
 use lib.ListN.{length}
 use Rattle.format.specs.declared.outcome.Outcome.{Outcome}
 use Rattle.format.specs.declared.outcome.Outcome.the-variants.{Granted, Refused}
 use Rattle.format.specs.Outcome.{numberOf, lengthOf}
+use Rattle.state.specs.Slot.{capacity}
 use Rattle.rules.specs.Tests.{State}
 use Rattle.rules.specs.Step.{Answer, Call, request, report, store, step}
 use Rattle.rules.specs.Ready.{Typed}
 use Rattle.rules.specs.Run.{TraceItem, traceItem, run}
 use Rattle.rules.specs.Isolation.{isGranted}
 use Rattle.rules.proofs.TotalLaws.{total}
+use Rattle.state_bytes.specs.Widths.{stateWidth}
 use Rattle.gateway.specs.Called.{Called, Did}
 use Rattle.gateway.specs.Sequence.{Begins, item, readFrom}
 use Rattle.gateway.proofs.SequenceLaws.{Follows, did-follows, did-begins, fresh-begins}
 use Rattle.gateway.proofs.DemandLaws.{lists-on-bytes}
-use Rattle.c_api.specs.Called.{signed, Returns, reportOn, bitsOf}
+use Rattle.c_api.specs.Called.{signed, Returns, reportOn, bitsOf, startWith}
 use Rattle.c_api.specs.Library.{LibraryCall, requested, reported, stored, Returned, DidReturn, DoneByLibrary, callOf, Whole, AllWhole, outcomeOf, returnedItem, returnedItems, MadeByLibrary, LibraryDemands}
 use Rattle.c_api.proofs.ShortLaws.{nine-words}
 
@@ -97,8 +99,13 @@ eight-bits : (there : ℕ) → length (bitsOf there) ≡ 8
 unfolding bitsOf
 eight-bits there = refl
 
+started-begins : (there : ℕ) (before memory : List ℕ) → there < 256 → length before ≡ stateWidth → length memory ≡ capacity
+    → Begins (startWith there before .state) memory
+unfolding startWith
+started-begins there before memory low wide size = rw (lt-ltb there 256 low) (fresh-begins (bitsOf there) (eight-bits there) before memory wide size)
+
 pub library-demands : LibraryDemands
 library-demands = record {
-  fresh = λ there before state memory r s wide size. rw (s .state-is) (fresh-begins (bitsOf there) (eight-bits there) before memory wide size);
+  fresh = λ there before state memory r s low wide size. rw (s .state-is) (started-begins there before memory low wide size);
   lists = lists-on-bytes MadeByLibrary made-runs;
 }

@@ -5,12 +5,13 @@ use mathlib.Core.List.{List, [], _∷_}
 use Prim.Native.Nat.{ℕ, _<_, _/_, _%_}
 use lib.IntN.{ℤ, pos, _-ℤ_}
 use lib.ListN.{length}
-use lib.Dec.{eqb}
+use lib.Dec.{eqb, ltb}
 use Rattle.lists.specs.Word.{vectorOf}
 use Rattle.format.specs.declared.outcome.Outcome.{Outcome}
-use Rattle.format.specs.Outcome.{numberOf, lengthOf, isGranted}
+use Rattle.format.specs.Outcome.{outcome, numberOf, lengthOf, isGranted}
 use Rattle.rules.specs.Step.{report}
-use Rattle.gateway.specs.Called.{Called, StartResult, refusedBy, callOn, startOn}
+use Rattle.state_bytes.specs.Widths.{stateWidth}
+use Rattle.gateway.specs.Called.{Called, StartResult, refusedBy, callOn, started, startOn}
 
 -- minus this number
 abbrev pub minus : ℕ → ℤ
@@ -31,10 +32,18 @@ pub record Returns (x : Called) (result : ℤ) (state memory buffer : List ℕ) 
   pub memory-is : memory ≡ x .memory
   pub buffer-is : buffer ≡ x .buffer
 
--- a report whose nine words are 18 bytes, low byte first; words of another length are a lent buffer of the wrong length, test 1
+-- a number as a byte; 255 stands for every number that a byte has no room for
+unfoldable pub byteOf : ℕ → ℕ
+byteOf n = cond (ltb n 256) n 255
+
+-- 'reason in ARG1', which has two bytes: a report with a reason over 65,535 is of no kind, and so test 14 refuses it
+unfoldable pub kindOf : ℕ → ℕ → ℕ
+kindOf kind reason = cond (ltb reason 65536) kind 4
+
+-- a report of numbers of any size; its nine words are 18 bytes, low byte first, and words of another length a lent buffer of the wrong length, test 1
 unfoldable pub reportOn : List ℕ → List ℕ → ℕ → ℕ → ℕ → List ℕ → List ℕ → Called
 reportOn state memory pid kind reason words notice =
-    cond (eqb (length words) 18) (callOn state memory (report pid kind reason (vectorOf words) notice)) (refusedBy 1 state memory notice)
+    cond (eqb (length words) 18) (callOn state memory (report pid (kindOf kind reason) reason (vectorOf words) notice)) (refusedBy 1 state memory notice)
 
 -- process p is there where bit p is set
 unfoldable pub bitsOf : ℕ → List Bool
@@ -48,6 +57,14 @@ bitsOf n =
     ∷ eqb (n / 64 % 2) 1
     ∷ eqb (n / 128 % 2) 1
     ∷ []
+
+-- a process over 7 is refused with 7, and before it, with 1, a state's buffer of the wrong length
+unfoldable pub startRefusal : List ℕ → ℕ
+startRefusal state = cond (eqb (length state) stateWidth) 7 1
+
+-- a fresh start with the processes whose bits are set; a bit above the eighth is a process over 7
+unfoldable pub startWith : ℕ → List ℕ → StartResult
+startWith there state = cond (ltb there 256) (startOn (bitsOf there) state) (started (outcome (startRefusal state) 0) state)
 
 -- a fresh start returned this number, and left these bytes of the state
 pub record Starts (x : StartResult) (result : ℤ) (state : List ℕ) : Type 0 where

@@ -1,7 +1,7 @@
 -- Calls of the library, one after another on the bytes of a state, as the contracts of the exported functions promise them.
 use mathlib.Core.Path.{_≡_}
 use mathlib.Core.List.{List, [], _∷_, map}
-use Prim.Native.Nat.{ℕ, suc}
+use Prim.Native.Nat.{ℕ, suc, _<_}
 use lib.IntN.{ℤ, pos, negsuc}
 use lib.ListN.{length}
 use Rattle.lists.specs.Word.{vectorOf}
@@ -11,10 +11,10 @@ use Rattle.state.specs.Slot.{capacity}
 use Rattle.rules.specs.Step.{Call, request, report, store}
 use Rattle.rules.specs.Run.{TraceItem}
 use Rattle.state_bytes.specs.Widths.{stateWidth}
-use Rattle.gateway.specs.Called.{callOn, machineStored, startOn}
+use Rattle.gateway.specs.Called.{callOn, machineStored}
 use Rattle.gateway.specs.Sequence.{Begins, readFrom}
 use Rattle.gateway.specs.Demands.{ListsOnBytes}
-use Rattle.c_api.specs.Called.{Returns, Starts, reportOn, bitsOf}
+use Rattle.c_api.specs.Called.{Returns, Starts, kindOf, reportOn, startWith}
 
 -- a call of the library, or a store by the machine between two
 pub data LibraryCall : Type 0 where
@@ -48,7 +48,7 @@ DoneByLibrary state memory (c ∷ cs) (y ∷ ys) = DidReturn state memory c y ×
 -- the call of the rules
 unfoldable pub callOf : LibraryCall → Call
 callOf (requested m reply) = request m reply
-callOf (reported p kind reason words notice) = report p kind reason (vectorOf words) notice
+callOf (reported p kind reason words notice) = report p (kindOf kind reason) reason (vectorOf words) notice
 callOf (stored p a v) = store p a v
 
 -- the nine words of a report are 18 bytes; with others it is refused with 1, and no call of the rules
@@ -94,6 +94,6 @@ pub record MadeByLibrary (state memory : List ℕ) (l : List Call) (es : List Tr
 
 -- calls of the library in a row are a run of the rules, from a fresh start of its own, and the demands hold of them
 pub record LibraryDemands : Type 0 where
-  pub fresh : (there : ℕ) (before state memory : List ℕ) (r : ℤ) → Starts (startOn (bitsOf there) before) r state → length before ≡ stateWidth
+  pub fresh : (there : ℕ) (before state memory : List ℕ) (r : ℤ) → Starts (startWith there before) r state → there < 256 → length before ≡ stateWidth
       → length memory ≡ capacity → Begins state memory
   pub lists : ListsOnBytes MadeByLibrary

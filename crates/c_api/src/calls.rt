@@ -1,18 +1,21 @@
-// The exported functions.
+// The exported functions of the gateway's end. Numbers come in as wide as C has them, so that none is cut on the way.
+use crate::narrow::byte_of;
+use crate::narrow::kind_of;
 use crate::result::minus;
 use crate::result::signed;
 use gateway::fresh_start;
 use gateway::report;
 use gateway::request;
+use state_bytes::STATE_BYTES;
 use words::vector_of;
 ghost use mathlib.Core.Path.{_≡_};
 ghost use lib.ListN.{length};
 ghost use Rattle.lists.specs.Word.{vectorOf};
 ghost use Rattle.rules.specs.Step.{request};
-ghost use Rattle.gateway.specs.Called.{callOn, startOn};
-ghost use Rattle.c_api.specs.Called.{Returns, Starts, reportOn, bitsOf};
+ghost use Rattle.gateway.specs.Called.{callOn};
+ghost use Rattle.c_api.specs.Called.{Returns, Starts, startWith, startRefusal, reportOn, bitsOf};
 
-fn bits(there: u8) -> [bool; 8]
+fn bits(there: u64) -> [bool; 8]
     ensures { λ r. ⌜ r ≡ bitsOf there ⌝ }
 {
     [
@@ -27,11 +30,21 @@ fn bits(there: u8) -> [bool; 8]
     ]
 }
 
+// The number that refuses a fresh start with a process over 7.
+fn start_refusal(state: &[u8]) -> u8
+    ensures { λ r. ⌜ r ≡ startRefusal (now (state .entry)) ⌝ }
+{
+    if state.len() == STATE_BYTES { 7 } else { 1 }
+}
+
 // A fresh start with the processes whose bits are set.
 #[no_mangle]
-pub extern "C" fn palustrode_fresh_start(there: u8, state: &mut [u8]) -> i64
-    ensures { λ r. ⌜ Starts (startOn (bitsOf there) (now (state .entry))) r (now (state .exit)) ⌝ }
+pub extern "C" fn palustrode_fresh_start(there: u64, state: &mut [u8]) -> i64
+    ensures { λ r. ⌜ Starts (startWith there (now (state .entry))) r (now (state .exit)) ⌝ }
 {
+    if 256 <= there {
+        return minus(start_refusal(state));
+    }
     let outcome = fresh_start(bits(there), state);
     signed(outcome)
 }
@@ -65,9 +78,9 @@ fn words_of(words: &[u8]) -> [u16; 9]
 pub extern "C" fn palustrode_report(
     state: &mut [u8],
     memory: &mut [u8],
-    pid: u8,
-    kind: u8,
-    reason: u16,
+    pid: u64,
+    kind: u64,
+    reason: u64,
     words: &[u8],
     notice: &mut [u8],
 ) -> i64
@@ -76,6 +89,14 @@ pub extern "C" fn palustrode_report(
     if words.len() != 18 {
         return minus(1);
     }
-    let outcome = report(state, memory, pid, kind, reason, words_of(words), notice);
+    let outcome = report(
+        state,
+        memory,
+        byte_of(pid),
+        byte_of(kind_of(kind, reason)),
+        (reason % 65536) as u16,
+        words_of(words),
+        notice,
+    );
     signed(outcome)
 }

@@ -5,17 +5,17 @@ use mathlib.Core.List.{List, [], _∷_}
 use Prim.Native.Nat.{ℕ, zero, suc, _<_}
 use native.Mathlib.Omega.{arith}
 use borrow.Author.Tests.{eqb-true, not-true}
-use lib.ListN.{length, getD, replicate}
+use lib.ListN.{replicate}
 use lib.Dec.{eqb}
 use Rattle.lists.specs.Every.{every, below}
 use Rattle.lists.proofs.Bool.{&&-left, &&-right}
 use Rattle.lists.proofs.Every.{below-at}
-use Rattle.state.specs.Records.{processAt, freshStart, soundTest as soundState, lowestAbsent}
+use Rattle.state.specs.Records.{freshStart, soundTest as soundState, lowestAbsent}
 use Rattle.lists.specs.Buffer.{overlay}
 use Rattle.lists.specs.Word.{lowFirst}
 use Rattle.format.specs.Answer.{cantOf, createdOf, noticeOf}
 use Rattle.format.specs.Layout.{written, headerOf, stringOf, fixedRight}
-use Rattle.format.specs.Outcome.{numberOf, firstFailing}
+use Rattle.format.specs.Outcome.{numberOf, firstFailing, lengthOf}
 use Rattle.format.specs.Refusal.{unusedZero, carriedLength, wrongLength, wrongHeader, misfits}
 use Rattle.ops.specs.Table.{rowOf, requestForm}
 use Rattle.breakpoints.specs.EntryQuery.{matches}
@@ -35,7 +35,7 @@ use Rattle.rules.specs.Step.{put, grantedNamed, grantedCreate, granted, refused
 use Rattle.rules.specs.Tests.{askedTests, requestNumber, reportNumber}
 use Rattle.rules.specs.Access.{insider}
 use Rattle.rules.specs.Tests.{State}
-use Rattle.rules.specs.Step.{Answer, localOf, stored}
+use Rattle.rules.specs.Step.{localOf, stored}
 use Rattle.rules.specs.Ready.{Ready}
 use Rattle.rules.specs.Run.{TraceItem, run}
 use Rattle.rules.specs.Total.{oneOf}
@@ -106,7 +106,7 @@ record Computed : Type 0 where
   unlike : heard (only 9) (run one oneCalls) ≡ heard (only 9) (run other otherCalls) → ⊥
 
 computed : Computed
-unfolding strikeRun hiddenAfter createdFor withoutTheirs namesOne subject event passedOver fieldsOf isOne isGranted struck withoutData theirs insider heard part asker sentTo noticed stored overlay lowFirst cantOf createdOf noticeOf written headerOf stringOf fixedRight numberOf firstFailing unusedZero carriedLength wrongLength wrongHeader misfits rowOf requestForm matches find plantedIn liftedIn removedFrom replanted liftedAt fresh accepts storeVectorAndReplant passes verdictOf recipientOf passed runAfter reported hasBreak hasRoom examined deposited vectorAfter breakSet breakRemoved created cleared restored seen savedFrom sheltered overlaySavedByte overlaySavedWord validBreakAddress absentHasNoHost liftSound usedSound entrySound soundTest freshStart soundState startOf slot withSlot public ruleOf names run put grantedNamed grantedCreate granted refused requestStep noticeTo notified reportStep step lowestAbsent askedTests requestNumber reportNumber
+unfolding strikeRun hiddenAfter createdFor withoutTheirs namesOne subject event passedOver fieldsOf isOne isGranted struck withoutData theirs insider heard part asker sentTo noticed stored overlay lowFirst cantOf createdOf noticeOf written headerOf stringOf fixedRight numberOf lengthOf firstFailing unusedZero carriedLength wrongLength wrongHeader misfits rowOf requestForm matches find plantedIn liftedIn removedFrom replanted liftedAt fresh accepts storeVectorAndReplant passes verdictOf recipientOf passed runAfter reported hasBreak hasRoom examined deposited vectorAfter breakSet breakRemoved created cleared restored seen savedFrom sheltered overlaySavedByte overlaySavedWord validBreakAddress absentHasNoHost liftSound usedSound entrySound soundTest freshStart soundState startOf slot withSlot public ruleOf names run put grantedNamed grantedCreate granted refused requestStep noticeTo notified reportStep step lowestAbsent askedTests requestNumber reportNumber
 computed = record {
   one-ready = record { memory = refl; processes = refl; entries = eight one refl; sound = refl };
   other-ready = record { memory = refl; processes = refl; entries = eight other refl; sound = refl };

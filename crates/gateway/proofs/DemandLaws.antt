@@ -2,7 +2,7 @@
 use mathlib.Core.Path.{_≡_, refl, sym, ap, _∙_}
 use mathlib.Core.Bool.{Bool, true, false, cond}
 use mathlib.Core.List.{List, [], _∷_}
-use Prim.Native.Nat.{ℕ}
+use Prim.Native.Nat.{ℕ, _<_}
 use lib.ListN.{getD}
 use Rattle.format.specs.declared.outcome.Outcome.{Outcome}
 use Rattle.format.specs.declared.outcome.Outcome.the-variants.{Granted, Refused}
@@ -11,9 +11,10 @@ use Rattle.format.proofs.OutcomeLaws.{numberOf-outcome, outcome-other}
 use Rattle.rules.specs.Tests.{State, noRoom}
 use Rattle.rules.specs.Step.{Call, request, report, store, step, localOf}
 use Rattle.rules.specs.Turn.{bufferOf}
-use Rattle.rules.specs.Run.{TraceItem, run}
+use Rattle.rules.specs.Run.{TraceItem, run, leave}
 use Rattle.rules.specs.Total.{oneOf, numbersOf}
-use Rattle.rules.specs.Isolation.{isGranted, heard}
+use Rattle.rules.specs.Isolation.{isGranted, heard, theirs}
+use Rattle.rules.specs.Outsider.{only, Outsider, Outsiders}
 use Rattle.rules.specs.Together.{withoutTheirs, callsOf}
 use Rattle.rules.proofs.TotalLaws.{total}
 use Rattle.rules.proofs.RightsLaws.{rights}
@@ -91,6 +92,10 @@ total-on-bytes = record {
 
 -- ---- lists
 
+outsiders : (host p : ℕ) → p < 8 → Outsider host p
+unfolding Outsiders
+outsiders = isolation .outsiders
+
 -- calls that are a run of the rules, however they are made
 module _ (made : List ℕ → List ℕ → List Call → List TraceItem → Type 0)
     (runs : (state memory : List ℕ) → Begins state memory → (l : List Call) (es : List TraceItem) → made state memory l es → es ≡ run (readFrom state memory) l) where
@@ -116,6 +121,16 @@ module _ (made : List ℕ → List ℕ → List Call → List TraceItem → Type
         ∙ ap (λ (xs : List TraceItem). run (readFrom state memory) (callsOf (withoutTheirs H P marks xs))) whole
         ∙ isolation .together H P .left-out (readFrom state memory) (b .ready) l (rw whole at away) marks
         ∙ ap (withoutTheirs H P marks) (sym whole);
+    outsider-heard = λ host p low s₁ m₁ s₂ m₂ b₁ b₂ differ l₁ l₂ es₁ es₂ d₁ d₂ alike never.
+        let first = runs s₁ m₁ b₁ l₁ es₁ d₁ in
+        ap (heard (only host)) first
+        ∙ outsiders host p low .same-answers (readFrom s₁ m₁) (readFrom s₂ m₂) (b₁ .ready) (b₂ .ready) differ l₁ l₂ alike (rw first at never)
+        ∙ ap (heard (only host)) (sym (runs s₂ m₂ b₂ l₂ es₂ d₂));
+    outsider-left-out = λ host p low state memory b l es fewer d never marks f.
+        let whole = runs state memory b l es d in
+        runs state memory b (leave (theirs (only host) (only p)) marks l) fewer f
+        ∙ outsiders host p low .unnoticed (readFrom state memory) (b .ready) l (rw whole at never) marks
+        ∙ ap (leave (λ (e : TraceItem). theirs (only host) (only p) (e .call)) marks) (sym whole);
   }
 
 made-runs : (state memory : List ℕ) → Begins state memory → (l : List Call) (es : List TraceItem) → Made state memory l es → es ≡ run (readFrom state memory) l

@@ -8,10 +8,11 @@ use Rattle.format.specs.Outcome.{numberOf}
 use Rattle.state.specs.Slot.{capacity}
 use Rattle.rules.specs.Step.{Call, request, report, localOf}
 use Rattle.rules.specs.Ready.{Typed}
-use Rattle.rules.specs.Run.{TraceItem, run}
+use Rattle.rules.specs.Run.{TraceItem, run, leave}
 use Rattle.rules.specs.Total.{Total, oneOf, numbersOf}
 use Rattle.rules.specs.Rights.{Rights, MayChange}
-use Rattle.rules.specs.Isolation.{Hosts, Processes, Apart, heard}
+use Rattle.rules.specs.Isolation.{Hosts, Processes, Alike, Apart, heard, theirs, publicOf}
+use Rattle.rules.specs.Outsider.{only, Differ, Never}
 use Rattle.rules.specs.Together.{Away, AlikeRuns, withoutTheirs, callsOf, Isolation}
 use Rattle.state_bytes.specs.Widths.{stateWidth}
 use Rattle.gateway.specs.Called.{Called, Did, lentOn, refusedBy, startOn}
@@ -58,6 +59,15 @@ pub record ListsOnBytes (made : List ℕ → List ℕ → List Call → List Tra
   pub left-out : (H : Hosts) (P : Processes) (state memory : List ℕ) → Begins state memory → (l : List Call) (es fewer : List TraceItem)
       → made state memory l es → Away H P (readFrom state memory) es → (marks : List Bool)
       → made state memory (callsOf (withoutTheirs H P marks es)) fewer → fewer ≡ withoutTheirs H P marks es
+  -- both parts for one host and one process, in document 01's words
+  pub outsider-heard : (host p : ℕ) → p < 8 → (state₁ memory₁ state₂ memory₂ : List ℕ) → Begins state₁ memory₁ → Begins state₂ memory₂
+      → Differ p (readFrom state₁ memory₁) (readFrom state₂ memory₂)
+      → (l₁ l₂ : List Call) (es₁ es₂ : List TraceItem) → made state₁ memory₁ l₁ es₁ → made state₂ memory₂ l₂ es₂
+      → Alike (only host) (only p) l₁ l₂ → Never host p (publicOf (readFrom state₁ memory₁)) es₁ → heard (only host) es₁ ≡ heard (only host) es₂
+  pub outsider-left-out : (host p : ℕ) → p < 8 → (state memory : List ℕ) → Begins state memory → (l : List Call) (es fewer : List TraceItem)
+      → made state memory l es → Never host p (publicOf (readFrom state memory)) es → (marks : List Bool)
+      → made state memory (leave (theirs (only host) (only p)) marks l) fewer
+      → fewer ≡ leave (λ (e : TraceItem). theirs (only host) (only p) (e .call)) marks es
 
 -- the demands hold of the calls
 pub record Demands : Type 0 where

@@ -3,7 +3,7 @@
 use mathlib.Core.Path.{_≡_, refl, sym, ap, _∙_, subst, fun-ext}
 use mathlib.Core.Bool.{Bool, true, false, not, _&&_, true≢false, and-true, and-false}
 use mathlib.Core.List.{List}
-use Prim.Native.Nat.{ℕ, _<_}
+use Prim.Native.Nat.{ℕ}
 use borrow.Author.Tests.{eqb-true, eq-eqb, not-false}
 use lib.ListN.{getD}
 use lib.Dec.{eqb}
@@ -18,7 +18,7 @@ use Rattle.rules.specs.Step.{Answer, StepResult, localOf, put, Call, ste
 use Rattle.rules.specs.Turn.{turnOf, bufferOf}
 use Rattle.rules.specs.Ready.{Ready}
 use Rattle.rules.specs.Run.{TraceItem, traceItem}
-use Rattle.rules.specs.Isolation.{Hosts, Processes, asker, subject, passedOver, fieldsOf, isOne, isGranted, toldOf, withoutData, Apart, NoneDebugs}
+use Rattle.rules.specs.Isolation.{Hosts, Processes, asker, subject, fieldsOf, isOne, isGranted, toldOf, withoutData, Apart, NoneDebugs}
 use Rattle.rules.specs.Together.{createdFor, hiddenAfter}
 use Rattle.rules.proofs.StateLaws.{local-proper, put-changed}
 use Rattle.rules.proofs.CallLaws.{Shown, There, Nowhere, Placed}
@@ -94,14 +94,13 @@ module _ (H : Hosts) where
   creating : (s : State) (c : Call) (p : ℕ) → createdFor H (traceItem s c) p ≡ true → Creating s c p
   unfolding createdFor
   creating s c p i =
-      let x = step s c .answer in
-      let two = &&-right (isOne H (asker c)) (creates (fieldsOf c .cmd) && (isGranted (x .outcome) && eqb p (getD (x .buffer) 5 0))) i in
-      let three = &&-right (creates (fieldsOf c .cmd)) (isGranted (x .outcome) && eqb p (getD (x .buffer) 5 0)) two in
+      let two = &&-right (isOne H (asker c)) _ i in
+      let three = &&-right (creates (fieldsOf c .cmd)) _ two in
       record {
         asked = &&-left (isOne H (asker c)) _ i;
         op = eqb-true _ CREATE (&&-left (creates (fieldsOf c .cmd)) _ two);
-        granted = &&-left (isGranted (x .outcome)) (eqb p (getD (x .buffer) 5 0)) three;
-        number = sym (eqb-true p _ (&&-right (isGranted (x .outcome)) _ three));
+        granted = &&-left (isGranted (step s c .answer .outcome)) _ three;
+        number = sym (eqb-true p _ (&&-right (isGranted (step s c .answer .outcome)) _ three));
       }
 
   -- a call by which nothing is created for them
@@ -113,17 +112,17 @@ module _ (H : Hosts) where
   unfolding createdFor
   not-asked s c e p = rw e
 
-  -- a call about a process leaves hidden what is
-  pub subject-hidden : (P Q : Processes) (s : State) (c : Call) → subject Q c ≡ true → hiddenAfter H P (traceItem s c) ≡ P
+  -- a call about one of the processes leaves hidden what is
+  pub subject-hidden : (P : Processes) (s : State) (c : Call) → subject P c ≡ true → hiddenAfter H P (traceItem s c) ≡ P
   unfolding createdFor
-  subject-hidden P Q s c e = none-created P s c (λ p. rw (lawful c .subject-creates Q e) (and-false (isOne H (asker c))))
+  subject-hidden P s c e = none-created P s c (λ p. rw (lawful c .subject-creates P e) (and-false (isOne H (asker c))))
 
   -- ---- where they stay away, nothing is created for them
 
   module _ (P : Processes) (s : State) (r : Ready s) (c : Call) (before : NoneDebugs H P s) (after : NoneDebugs H P (step s c .after)) where
-    created-in : (w : Asker) → asker c ≡ w → (p : ℕ) → P p ≡ true → createdFor H (traceItem s c) p ≡ true → ⊥
+    none-made : (p : ℕ) → P p ≡ true → createdFor H (traceItem s c) p ≡ true → ⊥
     unfolding isOne isGranted
-    created-in w e p i n = go w e (done s r c)
+    none-made p i n = go (asker c) refl (done s r c)
       where
         m : Creating s c p
         m = creating s c p n
@@ -143,7 +142,7 @@ module _ (H : Hosts) where
         go : (p : ℕ) (b : Bool) → P p ≡ b → (t : Bool) → createdFor H (traceItem s c) p ≡ t → P p && not (createdFor H (traceItem s c) p) ≡ P p
         go p false i t n = rw i
         go p true i false n = rw (i, n)
-        go p true i true n = absurd (created-in (asker c) refl p i n)
+        go p true i true n = absurd (none-made p i n)
 
   -- ---- one call in two gateways
 

@@ -40,11 +40,11 @@ module _ (H : Hosts) where
 
   struck-hidden : (P : Processes) (s : State) (c : Call) → struck P c ≡ true → hiddenAfter H P (traceItem s c) ≡ P
   unfolding struck
-  struck-hidden P s c e = subject-hidden H P P s c (&&-right (event c) (subject P c) e)
+  struck-hidden P s c e = subject-hidden H P s c (&&-right (event c) (subject P c) e)
 
   theirs-hidden : (P : Processes) (s : State) (c : Call) → theirs H P c ≡ true → hiddenAfter H P (traceItem s c) ≡ P
   unfolding theirs
-  theirs-hidden P s c e = subject-hidden H P P s c (&&-right (isOne H (asker c)) (subject P c) e)
+  theirs-hidden P s c e = subject-hidden H P s c (&&-right (isOne H (asker c)) (subject P c) e)
 
   stepwise : Stepwise hiding
   stepwise = record {

@@ -182,7 +182,7 @@ NeverDebugs H P s (c ∷ cs) = NoneDebugs H P s × NeverDebugs H P (step s c .af
 unfoldable pub theirs : Hosts → Processes → Call → Bool
 theirs H P c = isOne H (asker c) && subject P c
 
--- ---- the claim, for a set of hosts and a set of processes
+-- ---- the claim, for a set of hosts and a set of processes, where the same processes stay hidden to the end
 
 -- what a set of hosts is answered does not rest on processes that they do not debug, and their requests naming those could be left out
 pub record Claim (H : Hosts) (P : Processes) : Type 0 where

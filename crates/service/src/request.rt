@@ -81,7 +81,8 @@ pub fn answer_create(
     ensures { λ r. ⌜ served (r .outcome) (r .process) (now (bytes .exit)) (now (reply .exit)) ≡ createdAt pid h (now (reply .entry)) ⌝ }
 {
     let created = process.create(h.host, bytes);
-    let outcome = reply_plain(h.created(pid as u8), reply);
+    let number = pid as u8;
+    let outcome = reply_plain(h.created(number), reply);
     ServiceResult {
         outcome: outcome,
         process: created,

@@ -2,7 +2,7 @@
 use mathlib.Core.Path.{_≡_, refl, sym, ap, _∙_}
 use mathlib.Core.Bool.{Bool, true, false, not, _&&_}
 use mathlib.Core.List.{List, _++_}
-use Prim.Native.Nat.{ℕ, _+_, _-_, _*_, _%_, _<_}
+use Prim.Native.Nat.{ℕ, suc, _+_, _-_, _*_, _/_, _%_, _<_}
 use native.Mathlib.Omega.{arith}
 use borrow.Author.Tests.{eqb-true, eq-eqb, ne-eqb}
 use lib.ListN.{length, take, drop, getD}
@@ -26,10 +26,10 @@ use Rattle.state.specs.Records.{Records, nobody, processAt, withProcess, soundT
 use Rattle.state_bytes.specs.Chunk.{chunks, everyChunk}
 use Rattle.state_bytes.specs.Number.{flagOf}
 use Rattle.state_bytes.specs.Process.{processBytes, processOf, processFormed, processSound}
-use Rattle.state_bytes.specs.State.{stateBytes, withProcessBytes, stateOf, stateFormed, stateSound}
+use Rattle.state_bytes.specs.State.{stateBytes, withProcessBytes, stateOf, stateFormed, stateSound, SoundBefore}
 use Rattle.state_bytes.specs.Theorems.{Sized, Inverse}
 use Rattle.state_bytes.specs.Widths.{thereAt, processCount, processWidth, stateWidth}
-use Rattle.state_bytes.proofs.ChunkLaws.{length-joined, length-chunks, getD-chunks, chunks-joined, every-joined, joined-chunks, joined-with, every-read, every-both}
+use Rattle.state_bytes.proofs.ChunkLaws.{length-joined, length-chunks, getD-chunks, chunks-joined, every-joined, joined-chunks, joined-with, every-read, every-both, every-snoc}
 use Rattle.state_bytes.proofs.ProcessLaws.{length-processBytes, process-back, process-formed, process-forth}
 
 -- ---- one process
@@ -103,6 +103,13 @@ each-sound m size =
     let reads = every-read processWidth processOf soundProcess processCount m in
     let count = every-below soundProcess (chunks processWidth processOf processCount m) nobody in
     rw (eq-eqb _ _ size) (sym (all ∙ ap (λ (b : Bool). everyChunk processWidth processFormed processCount m && b) (reads ∙ count)))
+
+-- one more, at an index
+pub sound-next : (at : ℕ) (m : List ℕ) → SoundBefore at m → at < stateWidth → processSound (take processWidth (drop (processWidth * (at / processWidth)) m)) ≡ true → SoundBefore (at + processWidth) m
+sound-next at m s h e =
+    let n = at / processWidth in
+    let more : (at + processWidth) / processWidth ≡ suc n = omega arith in
+    (omega (arith, more, s .0), omega (arith, h, s .0), s .2, rw more (every-snoc processWidth processSound n m (s .3) e))
 
 -- ---- there and back
 

@@ -2,7 +2,7 @@
 use mathlib.Core.Path.{_≡_}
 use mathlib.Core.Bool.{Bool, true, _&&_}
 use mathlib.Core.List.{List, _++_}
-use Prim.Native.Nat.{ℕ, _*_, _≤_}
+use Prim.Native.Nat.{ℕ, _*_, _/_, _≤_}
 use lib.ListN.{length, take, drop}
 use lib.Dec.{eqb}
 use Rattle.lists.specs.Joined.{joined}
@@ -32,6 +32,6 @@ stateFormed m = eqb (length m) stateWidth && everyChunk processWidth processForm
 unfoldable pub stateSound : List ℕ → Bool
 stateSound m = stateFormed m && soundTest (stateOf m)
 
--- as many bytes as a state has, and the first n of its processes are sound
+-- as many bytes as a state has, and before this index whole processes, each sound
 abbrev pub SoundBefore : ℕ → List ℕ → Type 0
-SoundBefore n m = (n ≤ processCount) × (length m ≡ stateWidth) × (everyChunk processWidth processSound n m ≡ true)
+SoundBefore at m = (at ≡ processWidth * (at / processWidth)) × (at ≤ stateWidth) × (length m ≡ stateWidth) × (everyChunk processWidth processSound (at / processWidth) m ≡ true)

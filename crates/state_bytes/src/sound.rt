@@ -6,10 +6,9 @@ use crate::process_form::head_sound;
 use crate::process_form::read_process;
 use crate::widths::ENTRIES_AT;
 use crate::widths::PROCESS_BYTES;
-use crate::widths::PROCESS_COUNT;
 use crate::widths::STATE_BYTES;
 ghost use mathlib.Core.Path.{_≡_};
-ghost use Prim.Native.Nat.{_*_, _≤_};
+ghost use Prim.Native.Nat.{_≤_};
 ghost use lib.ListN.{length};
 ghost use Rattle.state_bytes.specs.Process.{processPlain, processSound};
 ghost use Rattle.state_bytes.specs.State.{SoundBefore, stateSound};
@@ -26,28 +25,20 @@ fn process_plain(bytes: &[u8]) -> bool
     entries_bits(&bytes[ENTRIES_AT..]) == 0
 }
 
-// How many processes were passed, and the index after their last byte.
-struct Passed {
-    count: usize,
-    end: usize,
-}
-
-// Passes the processes before the first that is not plain. No slow path stands in this loop.
-fn plain_before(state: &[u8]) -> Passed
+// The index of the first process that is not plain, or that after the last. No slow path stands in this loop.
+fn plain_before(state: &[u8]) -> usize
     requires { ⌜ length (now state) ≡ stateWidth ⌝ }
-    ensures { λ r. ⌜ (r .end ≡ processWidth * r .count) × SoundBefore (r .count) (now (state .entry)) ⌝ }
+    ensures { λ r. ⌜ SoundBefore r (now (state .entry)) ⌝ }
 {
-    let mut n = 0;
     let mut at = 0;
-    while n < PROCESS_COUNT {
+    while at < STATE_BYTES {
         let end = at + PROCESS_BYTES;
         if !process_plain(&state[at..end]) {
-            return Passed { count: n, end: at };
+            return at;
         }
         at = end;
-        n += 1;
     }
-    Passed { count: n, end: at }
+    at
 }
 
 // The bytes of a process are those of a sound record.
@@ -75,16 +66,13 @@ pub fn state_sound(state: &[u8]) -> bool
     if state.len() != STATE_BYTES {
         return false;
     }
-    let passed = plain_before(state);
-    let mut p = passed.count;
-    let mut at = passed.end;
-    while p < PROCESS_COUNT {
-        let end = at + PROCESS_BYTES;
-        if !process_sound(&state[at..end]) {
+    let mut start = plain_before(state);
+    while start < STATE_BYTES {
+        let end = start + PROCESS_BYTES;
+        if !process_sound(&state[start..end]) {
             return false;
         }
-        at = end;
-        p += 1;
+        start = end;
     }
     true
 }

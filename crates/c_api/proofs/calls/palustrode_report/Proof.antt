@@ -1,15 +1,16 @@
 -- `c_api::calls::palustrode_report` meets its contract: that of the gateway's report, where the words have their length. Assumes nothing.
-use mathlib.Core.Path.{_≡_, refl, _∙_}
+use mathlib.Core.Path.{_≡_, refl, ap, _∙_}
 use borrow.Author.Tests.{eq-eqb, ne-eqb}
 use lib.ListN.{length}
 use mir.Syntax.{w64}
 use mir.Val.{toZ, ofZ}
 use Rattle.format.specs.Outcome.{numberOf, isGranted}
 use Rattle.rules.specs.Step.{report}
-use Rattle.c_api.specs.Called.{signed, reportOn}
+use Rattle.c_api.specs.Called.{signed, byteOf, reportOn}
 use Rattle.c_api.proofs.ShortLaws.{nine-words, report-short}
 use Rattle.c_api.proofs.ReturnLaws.{call-short, call-returns}
 use Rattle.gateway.specs.Called.{Did}
+use Rattle.c_api.proofs.NarrowLaws.{narrow-report}
 use borrow.Author.Needs.{needs}
 use Rattle.c_api.proofs.calls.palustrode_report.Statement.{statement}
 use Rattle.c_api.proofs.calls.palustrode_report.Tie as tie
@@ -24,8 +25,20 @@ returns c =
     let same : toZ w64 (ofZ w64 (c .minus .result)) ≡ c .minus .result = search needs in
     rw (ne-eqb (length (a .words .now)) 18 (c .before .if1 .taken)) (record { result-is = same ∙ c .minus .ensures; state-is = refl; memory-is = refl; buffer-is = refl })
 
+byte-of-requires : tie.Need-byte-of-requires
+byte-of-requires c κs = search needs
+
+kind-of-requires : tie.Need-kind-of-requires
+kind-of-requires c κs = search needs
+
+byte-of-requires-2 : tie.Need-byte-of-requires-2
+byte-of-requires-2 c κs = search needs
+
+cast-report : tie.Need-cast-report
+cast-report c = search needs
+
 words-of-requires : tie.Need-words-of-requires
-words-of-requires c κs = c .before .before .if1 .left
+words-of-requires c κs = c .before .before .before .before .before .if1 .left
 
 report-requires : tie.Need-report-requires
 report-requires c κs = search needs
@@ -33,10 +46,11 @@ report-requires c κs = search needs
 signed-requires : tie.Need-signed-requires
 unfolding Did
 signed-requires c κs =
-    let a = c .before .before .before .before .before .before .before .before .before .before .before .before .before .before .before .before .args in
-    let w = c .before .before .before .before .before .before .before .before .words-of .result in
-    let nine : length w ≡ 9 = rw (c .before .before .before .before .before .before .before .before .words-of .ensures) (nine-words (a .words .now)) in
-    call-short _ _ _ _ _ _ (report (a .pid) (a .kind) (a .reason) w (a .notice .now)) (c .before .before .before .before .before .before .report .ensures) (report-short (a .state .now) (a .memory .now) (a .pid) (a .kind) (a .reason) w (a .notice .now) nine)
+    let r = c .before .before .before .before .before .before in
+    let w = r .before .before in
+    let a = w .before .before .before .before .before .before .before .before .before .before .before .args in
+    let nine : length (w .words-of .result) ≡ 9 = rw (w .words-of .ensures) (nine-words (a .words .now)) in
+    call-short _ _ _ _ _ _ (report _ _ _ (w .words-of .result) (a .notice .now)) (r .report .ensures) (report-short (a .state .now) (a .memory .now) _ _ _ (w .words-of .result) (a .notice .now) nine)
 
 same-length : tie.Need-same-length
 same-length c = search needs
@@ -50,10 +64,16 @@ same-length-3 c = search needs
 returns-2 : tie.Need-returns-2
 unfolding reportOn Did
 returns-2 c =
-    let a = c .before .before .before .before .before .before .before .before .before .before .before .before .before .before .before .before .before .args in
+    let r = c .before .before .before .before .before .before .before in
+    let w = r .before .before in
+    let k = w .before in
+    let n = k .before .before in
+    let i = n .before .before .before in
+    let a = i .before .before .before .before .before .args in
     let same : toZ w64 (ofZ w64 (c .signed .result)) ≡ c .signed .result = search needs in
-    rw (eq-eqb (length (a .words .now)) 18 (c .before .before .before .before .before .before .before .before .before .before .before .before .if1 .left), ← c .before .before .before .before .before .before .before .before .before .words-of .ensures)
-    (call-returns _ _ _ _ _ _ (report (a .pid) (a .kind) (a .reason) (c .before .before .before .before .before .before .before .before .before .words-of .result) (a .notice .now)) (c .before .before .before .before .before .before .before .report .ensures) _ (same ∙ c .signed .ensures))
+    let kind = k .byte-of2 .ensures ∙ ap byteOf (k .before .kind-of .ensures) in
+    rw (eq-eqb (length (a .words .now)) 18 (i .if1 .left), ← w .words-of .ensures, ← narrow-report (a .state .now) (a .memory .now) (a .pid) (a .kind) (a .reason) (w .words-of .result) (a .notice .now), ← n .byte-of .ensures, ← kind)
+    (call-returns _ _ _ _ _ _ (report _ _ _ (w .words-of .result) (a .notice .now)) (r .report .ensures) _ (same ∙ c .signed .ensures))
 
 pub palustrode-report-spec : {M : Type 1} → statement M
 palustrode-report-spec =
@@ -61,6 +81,10 @@ palustrode-report-spec =
     (tie.spec
     minus-requires
     returns
+    byte-of-requires
+    kind-of-requires
+    byte-of-requires-2
+    cast-report
     words-of-requires
     report-requires
     signed-requires

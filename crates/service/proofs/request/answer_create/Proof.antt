@@ -8,8 +8,8 @@ use Rattle.service.proofs.request.answer_create.Tie as tie
 create-requires : tie.Need-create-requires
 create-requires c κs = search needs
 
-cast-created : tie.Need-cast-created
-cast-created c = search needs
+cast-number : tie.Need-cast-number
+cast-number c = search needs
 
 created-requires : tie.Need-created-requires
 created-requires c κs = search needs
@@ -36,7 +36,7 @@ answer-create-spec =
     tie.close
     (tie.spec
     create-requires
-    cast-created
+    cast-number
     created-requires
     reply-plain-requires
     same-length

@@ -1,24 +1,23 @@
 -- `state_bytes::sound::state_sound` meets its contract. The loop's invariant: the processes passed are sound. Assumes nothing.
 use mathlib.Core.Path.{_≡_, sym, _∙_}
 use mathlib.Core.Bool.{true, false}
-use Prim.Native.Nat.{_-_, _*_}
+use Prim.Native.Nat.{_-_, _*_, _/_}
 use native.Mathlib.Omega.{arith}
-use native.Mathlib.Numerals.{add-one}
 use borrow.Author.Needs.{needs}
 use borrow.Author.Tests.{ne-eqb, not-true, not-false}
 use Rattle.state_bytes.specs.Process.{processSound}
 use Rattle.state_bytes.specs.State.{SoundBefore, stateFormed, stateSound}
-use Rattle.state_bytes.specs.Widths.{processCount, processWidth}
-use Rattle.state_bytes.proofs.ChunkLaws.{length-piece, test-piece, every-snoc, every-fails}
-use Rattle.state_bytes.proofs.StateLaws.{each-sound}
+use Rattle.state_bytes.specs.Widths.{processCount, processWidth, stateWidth}
+use Rattle.state_bytes.proofs.ChunkLaws.{length-piece, test-piece, every-fails}
+use Rattle.state_bytes.proofs.StateLaws.{each-sound, sound-next}
 use Rattle.state_bytes.proofs.sound.state_sound.Statement.{statement}
 use Rattle.state_bytes.proofs.sound.state_sound.Tie as tie
 
 abbrev Inv-loop : tie.InvT-loop
-Inv-loop state p₀ at₀ p at = (at ≡ processWidth * p) × SoundBefore p state
+Inv-loop state start₀ start = SoundBefore start state
 
 abbrev μ-loop : tie.MeasureT-loop
-μ-loop state p₀ at₀ p at = processCount - p
+μ-loop state start₀ start = stateWidth - start
 
 returns : tie.Need-returns Inv-loop μ-loop
 unfolding stateSound stateFormed
@@ -40,24 +39,22 @@ part-process-sound-start : tie.Need-part-process-sound-start Inv-loop μ-loop
 part-process-sound-start c = search needs
 
 part-process-sound-end : tie.Need-part-process-sound-end Inv-loop μ-loop
-part-process-sound-end c = let l = c .before in omega (arith, l .loop .inv .0, l .loop .inv .1 .1)
+part-process-sound-end c = let l = c .before in omega (arith, l .loop .inv .0, l .loop .inv .2)
 
 process-sound-requires : tie.Need-process-sound-requires Inv-loop μ-loop
 process-sound-requires c κs =
     let l = c .before .before in
     let m = l .before .before .before .before .args .state .now in
-    omega (arith, length-piece processWidth (l .loop .at) m (omega (arith, l .loop .inv .0, l .loop .inv .1 .1)))
+    omega (arith, length-piece processWidth (l .loop .start) m (omega (arith, l .loop .inv .0, l .loop .inv .2)))
 
 returns-2 : tie.Need-returns-2 Inv-loop μ-loop
 returns-2 c =
     let f = c .before in
     let l = f .before .before .before in
+    let p = l .loop .start / processWidth in
     let m = l .before .before .before .before .args .state .now in
-    let fails = test-piece processWidth (l .loop .p) (l .loop .at) processSound m false (l .loop .inv .0) (sym (f .process-sound .ensures) ∙ not-true _ (c .if2 .taken)) in
-    sym (each-sound m (l .loop .inv .1 .1) ∙ every-fails processWidth processSound processCount (l .loop .p) m (omega arith) fails)
-
-add-p : tie.Need-add-p Inv-loop μ-loop
-add-p c = omega arith
+    let fails = test-piece processWidth p (l .loop .start) processSound m false (l .loop .inv .0) (sym (f .process-sound .ensures) ∙ not-true _ (c .if2 .taken)) in
+    sym (each-sound m (l .loop .inv .2) ∙ every-fails processWidth processSound processCount p m (omega (arith, l .loop .inv .0)) fails)
 
 loop-less : tie.Need-loop-less Inv-loop μ-loop
 loop-less c = omega arith
@@ -66,17 +63,17 @@ loop-again : tie.Need-loop-again Inv-loop μ-loop
 loop-again c =
     let f = c .before in
     let l = f .before .before .before in
-    let p = l .loop .p in
+    let start = l .loop .start in
     let m = l .before .before .before .before .args .state .now in
-    let holds = test-piece processWidth p (l .loop .at) processSound m true (l .loop .inv .0) (sym (f .process-sound .ensures) ∙ not-false _ (c .if2 .left)) in
-    (omega arith, (omega arith, l .loop .inv .1 .1, rw (add-one p) (every-snoc processWidth processSound p m (l .loop .inv .1 .2) holds)))
+    let holds = test-piece processWidth (start / processWidth) start processSound m true (l .loop .inv .0) (sym (f .process-sound .ensures) ∙ not-false _ (c .if2 .left)) in
+    sound-next start m (l .loop .inv) (omega arith) holds
 
 returns-3 : tie.Need-returns-3 Inv-loop μ-loop
 returns-3 c =
     let l = c .before in
     let m = l .before .before .before .before .args .state .now in
-    let end : l .loop .p ≡ processCount = omega arith in
-    sym (each-sound m (l .loop .inv .1 .1) ∙ rw end at (l .loop .inv .1 .2))
+    let end : l .loop .start / processWidth ≡ processCount = omega (arith, l .loop .inv .0, l .loop .inv .1) in
+    sym (each-sound m (l .loop .inv .2) ∙ rw end at (l .loop .inv .3))
 
 pub state-sound-spec : {M : Type 1} → statement M
 state-sound-spec =
@@ -93,7 +90,6 @@ state-sound-spec =
     part-process-sound-end
     process-sound-requires
     returns-2
-    add-p
     loop-less
     loop-again
     returns-3)

@@ -1,5 +1,6 @@
 -- `lines::scan::Scan::close` meets its contract, by whether the character is a digit and the buffer has room. Assumes nothing.
 use mathlib.Core.Path.{refl, sym}
+use native.Mathlib.Omega.{arith}
 use borrow.Author.Needs.{needs}
 use borrow.Author.Tests.{lt-ltb, le-ltb}
 use lib.Seq.{set-out}
@@ -31,7 +32,7 @@ same-length c = search needs
 
 returns-2 : tie.Need-returns-2
 unfolding next made kept filled
-returns-2 c = let i = c .before in rw (← i .before .value .ensures, lt-ltb _ _ (i .if1 .left), lt-ltb _ _ (c .if2 .taken)) (refl, (refl, refl))
+returns-2 c = let i = c .before in rw (← i .before .value .ensures, lt-ltb _ _ (i .if1 .left), lt-ltb _ _ (c .if2 .taken)) (refl, (omega arith, refl))
 
 returns-3 : tie.Need-returns-3
 unfolding next made kept filled

@@ -1,0 +1,33 @@
+-- The theorem of `c_api::in_range::numbers_in_range`, number by number. Assumes nothing.
+use mathlib.Core.Path.{_≡_}
+use mathlib.Core.List.{List}
+use Prim.Native.Nat.{ℕ, _<_}
+use borrow.Author.Tests.{lt-ltb, eq-eqb}
+use lib.ListN.{length}
+use Rattle.lists.specs.Word.{vectorOf}
+use Rattle.rules.specs.Step.{report}
+use Rattle.gateway.specs.Called.{callOn, startOn}
+use Rattle.c_api.specs.Called.{bitsOf, kindOf, startWith, reportOn}
+use Rattle.c_api.proofs.DeskLaws.{all-fit, fit-writes}
+use Rattle.c_api.proofs.in_range.numbers_in_range.Statement.{statement}
+use Rattle.c_api.proofs.in_range.numbers_in_range.Tie as tie
+
+report-same : (state memory : List ℕ) (pid kind reason : ℕ) (words notice : List ℕ) → length words ≡ 18 → reason < 65536
+    → reportOn state memory pid kind reason words notice ≡ callOn state memory (report pid kind reason (vectorOf words) notice)
+unfolding reportOn kindOf
+report-same state memory pid kind reason words notice n r = rw (eq-eqb (length words) 18 n, lt-ltb reason 65536 r)
+
+start-same : (there : ℕ) (state : List ℕ) → there < 256 → startWith there state ≡ startOn (bitsOf there) state
+unfolding startWith
+start-same there state h = rw (lt-ltb there 256 h)
+
+returns : tie.Need-returns
+returns c =
+    record {
+      reports = report-same;
+      starts = start-same;
+      writes-same = λ h string buffer f. fit-writes h string buffer (all-fit h f);
+    }
+
+pub numbers-in-range-spec : {M : Type 1} → statement M
+numbers-in-range-spec = tie.close (tie.spec returns)

@@ -1,0 +1,29 @@
+-- Numbers that their fields have room for: the exported functions are then the gateway's calls and the desk's writer.
+use mathlib.Core.Path.{_≡_}
+use mathlib.Core.List.{List}
+use Prim.Native.Nat.{ℕ, _<_}
+use lib.ListN.{length}
+use Rattle.lists.specs.Word.{vectorOf}
+use Rattle.ops.specs.Table.{requestForm}
+use Rattle.format.specs.declared.header.Header.{Header}
+use Rattle.message.specs.Exchange.{writes}
+use Rattle.rules.specs.Step.{report}
+use Rattle.gateway.specs.Called.{callOn, startOn}
+use Rattle.c_api.specs.Called.{bitsOf, startWith, reportOn}
+use Rattle.c_api.specs.Desk.{writeOn}
+
+-- every field of a header has room for its number
+pub record Fits (h : Header) : Type 0 where
+  pub host : h .host < 256
+  pub cmd : h .cmd < 256
+  pub pid : h .pid < 256
+  pub arg1 : h .arg1 < 65536
+  pub arg2 : h .arg2 < 65536
+
+-- a report is the rules' for any process and kind, where ARG1 has room for its reason; a fresh start the gateway's where no bit is above the eighth;
+-- and a request is written as the desk's writer writes it
+pub record InRange : Type 0 where
+  pub reports : (state memory : List ℕ) (pid kind reason : ℕ) (words notice : List ℕ) → length words ≡ 18 → reason < 65536
+      → reportOn state memory pid kind reason words notice ≡ callOn state memory (report pid kind reason (vectorOf words) notice)
+  pub starts : (there : ℕ) (state : List ℕ) → there < 256 → startWith there state ≡ startOn (bitsOf there) state
+  pub writes-same : (h : Header) (string buffer : List ℕ) → Fits h → writeOn h string buffer ≡ writes requestForm h string buffer

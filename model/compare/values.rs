@@ -1,0 +1,245 @@
+//! Values that no list of telling ones has, numbers that have no room in their
+//! field, buffers of any length and at any address: whether each was met.
+
+use crate::calls::{EDGES, HOSTS};
+use crate::sides::{Call, Lent, Side};
+use model::*;
+
+/// A value of one kind, met in a call that got this answer: 0 for granted, or the
+/// refusal's number.
+struct Value {
+    name: &'static str,
+    by: i64,
+    test: fn(&Call, &Side) -> bool,
+}
+
+const fn value(by: i64, name: &'static str, test: fn(&Call, &Side) -> bool) -> Value {
+    Value { name, by, test }
+}
+
+const VALUES: &[Value] = &[
+    // the fields of a request
+    value(0, "request of a host that is in no list", |c, _| request(c, |m| other_host(m[1]))),
+    value(NO_RIGHT, "request of a host that is in no list", |c, _| {
+        request(c, |m| other_host(m[1]))
+    }),
+    value(0, "request, host over 127", |c, _| request(c, |m| m[1] > 127)),
+    value(WRONG_HEAD, "request, TYPE alone wrong", |c, _| head(c, 0)),
+    value(WRONG_HEAD, "request, LINK alone wrong", |c, _| head(c, 2)),
+    value(WRONG_HEAD, "request, STYPE alone wrong", |c, _| head(c, 3)),
+    value(UNKNOWN_CMD, "request, CMD 14 to 63", |c, _| request(c, |m| (14..64).contains(&m[4]))),
+    value(UNKNOWN_CMD, "request, CMD 64 to 127", |c, _| request(c, |m| (64..128).contains(&m[4]))),
+    value(UNKNOWN_CMD, "request, CMD 128 to 255", |c, _| request(c, |m| m[4] > 127)),
+    value(ABSENT, "request, PID over 15", |c, _| request(c, |m| m[5] > 15)),
+    value(OUTSIDE, "EXAMINE of 258 to 4096", |c, _| {
+        asks(c, EXAMINE, |_, count| (258..=4096).contains(&count))
+    }),
+    value(OUTSIDE, "EXAMINE of more than 4096", |c, _| asks(c, EXAMINE, |_, count| count > 4096)),
+    value(0, "EXAMINE at an address that is in no list", |c, _| {
+        asks(c, EXAMINE, |first, _| first > 48 && !EDGES.contains(&first))
+    }),
+    value(0, "BREAK with a count that is in no list", |c, _| {
+        asks(c, BREAK, |_, count| count > 3 && !EDGES.contains(&count))
+    }),
+    value(OUTSIDE, "BREAK over 4097", |c, _| asks(c, BREAK, |first, _| first > 4097)),
+    value(NO_BREAKPOINT, "UNBREAK over 4097", |c, _| asks(c, UNBREAK, |first, _| first > 4097)),
+    value(
+        WRONG_LENGTH,
+        "a message of more than 300 bytes",
+        |c, _| matches!(c, Call::Request { message } if message.len() > 300),
+    ),
+    // the fields of a report
+    value(0, "notice to a host that is in no list", |c, s| {
+        matches!(c, Call::Report { .. }) && noticed(s).is_some_and(other_host)
+    }),
+    value(0, "TRAP with a reason that is in no list", |c, _| {
+        report(c, |_, kind, reason| kind == 0 && reason > 257 && reason != 4660 && reason < 65_535)
+    }),
+    value(WRONG_REPORT, "kind 4 to 255", |c, _| report(c, |_, kind, _| (4..256).contains(&kind))),
+    value(WRONG_REPORT, "kind over 255, as a byte 0 to 3", |c, _| {
+        report(c, |_, kind, reason| kind > 255 && kind % 256 < 4 && reason == 0)
+    }),
+    value(WRONG_REPORT, "kind over 4,294,967,295", |c, _| report(c, |_, kind, _| kind >> 32 != 0)),
+    value(WRONG_REPORT, "TRAP with a reason over 65,535", |c, _| {
+        report(c, |_, kind, reason| kind == 0 && reason > 65_535)
+    }),
+    value(WRONG_REPORT, "a reason over 65,535 and another kind, as a word 0", |c, _| {
+        report(c, |_, kind, reason| (1..4).contains(&kind) && reason > 0 && reason % 65_536 == 0)
+    }),
+    value(ABSENT, "process 8 to 255", |c, _| report(c, |p, _, _| (8..256).contains(&p))),
+    value(ABSENT, "process over 255, as a byte 0 to 7", |c, _| {
+        report(c, |p, _, _| p > 255 && p % 256 < 8)
+    }),
+    value(ABSENT, "process over 4,294,967,295", |c, _| report(c, |p, _, _| p >> 32 != 0)),
+    value(
+        ABSENT,
+        "fresh start with a process over 7",
+        |c, _| matches!(c, Call::FreshStart { there } if *there > 255),
+    ),
+    // lengths
+    value(WRONG_BUFFER, "memory of any shorter length", |c, s| {
+        on_state(c) && s.memory.bytes().len() % 4096 > 1 && s.memory.bytes().len() < 32_767
+    }),
+    value(WRONG_BUFFER, "memory of any longer length", |c, s| {
+        on_state(c) && s.memory.bytes().len() % 4096 > 1 && s.memory.bytes().len() > 32_769
+    }),
+    value(WRONG_BUFFER, "output of 29 to 264 bytes", |c, s| {
+        on_state(c) && (29..265).contains(&s.output.bytes().len())
+    }),
+    value(0, "output of 700 to 4,000 bytes", |c, s| {
+        on_state(c) && (700..4000).contains(&s.output.bytes().len())
+    }),
+    value(0, "output over 8,192 bytes", |c, s| on_state(c) && s.output.bytes().len() > 8192),
+    value(NOT_SOUND, "state of any other length", |c, s| {
+        on_state(c) && ![0, 1, 85, 679, 680, 681, 1360].contains(&s.state.bytes().len())
+    }),
+    value(WRONG_BUFFER, "fresh start, state of any other length", |c, s| {
+        matches!(c, Call::FreshStart { .. })
+            && ![0, 1, 85, 679, 680, 681, 1360].contains(&s.state.bytes().len())
+    }),
+    value(
+        WRONG_BUFFER,
+        "words of any other length",
+        |c, _| matches!(c, Call::Report { words, .. } if ![0, 1, 16, 17, 18, 19, 20, 36].contains(&words.len())),
+    ),
+    // the desk's end
+    value(WRONG_HEAD, "write, HOST over 255", |c, _| wide(c, 0)),
+    value(UNKNOWN_CMD, "write, CMD over 255, as a byte an op code", |c, _| {
+        wide(c, 1) && matches!(c, Call::Write { fields, .. } if fields[1] % 256 < 14)
+    }),
+    value(WRONG_FIELDS, "write, PID alone too wide", |c, _| wide(c, 2)),
+    value(WRONG_FIELDS, "write, ARG1 alone too wide", |c, _| wide(c, 3)),
+    value(WRONG_FIELDS, "write, ARG2 alone too wide", |c, _| wide(c, 4)),
+    value(
+        0,
+        "write of 266 bytes",
+        |c, _| matches!(c, Call::Write { string, .. } if string.len() == 256),
+    ),
+    value(
+        WRONG_LENGTH,
+        "write, a string of more than 300 bytes",
+        |c, _| matches!(c, Call::Write { string, .. } if string.len() > 300),
+    ),
+    value(
+        0,
+        "read of 266 bytes",
+        |c, _| matches!(c, Call::Read { message } if message.len() == 266),
+    ),
+    value(
+        0,
+        "read of a CAN'T EXAMINE of more than 256",
+        |c, _| matches!(c, Call::Read { message: m } if m.len() == 10 && m[4] == 134 && m[8] > 1),
+    ),
+    value(WRONG_BUFFER, "read, any other number of fields", |c, s| {
+        matches!(c, Call::Read { .. }) && s.output.bytes().len() > 20
+    }),
+];
+
+fn other_host(host: u8) -> bool {
+    !HOSTS.contains(&host) && ![0, 1, 4, 8, 254, 255].contains(&host)
+}
+
+fn request(call: &Call, test: impl Fn(&[u8]) -> bool) -> bool {
+    matches!(call, Call::Request { message } if message.len() >= HEAD && test(message))
+}
+
+/// Whether this byte alone of TYPE, HOST, LINK and STYPE is wrong.
+fn head(call: &Call, at: usize) -> bool {
+    request(call, |m| {
+        let right = [m[0] == 0, m[1] != NOBODY, m[2] == 255, m[3] == 0];
+        (0..4).all(|i| right[i] == (i != at)) && ![1, 2, 4, 127, 128, 254, 255].contains(&m[at])
+    })
+}
+
+fn asks(call: &Call, cmd: u8, test: impl Fn(u16, u16) -> bool) -> bool {
+    let word = |m: &[u8], at: usize| u16::from_be_bytes([m[at], m[at + 1]]);
+    request(call, |m| m[4] == cmd && test(word(m, 6), word(m, 8)))
+}
+
+fn report(call: &Call, test: impl Fn(u64, u64, u64) -> bool) -> bool {
+    matches!(*call, Call::Report { process, kind, reason, .. } if test(process, kind, reason))
+}
+
+fn on_state(call: &Call) -> bool {
+    matches!(call, Call::Request { .. } | Call::Report { .. })
+}
+
+/// The host of a notice, after the call.
+fn noticed(side: &Side) -> Option<u8> {
+    let notice = side.output.bytes();
+    (notice.len() >= NOTICE && (64..68).contains(&notice[4])).then(|| notice[1])
+}
+
+/// Whether this field alone of a written request has no room for its number.
+fn wide(call: &Call, field: usize) -> bool {
+    let Call::Write { fields, .. } = call else { return false };
+    (0..FIELDS).all(|i| (fields[i] >> crate::desk::BITS[i] != 0) == (i == field))
+}
+
+// ---------------------------------------------------------------- counting
+
+/// How often each value was met, and each buffer at each offset modulo 8.
+pub struct Values {
+    counts: Vec<u64>,
+    offsets: [[u64; 8]; BUFFERS.len()],
+}
+
+const BUFFERS: [&str; 5] = ["state", "memory", "message, words or string", "output", "fields"];
+
+impl Values {
+    pub fn new() -> Values {
+        Values { counts: vec![0; VALUES.len()], offsets: [[0; 8]; BUFFERS.len()] }
+    }
+
+    /// Counts a call, with the side as it is after it.
+    pub fn count(&mut self, call: &Call, side: &Side, answer: i64) {
+        let by = answer.min(0).abs();
+        for (value, n) in VALUES.iter().zip(&mut self.counts) {
+            *n += u64::from(value.by == by && (value.test)(call, side));
+        }
+        let mut at = |buffer: usize, lent: &Lent| self.offsets[buffer][lent.offset() % 8] += 1;
+        match call {
+            Call::FreshStart { .. } => at(0, &side.state),
+            Call::Read { .. } => at(4, &side.output),
+            Call::Write { .. } => at(3, &side.output),
+            _ => {
+                at(0, &side.state);
+                at(1, &side.memory);
+                at(3, &side.output);
+            }
+        }
+        if !matches!(call, Call::FreshStart { .. }) {
+            at(2, &side.input);
+        }
+    }
+
+    pub fn print(&self) {
+        println!("\nvalues of any size, wherever they stand");
+        for (value, n) in VALUES.iter().zip(&self.counts) {
+            let by = match value.by {
+                0 => String::new(),
+                number => format!(", refused by {number}"),
+            };
+            println!("{n:>8}  {}{by}", value.name);
+        }
+        println!("\nbuffers at an address of which the remainder by 8 is");
+        let cells = |row: &[u64; 8]| row.map(|n| format!("{n:>8}")).concat();
+        println!("{:>26}{}", "", cells(&std::array::from_fn(|i| i as u64)));
+        for (name, row) in BUFFERS.iter().zip(&self.offsets) {
+            println!("{name:>26}{}", cells(row));
+        }
+    }
+
+    /// The values never met. Fields are never at an odd address.
+    pub fn wrong(&self) -> Vec<String> {
+        let values = VALUES.iter().zip(&self.counts).filter(|(_, &n)| n == 0);
+        let mut wrong: Vec<String> = values.map(|(value, _)| value.name.to_string()).collect();
+        for (name, row) in BUFFERS.iter().zip(&self.offsets) {
+            let every = if *name == "fields" { 2 } else { 1 };
+            if row.iter().step_by(every).any(|&n| n == 0) {
+                wrong.push(format!("{name} at every address"));
+            }
+        }
+        wrong
+    }
+}

@@ -1,0 +1,403 @@
+//! Wrong libraries: the model with one error each. The comparison has to see every
+//! one of them.
+
+use crate::run::Comparison;
+use model::*;
+use std::sync::atomic::{AtomicUsize, Ordering};
+
+/// A call as the stand-in gets it.
+pub enum Made<'a> {
+    Start {
+        there: u64,
+        state: &'a mut [u8],
+    },
+    Request {
+        state: &'a mut [u8],
+        memory: &'a mut [u8],
+        message: &'a [u8],
+        reply: &'a mut [u8],
+    },
+    Report {
+        state: &'a mut [u8],
+        memory: &'a mut [u8],
+        numbers: [u64; 3],
+        words: &'a [u8],
+        notice: &'a mut [u8],
+    },
+    Write {
+        fields: [u64; FIELDS],
+        string: &'a [u8],
+        request: &'a mut [u8],
+    },
+    Read {
+        message: &'a [u8],
+        fields: &'a mut [u16],
+    },
+}
+
+impl Made<'_> {
+    /// The model's answer.
+    fn right(&mut self) -> i64 {
+        match self {
+            Made::Start { there, state } => fresh_start_bytes(*there, state),
+            Made::Request { state, memory, message, reply } => {
+                request_bytes(state, memory, message, reply)
+            }
+            Made::Report { state, memory, numbers: [p, k, r], words, notice } => {
+                report_bytes(state, memory, *p, *k, *r, words, notice)
+            }
+            Made::Write { fields: [host, cmd, pid, arg1, arg2], string, request } => {
+                write_request(*host, *cmd, *pid, *arg1, *arg2, string, request)
+            }
+            Made::Read { message, fields } => read_answer(message, fields),
+        }
+    }
+
+    /// The model's answer to a message or a report that was changed first.
+    fn changed(self, change: impl Fn(&mut Vec<u8>, &mut [u64; 3])) -> i64 {
+        match self {
+            Made::Request { state, memory, message, reply } => {
+                let mut message = message.to_vec();
+                change(&mut message, &mut [0; 3]);
+                request_bytes(state, memory, &message, reply)
+            }
+            Made::Report { state, memory, mut numbers, words, notice } => {
+                change(&mut Vec::new(), &mut numbers);
+                let [p, k, r] = numbers;
+                report_bytes(state, memory, p, k, r, words, notice)
+            }
+            mut made => made.right(),
+        }
+    }
+
+    /// A byte of the request's header.
+    fn byte(&self, at: usize) -> Option<u8> {
+        match self {
+            Made::Request { message, .. } if message.len() >= HEAD => Some(message[at]),
+            _ => None,
+        }
+    }
+
+    /// ARG1 or ARG2 of the request.
+    fn word(&self, at: usize) -> Option<u16> {
+        Some(u16::from_be_bytes([self.byte(at)?, self.byte(at + 1)?]))
+    }
+
+    /// The model's answer, but for this number in place of that one.
+    fn instead(&mut self, right: i64, wrong: i64) -> i64 {
+        match self.right() {
+            answer if answer == right => wrong,
+            answer => answer,
+        }
+    }
+}
+
+/// A right answer, on a memory or an output buffer that has the right length.
+fn with_lengths(made: Made, memory_length: usize, output_length: usize) -> i64 {
+    let lend = |memory: &[u8], output: &[u8]| {
+        let (mut memory, mut output) = (memory.to_vec(), output.to_vec());
+        memory.resize(memory_length, 0);
+        output.resize(output_length, 0);
+        (memory, output)
+    };
+    match made {
+        Made::Request { state, memory, message, reply } => {
+            let (mut m, mut o) = lend(memory, reply);
+            request_bytes(state, &mut m, message, &mut o)
+        }
+        Made::Report { state, memory, numbers: [p, k, r], words, notice } => {
+            let (mut m, mut o) = lend(memory, notice);
+            report_bytes(state, &mut m, p, k, r, words, &mut o)
+        }
+        mut made => made.right(),
+    }
+}
+
+/// The lengths of memory and output buffer.
+fn lengths(made: &Made) -> Option<(usize, usize)> {
+    match made {
+        Made::Request { memory, reply: output, .. }
+        | Made::Report { memory, notice: output, .. } => Some((memory.len(), output.len())),
+        _ => None,
+    }
+}
+
+struct Wrong {
+    name: &'static str,
+    answer: fn(Made) -> i64,
+}
+
+/// Each is the model's answer, but for one error.
+const WRONG: &[Wrong] = &[
+    Wrong { name: "no right for HOST 200", answer: no_right_for_200 },
+    Wrong { name: "no notice to HOST 77", answer: no_notice_to_77 },
+    Wrong {
+        name: "kind 6 is accepted as BPT",
+        answer: |made| match made {
+            Made::Report { numbers: [_, 6, _], .. } => made.changed(|_, n| n[1] = 2),
+            mut made => made.right(),
+        },
+    },
+    Wrong {
+        name: "LINK 253 is accepted",
+        answer: |mut made| match made.byte(2) {
+            Some(253) => made.changed(|m, _| m[2] = 255),
+            _ => made.right(),
+        },
+    },
+    Wrong {
+        name: "TYPE 2 is accepted",
+        answer: |mut made| match made.byte(0) {
+            Some(2) => made.changed(|m, _| m[0] = 0),
+            _ => made.right(),
+        },
+    },
+    Wrong {
+        name: "CMD 200 is refused with 6",
+        answer: |mut made| match made.byte(4) {
+            Some(200) => made.instead(-5, -6),
+            _ => made.right(),
+        },
+    },
+    Wrong {
+        name: "EXAMINE of 300 is refused with 6",
+        answer: |mut made| match (made.byte(4), made.word(8)) {
+            (Some(EXAMINE), Some(300)) => made.instead(-10, -6),
+            _ => made.right(),
+        },
+    },
+    Wrong {
+        name: "the reason 512 of a TRAP is lost",
+        answer: |made| match made {
+            Made::Report { numbers: [_, 0, 512], .. } => made.changed(|_, n| n[2] = 0),
+            mut made => made.right(),
+        },
+    },
+    Wrong {
+        name: "memory of 40,000 bytes is accepted",
+        answer: |mut made| match lengths(&made) {
+            Some((40_000, output)) => with_lengths(made, MEMORY, output),
+            _ => made.right(),
+        },
+    },
+    Wrong {
+        name: "an output buffer of 200 bytes is accepted",
+        answer: |mut made| match lengths(&made) {
+            Some((memory, 200)) => with_lengths(made, memory, LONGEST),
+            _ => made.right(),
+        },
+    },
+    Wrong {
+        name: "an output buffer over 700 bytes is refused",
+        answer: |mut made| match lengths(&made) {
+            Some((_, 701..)) => -1,
+            _ => made.right(),
+        },
+    },
+    Wrong { name: "process 258 is taken for 2", answer: |made| made.changed(|_, n| n[0] %= 256) },
+    Wrong { name: "kind 257 is taken for 1", answer: |made| made.changed(|_, n| n[1] %= 256) },
+    Wrong {
+        name: "a reason is cut to 16 bits",
+        answer: |made| made.changed(|_, n| n[2] %= 65_536),
+    },
+    Wrong {
+        name: "a process is cut to 32 bits",
+        answer: |made| made.changed(|_, n| n[0] &= 0xffff_ffff),
+    },
+    Wrong {
+        name: "a fresh start passes over bits above the eighth",
+        answer: |mut made| match &mut made {
+            Made::Start { there, state } => fresh_start_bytes(*there % 256, state),
+            made => made.right(),
+        },
+    },
+    Wrong {
+        name: "the desk writes HOST 300 as 44",
+        answer: |made| written(made, |fields| fields[0] %= 256),
+    },
+    Wrong {
+        name: "the desk cuts PID to a byte",
+        answer: |made| written(made, |fields| fields[2] %= 256),
+    },
+    Wrong {
+        name: "the desk cuts ARG1 to a word",
+        answer: |made| written(made, |fields| fields[3] %= 65_536),
+    },
+    Wrong {
+        name: "the desk writes ARG2 201 as 200",
+        answer: |made| {
+            written(made, |fields| fields[4] = if fields[4] == 201 { 200 } else { fields[4] })
+        },
+    },
+    Wrong {
+        name: "the desk reads CMD 128",
+        answer: |mut made| match made {
+            Made::Read { message, fields } if message.get(4) == Some(&128) => {
+                let mut message = message.to_vec();
+                message[4] = 0;
+                read_answer(&message, fields)
+            }
+            _ => made.right(),
+        },
+    },
+    Wrong {
+        name: "the desk reads a CAN'T CREATE with a PID",
+        answer: |mut made| match made {
+            Made::Read { message, fields } if message.get(4) == Some(&140) => {
+                let mut message = message.to_vec();
+                message.iter_mut().skip(5).take(1).for_each(|pid| *pid = 0);
+                read_answer(&message, fields)
+            }
+            _ => made.right(),
+        },
+    },
+    Wrong {
+        name: "the desk loses the high byte of ARG1 500",
+        answer: |mut made| {
+            let answer = made.right();
+            if let Made::Read { fields, .. } = made {
+                if answer >= 0 && fields[3] == 500 {
+                    fields[3] = 244;
+                }
+            }
+            answer
+        },
+    },
+    Wrong {
+        name: "the desk reads into four fields",
+        answer: |mut made| match &mut made {
+            Made::Read { message, fields } if fields.len() == 4 => {
+                let mut five = [0; FIELDS];
+                let answer = read_answer(message, &mut five);
+                if answer >= 0 {
+                    fields.copy_from_slice(&five[..4]);
+                }
+                answer
+            }
+            made => made.right(),
+        },
+    },
+    Wrong {
+        name: "a reply buffer at an address with the remainder 5 by 8 is left",
+        answer: |mut made| {
+            let before = match &made {
+                Made::Request { reply, .. } => reply.to_vec(),
+                _ => Vec::new(),
+            };
+            let answer = made.right();
+            if let Made::Request { reply, .. } = made {
+                if reply.as_ptr() as usize % 8 == 5 {
+                    reply.copy_from_slice(&before);
+                }
+            }
+            answer
+        },
+    },
+    Wrong {
+        name: "the byte after the reply buffer is written",
+        answer: |mut made| {
+            let answer = made.right();
+            if let Made::Request { reply, .. } = made {
+                // the guard bytes follow the buffer
+                unsafe { *reply.as_mut_ptr().add(reply.len()) = 0 };
+            }
+            answer
+        },
+    },
+    Wrong {
+        name: "a byte past the notice is touched",
+        answer: |mut made| {
+            let answer = made.right();
+            if let Made::Report { notice, .. } = made {
+                if answer > 0 {
+                    notice[answer as usize] ^= 1;
+                }
+            }
+            answer
+        },
+    },
+    Wrong {
+        name: "a report that is refused with 9 stores its words",
+        answer: |mut made| {
+            let answer = made.right();
+            if let Made::Report { state, numbers: [p, ..], words, .. } = made {
+                if answer == -9 {
+                    let at = RECORD_BYTES * p as usize + 3;
+                    state[at..at + VECTOR].copy_from_slice(words);
+                }
+            }
+            answer
+        },
+    },
+];
+
+/// A request of host 200 to a process is refused as a stranger's.
+fn no_right_for_200(mut made: Made) -> i64 {
+    let named = !matches!(made.byte(4), Some(NOP | CREATE_PROCESS));
+    if made.byte(1) != Some(200) || !named {
+        return made.right();
+    }
+    let Made::Request { state, memory, message, reply } = made else { return 0 };
+    let answer = request_bytes(&mut state.to_vec(), &mut memory.to_vec(), message, reply);
+    if answer < 0 {
+        return answer;
+    }
+    reply[4] += 128;
+    -8
+}
+
+fn no_notice_to_77(mut made: Made) -> i64 {
+    let Made::Report { notice, .. } = &made else { return made.right() };
+    let before = notice.to_vec();
+    let answer = made.right();
+    let Made::Report { notice, .. } = made else { return answer };
+    if answer <= 0 || notice[1] != 77 {
+        return answer;
+    }
+    notice.copy_from_slice(&before);
+    0
+}
+
+/// The model's answer to fields that were changed first.
+fn written(made: Made, change: impl Fn(&mut [u64; FIELDS])) -> i64 {
+    match made {
+        Made::Write { mut fields, string, request } => {
+            change(&mut fields);
+            let [host, cmd, pid, arg1, arg2] = fields;
+            write_request(host, cmd, pid, arg1, arg2, string, request)
+        }
+        mut made => made.right(),
+    }
+}
+
+// ---------------------------------------------------------------- which one is at hand
+
+/// The number of the wrong library that is at hand; with any other the stand-in is
+/// right.
+static AT_HAND: AtomicUsize = AtomicUsize::new(usize::MAX);
+
+pub fn answer(mut made: Made) -> i64 {
+    match WRONG.get(AT_HAND.load(Ordering::Relaxed)) {
+        Some(wrong) => (wrong.answer)(made),
+        None => made.right(),
+    }
+}
+
+/// Compares each wrong library with the model, by so many calls: whether each was
+/// seen.
+pub fn all_seen(limit: u64, seed: u64) -> bool {
+    let mut seen = 0;
+    for (i, wrong) in WRONG.iter().enumerate() {
+        AT_HAND.store(i, Ordering::Relaxed);
+        let mut comparison = Comparison::new(seed, false);
+        match comparison.run(limit) {
+            Err(_) => {
+                seen += 1;
+                println!("{:>8}  {}", comparison.calls, wrong.name);
+            }
+            Ok(()) => println!("NOT SEEN  {}", wrong.name),
+        }
+    }
+    println!("{seen} of {} wrong libraries seen, each at the call named", WRONG.len());
+    seen == WRONG.len()
+}
