@@ -1,7 +1,7 @@
 -- Laws of a process's bytes in the lent memory: a change of one process's bytes leaves every other's. Assumes nothing.
 use mathlib.Core.Path.{_≡_, refl, ap, _∙_}
 use mathlib.Core.Bool.{Bool, true, false}
-use mathlib.Core.List.{List, [], _∷_, _++_}
+use mathlib.Core.List.{List, [], _∷_, _++_, append-nil}
 use mathlib.Core.Logic.{_⊎_, inl, inr}
 use Prim.Native.Nat.{ℕ, zero, suc, _+_, _*_, _≤_, _<_}
 use native.Mathlib.Nat.{not-suc-le-zero}
@@ -27,12 +27,12 @@ part-back zero d = refl
 part-back (suc n) [] = refl
 part-back (suc n) (x ∷ d) = ap (λ (xs : List ℕ). x ∷ xs) (part-back n d)
 
-part-over : (n : ℕ) (bytes d : List ℕ) → length bytes ≤ length (take n d)
+part-over : (n : ℕ) (bytes d : List ℕ)
     → (bytes ++ drop (length bytes) (take n d)) ++ drop (length (bytes ++ drop (length bytes) (take n d))) d ≡ bytes ++ drop (length bytes) d
-part-over n [] d low = part-back n d
-part-over zero (b ∷ bytes) d low = absurd (not-suc-le-zero low)
-part-over (suc n) (b ∷ bytes) [] low = absurd (not-suc-le-zero low)
-part-over (suc n) (b ∷ bytes) (x ∷ d) low = ap (λ (xs : List ℕ). b ∷ xs) (part-over n bytes d (omega (arith, low)))
+part-over n [] d = part-back n d
+part-over zero (b ∷ bytes) d = ap (λ (xs : List ℕ). (b ∷ xs) ++ drop (length (b ∷ xs)) d) (append-nil bytes)
+part-over (suc n) (b ∷ bytes) [] = ap (λ (xs : List ℕ). b ∷ xs) (part-over n bytes [])
+part-over (suc n) (b ∷ bytes) (x ∷ d) = ap (λ (xs : List ℕ). b ∷ xs) (part-over n bytes d)
 
 -- ---- where the bytes lie
 
@@ -75,11 +75,11 @@ withSlot-slot p n memory =
     ap (λ (xs : List ℕ). take (startOf p) memory ++ xs) (part-back n (drop (startOf p) memory)) ∙ take-append-drop (startOf p) memory
 
 -- bytes laid over those of a process: only these change
-pub withSlot-over : (p n : ℕ) (bytes memory : List ℕ) → length bytes ≤ length (slot p n memory)
+pub withSlot-over : (p n : ℕ) (bytes memory : List ℕ)
     → withSlot p (overlay bytes (slot p n memory)) memory ≡ withSlot p bytes memory
 unfolding slot withSlot overlay
-withSlot-over p n bytes memory low =
-    ap (λ (xs : List ℕ). take (startOf p) memory ++ xs) (part-over n bytes (drop (startOf p) memory) low)
+withSlot-over p n bytes memory =
+    ap (λ (xs : List ℕ). take (startOf p) memory ++ xs) (part-over n bytes (drop (startOf p) memory))
 
 -- the bytes of two processes do not meet
 apart : (p q m n : ℕ) → p < 8 → q < 8 → (q ≡ p → ⊥) → m ≤ 4096 → n ≤ 4096 → (startOf q + n ≤ startOf p) ⊎ (startOf p + m ≤ startOf q)
