@@ -5,9 +5,9 @@
 #include <stddef.h>
 #include <stdint.h>
 
-/* A state is eight processes of 85 bytes; the last 64 of these are eight breakpoint entries of 8 bytes. */
-#define PALUSTRODE_STATE_BYTES 680
-#define PALUSTRODE_PROCESS_BYTES 85
+/* A state is eight processes of 87 bytes; the last 64 of these are eight breakpoint entries of 8 bytes. */
+#define PALUSTRODE_STATE_BYTES 696
+#define PALUSTRODE_PROCESS_BYTES 87
 #define PALUSTRODE_ENTRY_BYTES 8
 #define PALUSTRODE_MEMORY_BYTES 32768
 #define PALUSTRODE_WORDS_BYTES 18

@@ -23,9 +23,17 @@ entryText b = (((field 32 (flag (b .used)) ++ field 58 (b .address)) ++ field 58
 unfoldable pub headText : Bool → ℕ → Run → List ℕ
 headText there host run = (numeral (flag there) ++ field 32 host) ++ field 32 (runNumber run)
 
--- then the nine words, then the eight entries
+-- a number after its name
+unfoldable pub named : List ℕ → ℕ → List ℕ
+named name n = name ++ field 32 n
+
+-- ' size'
+abbrev pub sizeName : List ℕ
+sizeName = 32 ∷ 115 ∷ 105 ∷ 122 ∷ 101 ∷ []
+
+-- then the nine words, then the eight entries, then the size
 unfoldable pub recordText : Process → List ℕ
-recordText p = (headText (p .there) (p .host) (p .run) ++ joined wordText (p .vector)) ++ joined entryText (p .breaks)
+recordText p = ((headText (p .there) (p .host) (p .run) ++ joined wordText (p .vector)) ++ joined entryText (p .breaks)) ++ named sizeName (p .size)
 
 -- the same as a line with its newline
 unfoldable pub processLine : Process → List ℕ

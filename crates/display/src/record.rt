@@ -2,6 +2,7 @@
 use crate::entry::put_entries;
 use decimal::put_field;
 use decimal::put_number;
+use lines::put;
 use lines::put_mark;
 use process::Process;
 use run_state::Run;
@@ -12,7 +13,7 @@ ghost use lib.ListN.{length};
 ghost use Rattle.lists.specs.Buffer.{overlay};
 ghost use Rattle.lists.specs.Joined.{joined};
 ghost use Rattle.lines.specs.Scan.{Put};
-ghost use Rattle.display.specs.Line.{wordText, headText, recordText, processLine};
+ghost use Rattle.display.specs.Line.{wordText, headText, named, recordText, processLine};
 
 // There, host and run state.
 fn put_head(there: bool, host: u8, run: Run, out: &mut [u8]) -> usize
@@ -40,23 +41,34 @@ fn put_words(words: [u16; 9], from: usize, out: &mut [u8]) -> usize
     at
 }
 
+// A number after its name.
+fn put_named(name: &[u8], n: u16, from: usize, out: &mut [u8]) -> usize
+    requires { ⌜ from + length (now name) + 6 ≤ length (now out) ⌝ }
+    ensures { λ r. ⌜ Put from (named (now (name .entry)) n) (now (out .entry)) r (now (out .exit)) ⌝ }
+    ensures { λ r. ⌜ r ≤ from + length (now (name .entry)) + 6 ⌝ }
+{
+    let at = put(name, from, out);
+    put_field(32, n, at, out)
+}
+
 // All of a record.
 fn put_record(p: Process, out: &mut [u8]) -> usize
-    requires { ⌜ 311 ≤ length (now out) ⌝ }
+    requires { ⌜ 322 ≤ length (now out) ⌝ }
     ensures { λ r. ⌜ Put 0 (recordText p) (now (out .entry)) r (now (out .exit)) ⌝ }
-    ensures { λ r. ⌜ r ≤ 311 ⌝ }
+    ensures { λ r. ⌜ r ≤ 322 ⌝ }
 {
     let run = p.run;
     let vector = p.vector;
     let breaks = p.breaks;
     let head = put_head(p.there, p.host, run, out);
     let words = put_words(vector, head, out);
-    put_entries(breaks, words, out)
+    let entries = put_entries(breaks, words, out);
+    put_named(b" size", p.size, entries, out)
 }
 
 // All of a record as a line; the length of the line.
 pub fn put_process(p: Process, out: &mut [u8]) -> usize
-    requires { ⌜ 312 ≤ length (now out) ⌝ }
+    requires { ⌜ 323 ≤ length (now out) ⌝ }
     ensures { λ r. ⌜ r ≡ length (processLine p) ⌝ }
     ensures { λ r. ⌜ r ≤ length (now (out .entry)) ⌝ }
     ensures { λ _. ⌜ now (out .exit) ≡ overlay (processLine p) (now (out .entry)) ⌝ }

@@ -21,12 +21,12 @@ use Rattle.message.specs.Incoming.{incoming, received}
 use Rattle.message.specs.declared.request.Incoming.{Incoming}
 use Rattle.message.specs.declared.request.Incoming.the-variants.{Request, Refused as IncomingRefused}
 use Rattle.format.proofs.OutcomeLaws.{message-zero, message-header}
-use Rattle.rules.specs.Rule.{names, creates}
+use Rattle.rules.specs.Rule.{ruleOf, names, creates}
 use Rattle.state.specs.Records.{lowestAbsent}
 use Rattle.rules.specs.Tests.{State, recordOf, askedTests}
 use Rattle.rules.specs.Step.{Answer, StepResult, replyOf, localOf, put, grantedNamed, grantedCreate, granted, refused}
 use Rattle.rules.proofs.NumberLaws.{envelope, envelope-sent}
-use Rattle.rules.proofs.StateLaws.{put-same}
+use Rattle.rules.proofs.StateLaws.{put-same, put-over}
 use Rattle.checks.specs.Decision.{processTests}
 use Rattle.service.specs.declared.target.Target.{Target}
 use Rattle.service.specs.declared.target.Target.the-variants.{Named, OutOfRange, New, Nowhere}
@@ -137,7 +137,9 @@ module _ (h : Header) (string buffer : List ℕ) (s : State) where
 
     by-number : (k : ℕ) → number ≡ k → asked h string buffer s ≡ stepped p (namedBy k h string buffer (localOf s p)) s
     unfolding asked granted grantedNamed refused namedBy cantBy
-    by-number zero e = rw (number-asked, e, n, here)
+    by-number zero e =
+        rw (number-asked, e, n, here)
+        (ap (λ (t : State). record { answer = replyOf h (ruleOf (h .cmd) .shown h (localOf s p)) buffer; after = t }) (sym (put-over p (ruleOf (h .cmd) .effect h string (localOf s p)) s)))
     by-number (suc k) e =
         let long = number-high (λ z. omega (arith, sym e ∙ z)) in
         rw (number-asked, e, ne-eqb (suc k) 0 (λ z. omega (arith, z)), le-ltb (suc k) 7 (rw e at long), put-same p s)

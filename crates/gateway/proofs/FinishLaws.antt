@@ -43,6 +43,6 @@ module _ (state memory : List ℕ) (bytes : Bytes state) (formed : stateFormed s
       → (y : StepResult) → y ≡ stepped p x (lent (stateOf state) memory) → called o state (withSlot p part memory) buffer ≡ finished state y
   finished-kept p o q part buffer x e l y i =
       let s = lent (stateOf state) memory in
-      let same : part ≡ slot p memory = ap (λ (z : ProcessResult). z .left .bytes) e ∙ ap (λ (z : Local). z .bytes) l in
+      let same : part ≡ localOf s p .bytes = ap (λ (z : ProcessResult). z .left .bytes) e ∙ ap (λ (z : Local). z .bytes) l in
       let still : stepped p x s ≡ unmoved (x .answer) s = rw (l, put-same p s) in
-      rw (same, withSlot-slot p memory) (finished-unmoved o buffer (x .answer) (ap (λ (z : ProcessResult). z .answer) e) y (i ∙ still))
+      rw (same, withSlot-slot p (extent (s .records .processes)) memory) (finished-unmoved o buffer (x .answer) (ap (λ (z : ProcessResult). z .answer) e) y (i ∙ still))

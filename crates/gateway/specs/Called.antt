@@ -2,14 +2,16 @@
 use mathlib.Core.Path.{_≡_}
 use mathlib.Core.Bool.{Bool, cond}
 use mathlib.Core.List.{List, []}
-use Prim.Native.Nat.{ℕ}
-use lib.ListN.{length}
+use Prim.Native.Nat.{ℕ, _+_, _<_}
+use lib.ListN.{length, set}
 use lib.Dec.{eqb}
 use Rattle.format.specs.declared.outcome.Outcome.{Outcome}
 use Rattle.format.specs.Outcome.{outcome}
-use Rattle.state.specs.Records.{freshStart}
+use Rattle.state.specs.Records.{processAt, freshStart, sizesRight}
+use Rattle.state.specs.Slot.{startOf}
+use Rattle.process.specs.Local.{extent}
 use Rattle.rules.specs.Tests.{lent, noRoom}
-use Rattle.rules.specs.Step.{StepResult, Call, request, report, store, stored, step}
+use Rattle.rules.specs.Step.{StepResult, Call, request, report, store, step}
 use Rattle.rules.specs.Turn.{bufferOf}
 use Rattle.rules.specs.Isolation.{isGranted}
 use Rattle.state_bytes.specs.Widths.{stateWidth}
@@ -45,15 +47,15 @@ callOn state memory c =
     cond (stateFormed state) (finished state (step (lent (stateOf state) memory) c))
     (refusedBy (lentOn state memory (bufferOf c)) state memory (bufferOf c))
 
--- what the machine leaves when it stores a byte: it changes memory alone and is told nothing
+-- what the machine leaves when it stores a byte at an address of process p: it changes memory alone and is told nothing
 unfoldable pub machineStored : ℕ → ℕ → ℕ → List ℕ → List ℕ → Called
-machineStored p a v state memory = called (outcome 0 0) state (stored p a v (lent (stateOf state) memory) .memory) []
+machineStored p a v state memory = called (outcome 0 0) state (set memory (startOf p + a) v) []
 
--- a call of the code on these bytes of a state and this memory answered and left this; or the machine stored a byte
+-- a call of the code on these bytes of a state and this memory answered and left this; or the machine stored a byte 'into a process's memory'
 unfoldable pub Did : List ℕ → List ℕ → Call → Called → Type 0
 Did state memory (request m buffer) x = x ≡ callOn state memory (request m buffer)
 Did state memory (report p kind reason words buffer) x = x ≡ callOn state memory (report p kind reason words buffer)
-Did state memory (store p a v) x = x ≡ machineStored p a v state memory
+Did state memory (store p a v) x = (a < extent (processAt (stateOf state) p)) × (x ≡ machineStored p a v state memory)
 
 -- what a fresh start answers, and the bytes of the state after it
 pub record StartResult : Type 0 where
@@ -64,6 +66,10 @@ pub record StartResult : Type 0 where
 abbrev pub started : Outcome → List ℕ → StartResult
 started o state = record { outcome = o; state = state }
 
--- a fresh start with these processes, where the state's buffer has its length; else it is refused with 1
-unfoldable pub startOn : List Bool → List ℕ → StartResult
-startOn there state = cond (eqb (length state) stateWidth) (started (outcome 0 0) (stateBytes (freshStart there))) (started (outcome 1 0) state)
+-- a fresh start with these processes and sizes: refused with 1 where the state's buffer has not its length, and with 2 for a bad size 'of a
+-- process then there'
+unfoldable pub startOn : List Bool → List ℕ → List ℕ → StartResult
+startOn there sizes state =
+    cond (eqb (length state) stateWidth)
+    (cond (sizesRight there sizes) (started (outcome 0 0) (stateBytes (freshStart there sizes))) (started (outcome 2 0) state))
+    (started (outcome 1 0) state)

@@ -1,17 +1,38 @@
 // The state at a fresh start.
 use format::Outcome;
+use process::valid_size;
 use state_bytes::STATE_BYTES;
 use state_bytes::put_fresh_start;
 ghost use mathlib.Core.Path.{_≡_};
+ghost use Rattle.state.specs.Records.{sizesRight};
 ghost use Rattle.gateway.specs.Called.{started, startOn};
 
-// Writes the state in which the given processes are there.
-pub fn fresh_start(there: [bool; 8], state: &mut [u8]) -> Outcome
-    ensures { λ r. ⌜ started r (now (state .exit)) ≡ startOn there (now (state .entry)) ⌝ }
+// Every process that is there has a right size.
+fn sizes_right(there: [bool; 8], sizes: [u16; 8]) -> bool
+    ensures { λ r. ⌜ r ≡ sizesRight there sizes ⌝ }
+{
+    let mut p = 0;
+    while p < 8 {
+        if there[p] {
+            if !valid_size(sizes[p]) {
+                return false;
+            }
+        }
+        p += 1;
+    }
+    true
+}
+
+// Writes the state in which the given processes are there, each with its size.
+pub fn fresh_start(there: [bool; 8], sizes: [u16; 8], state: &mut [u8]) -> Outcome
+    ensures { λ r. ⌜ started r (now (state .exit)) ≡ startOn there sizes (now (state .entry)) ⌝ }
 {
     if state.len() != STATE_BYTES {
         return Outcome::Refused(1);
     }
-    put_fresh_start(there, state);
+    if !sizes_right(there, sizes) {
+        return Outcome::Refused(2);
+    }
+    put_fresh_start(there, sizes, state);
     Outcome::Granted(0)
 }

@@ -2,7 +2,6 @@
 use crate::kept::keep;
 use crate::lent::check_buffers_and_state;
 use format::Outcome;
-use process::MEMORY_BYTES;
 use service::check_report;
 use service::report_for_process;
 use state::start;
@@ -30,8 +29,9 @@ fn report_known(
 {
     let index = pid as usize;
     let process = read_process_at(state, index);
+    let size = process.extent();
     let start = start(index);
-    let end = start + MEMORY_BYTES;
+    let end = start + size;
     let served = report_for_process(
         pid,
         kind,

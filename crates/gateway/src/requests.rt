@@ -47,8 +47,9 @@ fn answer_named(
     ensures { λ r. ⌜ called r (now (state .exit)) (now (memory .exit)) (now (reply .exit)) ≡ finished (now (state .entry)) (asked h (now (string .entry)) (now (reply .entry)) (lent (stateOf (now (state .entry))) (now (memory .entry)))) ⌝ }
 {
     let process = read_process_at(state, pid);
+    let size = process.extent();
     let start = start(pid);
-    let end = start + MEMORY_BYTES;
+    let end = start + size;
     let served = answer_for_process(h, process, &mut memory[start..end], string, reply);
     let outcome = served.outcome;
     let next = served.process;

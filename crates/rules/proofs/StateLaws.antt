@@ -11,10 +11,11 @@ use lib.Dec.{eqb}
 use Rattle.process.specs.declared.record.Process.{Process}
 use Rattle.process.specs.Sound.{Sound}
 use Rattle.process.specs.Local.{Local, local, extent, Proper}
-use Rattle.state.specs.Records.{nobody}
+use Rattle.lists.specs.Buffer.{overlay}
+use Rattle.state.specs.Records.{nobody, withProcess}
 use Rattle.state.specs.Slot.{slot, withSlot}
 use Rattle.state.proofs.RecordsLaws.{state-sound, state-passes}
-use Rattle.state.proofs.SlotLaws.{length-slot, length-withSlot, withSlot-slot, slot-same, slot-other}
+use Rattle.state.proofs.SlotLaws.{length-slot, length-withSlot, withSlot-slot, withSlot-over, slot-same, slot-other}
 use Rattle.rules.specs.Rule.{public}
 use Rattle.rules.specs.Tests.{State, recordOf}
 use Rattle.rules.specs.Step.{localOf, put}
@@ -53,6 +54,12 @@ unfolding put
 put-same p s =
     ap (λ (ps : List Process). record { records = record { processes = ps }; memory = withSlot p (localOf s p .bytes) (s .memory) }) (set-getD (s .records .processes) p nobody)
     ∙ ap (λ (m : List ℕ). record { records = s .records; memory = m }) (withSlot-slot p (extent (recordOf s p)) (s .memory))
+
+-- a process put back with its bytes laid over those that it had
+pub put-over : (p : ℕ) (l : Local) (s : State) → put p (local (l .process) (overlay (l .bytes) (localOf s p .bytes))) s ≡ put p l s
+unfolding put
+put-over p l s =
+    ap (λ (m : List ℕ). record { records = withProcess p (l .process) (s .records); memory = m }) (withSlot-over p (extent (recordOf s p)) (l .bytes) (s .memory))
 
 pair : {x y : Process} {bs cs : List ℕ} → x ≡ y → bs ≡ cs → local x bs ≡ local y cs
 pair e q = ap₂ (λ (x : Process) (bs : List ℕ). local x bs) e q

@@ -1,5 +1,5 @@
 -- Laws of a process's bytes in the lent memory: a change of one process's bytes leaves every other's. Assumes nothing.
-use mathlib.Core.Path.{_≡_, refl, ap, _∙_}
+use mathlib.Core.Path.{_≡_, refl, sym, ap, _∙_}
 use mathlib.Core.Bool.{Bool, true, false}
 use mathlib.Core.List.{List, [], _∷_, _++_, append-nil}
 use mathlib.Core.Logic.{_⊎_, inl, inr}
@@ -7,7 +7,7 @@ use Prim.Native.Nat.{ℕ, zero, suc, _+_, _*_, _≤_, _<_}
 use native.Mathlib.Nat.{not-suc-le-zero}
 use native.Mathlib.Omega.{arith}
 use borrow.Author.Tests.{eqb-true, ltb-true, ltb-false}
-use lib.ListN.{length, take, drop, getD, take-append-drop}
+use lib.ListN.{length, take, drop, getD, set, take-append-drop}
 use lib.Dec.{eqb, ltb}
 use Rattle.lists.specs.Buffer.{overlay}
 use Rattle.lists.specs.Elements.{elements}
@@ -31,8 +31,22 @@ part-over : (n : ℕ) (bytes d : List ℕ)
     → (bytes ++ drop (length bytes) (take n d)) ++ drop (length (bytes ++ drop (length bytes) (take n d))) d ≡ bytes ++ drop (length bytes) d
 part-over n [] d = part-back n d
 part-over zero (b ∷ bytes) d = ap (λ (xs : List ℕ). (b ∷ xs) ++ drop (length (b ∷ xs)) d) (append-nil bytes)
-part-over (suc n) (b ∷ bytes) [] = ap (λ (xs : List ℕ). b ∷ xs) (part-over n bytes [])
+part-over (suc n) (b ∷ bytes) [] = ap (λ (xs : List ℕ). b ∷ (xs ++ [])) (append-nil bytes)
 part-over (suc n) (b ∷ bytes) (x ∷ d) = ap (λ (xs : List ℕ). b ∷ xs) (part-over n bytes d)
+
+-- one byte of a part set
+part-set : (n a v : ℕ) (d : List ℕ) → a < length (take n d) → set d a v ≡ set (take n d) a v ++ drop (length (set (take n d) a v)) d
+part-set zero a v d h = absurd (not-suc-le-zero h)
+part-set (suc n) a v [] h = absurd (not-suc-le-zero h)
+part-set (suc n) zero v (x ∷ d) h = ap (λ (xs : List ℕ). v ∷ xs) (sym (part-back n d))
+part-set (suc n) (suc a) v (x ∷ d) h = ap (λ (xs : List ℕ). x ∷ xs) (part-set n a v d (omega (arith, h)))
+
+behind-set : (s a v : ℕ) (m : List ℕ) → s ≤ length m → set m (s + a) v ≡ take s m ++ set (drop s m) a v
+behind-set zero a v m h = let same : 0 + a ≡ a = omega arith in rw same refl
+behind-set (suc s) a v [] h = absurd (not-suc-le-zero h)
+behind-set (suc s) a v (x ∷ m) h =
+    let same : suc s + a ≡ suc (s + a) = omega arith in
+    rw same (ap (λ (xs : List ℕ). x ∷ xs) (behind-set s a v m (omega (arith, h))))
 
 -- ---- where the bytes lie
 
@@ -80,6 +94,14 @@ pub withSlot-over : (p n : ℕ) (bytes memory : List ℕ)
 unfolding slot withSlot overlay
 withSlot-over p n bytes memory =
     ap (λ (xs : List ℕ). take (startOf p) memory ++ xs) (part-over n bytes (drop (startOf p) memory))
+
+-- one byte of a process set, in the memory and in its bytes
+pub set-slot : (p n a v : ℕ) (memory : List ℕ) → p < 8 → length memory ≡ 32768 → a < length (slot p n memory)
+    → set memory (startOf p + a) v ≡ withSlot p (set (slot p n memory) a v) memory
+unfolding slot withSlot
+set-slot p n a v memory low size h =
+    behind-set (startOf p) a v memory (omega (arith, startOf-is p low))
+    ∙ ap (λ (xs : List ℕ). take (startOf p) memory ++ xs) (part-set n a v (drop (startOf p) memory) h)
 
 -- the bytes of two processes do not meet
 apart : (p q m n : ℕ) → p < 8 → q < 8 → (q ≡ p → ⊥) → m ≤ 4096 → n ≤ 4096 → (startOf q + n ≤ startOf p) ⊎ (startOf p + m ≤ startOf q)

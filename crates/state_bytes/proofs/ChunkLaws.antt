@@ -1,7 +1,7 @@
 -- Laws of lists in pieces. Assumes nothing.
 use mathlib.Core.Path.{_≡_, refl, sym, ap, _∙_}
 use mathlib.Core.Bool.{Bool, true, false, _&&_}
-use mathlib.Core.List.{List, [], _∷_, _++_, map, append-assoc}
+use mathlib.Core.List.{List, [], _∷_, _++_, append-assoc}
 use Prim.Native.Nat.{ℕ, zero, suc, _+_, _-_, _*_, _≤_, _<_}
 use native.Mathlib.Omega.{arith}
 use borrow.Author.Tests.{ltb-true, ltb-false}
@@ -138,12 +138,6 @@ module _ {A : Type 0} (f : A → List ℕ) where
   length-joined w [] d h = omega arith
   length-joined w (x ∷ xs) d h =
       length-append (f x) (joined f xs) ∙ omega (arith, h 0 (omega arith), length-joined w xs d (λ k i. h (suc k) (omega (arith, i))))
-
--- written from another list
-pub joined-map : {A B : Type 0} (f : B → List ℕ) (g : A → B) (xs : List A) → joined f (map g xs) ≡ joined (λ (x : A). f (g x)) xs
-unfolding joined
-joined-map f g [] = refl
-joined-map f g (x ∷ xs) = ap (λ (l : List ℕ). f (g x) ++ l) (joined-map f g xs)
 
 -- ---- reading and writing
 

@@ -63,6 +63,10 @@ pub &&-true : (b : Bool) → b && true ≡ b
 &&-true true = refl
 &&-true false = refl
 
+pub &&-assoc : (a b c : Bool) → (a && b) && c ≡ a && (b && c)
+&&-assoc true b c = refl
+&&-assoc false b c = refl
+
 -- a test that two numbers pass where their bits together do
 module _ (t : ℕ → Bool) (both : (a b : ℕ) → t (bitOr a b) ≡ t a && t b) where
   with-more : (bits n : ℕ) (m : List ℕ) → t (bitsWith bits n m) ≡ t bits && everyChunk entryWidth (λ (c : List ℕ). t (u64Le c)) n m
@@ -71,10 +75,6 @@ module _ (t : ℕ → Bool) (both : (a b : ℕ) → t (bitOr a b) ≡ t a && t b
   with-more bits (suc n) m =
       with-more (bitOr bits (u64Le (take entryWidth m))) n (drop entryWidth m)
       ∙ rw (both bits (u64Le (take entryWidth m))) (&&-assoc (t bits) (t (u64Le (take entryWidth m))) (everyChunk entryWidth (λ (c : List ℕ). t (u64Le c)) n (drop entryWidth m)))
-    where
-      &&-assoc : (a b c : Bool) → (a && b) && c ≡ a && (b && c)
-      &&-assoc true b c = refl
-      &&-assoc false b c = refl
 
   -- is passed by all entries' bits where every entry passes it
   pub every-bits : t 0 ≡ true → (m : List ℕ) → t (entriesBits m) ≡ everyChunk entryWidth (λ (c : List ℕ). t (u64Le c)) entryCount m

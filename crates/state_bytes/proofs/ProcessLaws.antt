@@ -22,16 +22,17 @@ use Rattle.process.specs.declared.record.Process.{Process}
 use Rattle.run_state.specs.RunState.{isRunNumber, runNumber, runOf}
 use Rattle.run_state.proofs.RunLaws.{run-back, run-formed, run-forth}
 use Rattle.process.specs.Record.{noBreaks}
-use Rattle.process.specs.Sound.{absentHasNoHost, entrySound}
+use Rattle.process.specs.Sizes.{validSize}
+use Rattle.process.specs.Sound.{absentHasNoHost, entrySound, keepsRules}
 use Rattle.process.specs.Sound.{soundTest as soundProcess}
 use Rattle.breakpoints.specs.Entry.{free}
 use Rattle.state_bytes.specs.Chunk.{chunks, everyChunk}
 use Rattle.state_bytes.specs.Entry.{entryBytes, entryOf, entryFormed, entriesBits, flagsFormed}
 use Rattle.state_bytes.specs.Number.{flagOf}
-use Rattle.state_bytes.specs.Process.{headBytes, processBytes, processOf, headFormed, processFormed, headSound, processPlain, processSound}
-use Rattle.state_bytes.specs.Widths.{entryCount, entryWidth, thereAt, hostAt, runAt, headWidth, vectorAt, vectorWidth, entriesAt, entriesWidth, processWidth}
+use Rattle.state_bytes.specs.Process.{headBytes, sizeOf, processBytes, processOf, headFormed, processFormed, headSound, processPlain, processSound}
+use Rattle.state_bytes.specs.Widths.{entryCount, entryWidth, thereAt, hostAt, runAt, sizeAt, headWidth, vectorAt, vectorWidth, entriesAt, entriesWidth, processWidth}
 use Rattle.state_bytes.proofs.ChunkLaws.{bytes-take, bytes-drop, length-joined, chunks-joined, every-joined, joined-chunks, chunks-same, every-weaker}
-use Rattle.state_bytes.proofs.EntryLaws.{&&-true, length-entryBytes, entry-back, entry-formed, entry-forth, entryZero, zero-bits, flags-bits, zero-free, zero-formed}
+use Rattle.state_bytes.proofs.EntryLaws.{&&-true, &&-assoc, length-entryBytes, entry-back, entry-formed, entry-forth, entryZero, zero-bits, flags-bits, zero-free, zero-formed}
 use Rattle.state_bytes.proofs.NumberLaws.{flag-back, flag-formed, flag-forth, by-elements}
 
 -- ---- lengths
@@ -81,7 +82,7 @@ module _ (p : Process) (nine : length (p .vector) ≡ 9) (eight : length (p .bre
   pub process-back : processOf (processBytes p) ≡ p
   unfolding processOf processBytes
   process-back =
-      rw (flag-back (p .there), run-back (p .run), take-at (lowFirst (p .vector)) (joined entryBytes (p .breaks)) vectorWidth words-long, vector-back (p .vector) nine, entries-after, entries-back)
+      rw (flag-back (p .there), run-back (p .run), word-high-low (p .size), take-at (lowFirst (p .vector)) (joined entryBytes (p .breaks)) vectorWidth words-long, vector-back (p .vector) nine, entries-after, entries-back)
 
   pub process-formed : processFormed (processBytes p) ≡ true
   unfolding processFormed headFormed processBytes
@@ -102,6 +103,8 @@ process-forth m size b e =
     rw (
       flag-forth (getD m thereAt 0) (&&-left there _ head),
       run-forth (getD m runAt 0) (&&-right there run head),
+      low-word (getD m (sizeAt + 1) 0) (getD m sizeAt 0) (b sizeAt),
+      high-word (getD m (sizeAt + 1) 0) (getD m sizeAt 0) (b sizeAt),
       vector-forth (take vectorWidth (drop vectorAt m)) long (bytes-take vectorWidth (drop vectorAt m) (bytes-drop vectorAt m b)),
       joined-chunks entryWidth entryOf entryBytes entryFormed entry-forth entryCount (drop entriesAt m) last (bytes-drop entriesAt m b) entries,
       further,
@@ -111,12 +114,12 @@ process-forth m size b e =
 
 -- ---- soundness
 
--- a head is sound where it is formed and an absent process has no host
-head-both : (there host : ℕ) (run : Bool) → run && (eqb there 1 || (eqb there 0 && eqb host 0)) ≡ (leb there 1 && run) && (flagOf there || eqb host 0)
-head-both zero host run = refl
-head-both (suc zero) host run = refl
-head-both (suc (suc there)) host run =
-    rw (lt-leb (suc (suc there)) 1 (omega arith), ne-eqb (suc (suc there)) 1 (λ e. omega (arith, e)), ne-eqb (suc (suc there)) 0 (λ e. omega (arith, e))) (&&-false run)
+-- a head is sound where it is formed, the size is valid and an absent process has no host
+head-both : (there host : ℕ) (run size : Bool) → run && (size && (eqb there 1 || (eqb there 0 && eqb host 0))) ≡ (leb there 1 && run) && (size && (flagOf there || eqb host 0))
+head-both zero host run size = refl
+head-both (suc zero) host run size = refl
+head-both (suc (suc there)) host run size =
+    rw (lt-leb (suc (suc there)) 1 (omega arith), ne-eqb (suc (suc there)) 1 (λ e. omega (arith, e)), ne-eqb (suc (suc there)) 0 (λ e. omega (arith, e)), &&-false size) (&&-false run)
   where
     &&-false : (b : Bool) → b && false ≡ false
     &&-false true = refl
@@ -133,14 +136,19 @@ module _ (m : List ℕ) where
   abbrev bits : ℕ
   bits = entriesBits (drop entriesAt m)
 
-  head-sound : headSound m ≡ headFormed m && absentHasNoHost (processOf m)
+  abbrev sized : Bool
+  sized = validSize (processOf m .size)
+
+  head-sound : headSound m ≡ headFormed m && (sized && absentHasNoHost (processOf m))
   unfolding headSound headFormed absentHasNoHost processOf
-  head-sound = head-both (getD m thereAt 0) (getD m hostAt 0) (isRunNumber (getD m runAt 0))
+  head-sound = head-both (getD m thereAt 0) (getD m hostAt 0) (isRunNumber (getD m runAt 0)) (validSize (sizeOf m))
 
   -- head, flags and entries, each by itself
   by-parts : processSound m ≡ headSound m && (flags && below (entrySound (processOf m)) entryCount)
-  unfolding processSound processFormed soundProcess
-  by-parts = rw head-sound (&&-pairs (headFormed m) flags (absentHasNoHost (processOf m)) (below (entrySound (processOf m)) entryCount))
+  unfolding processSound processFormed soundProcess keepsRules
+  by-parts =
+      let entries = below (entrySound (processOf m)) entryCount in
+      rw (head-sound, ← &&-assoc sized (absentHasNoHost (processOf m)) entries) (&&-pairs (headFormed m) flags (sized && absentHasNoHost (processOf m)) entries)
 
   pub head-fails : headSound m ≡ false → processSound m ≡ false
   head-fails h = rw (by-parts, h)

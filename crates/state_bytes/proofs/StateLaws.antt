@@ -1,8 +1,8 @@
 -- Laws of the bytes of a state. Assumes nothing.
 use mathlib.Core.Path.{_≡_, refl, sym, ap, _∙_}
 use mathlib.Core.Bool.{Bool, true, false, not, _&&_}
-use mathlib.Core.List.{List, _++_}
-use Prim.Native.Nat.{ℕ, suc, _+_, _-_, _*_, _/_, _%_, _<_}
+use mathlib.Core.List.{List, [], _∷_, _++_}
+use Prim.Native.Nat.{ℕ, zero, suc, _+_, _-_, _*_, _/_, _%_, _<_}
 use native.Mathlib.Omega.{arith}
 use borrow.Author.Tests.{eqb-true, eq-eqb, ne-eqb}
 use lib.ListN.{length, take, drop, getD}
@@ -22,7 +22,7 @@ use Rattle.lists.proofs.Short.{take-short}
 use Rattle.lists.proofs.Word.{word-high-low, length-lowFirst}
 use Rattle.process.specs.declared.record.Process.{Process}
 use Rattle.process.specs.Sound.{soundTest as soundProcess}
-use Rattle.state.specs.Records.{Records, nobody, processAt, withProcess, soundTest}
+use Rattle.state.specs.Records.{Records, nobody, processAt, withProcess, soundTest, freshProcess, freshProcesses}
 use Rattle.state_bytes.specs.Chunk.{chunks, everyChunk}
 use Rattle.state_bytes.specs.Number.{flagOf}
 use Rattle.state_bytes.specs.Process.{processBytes, processOf, processFormed, processSound}
@@ -110,6 +110,22 @@ sound-next at m s h e =
     let n = at / processWidth in
     let more : (at + processWidth) / processWidth ≡ suc n = omega arith in
     (omega (arith, more, s .0), omega (arith, h, s .0), s .2, rw more (every-snoc processWidth processSound n m (s .3) e))
+
+-- ---- a fresh start
+
+pub length-freshProcesses : (ts : List Bool) (ns : List ℕ) → length (freshProcesses ts ns) ≡ length ts
+unfolding freshProcesses
+length-freshProcesses [] ns = refl
+length-freshProcesses (t ∷ ts) ns = ap suc (length-freshProcesses ts (drop 1 ns))
+
+-- process k is there as the first list says, with its size of the second
+pub getD-freshProcesses : (ts : List Bool) (ns : List ℕ) (k : ℕ) → k < length ts → getD (freshProcesses ts ns) k nobody ≡ freshProcess (getD ts k false) (getD ns k 0)
+unfolding freshProcesses
+getD-freshProcesses [] ns k h = absurd (omega (arith, h))
+getD-freshProcesses (t ∷ ts) ns zero h = refl
+getD-freshProcesses (t ∷ ts) ns (suc k) h =
+    let next : 1 + k ≡ suc k = omega arith in
+    getD-freshProcesses ts (drop 1 ns) k (omega (arith, h)) ∙ ap (freshProcess (getD ts k false)) (getD-drop 1 ns k 0 ∙ ap (λ (n : ℕ). getD ns n 0) next)
 
 -- ---- there and back
 

@@ -29,9 +29,13 @@ hostAt = 1
 abbrev pub runAt : ℕ
 runAt = 2
 
--- these three
+-- its size, two bytes, low byte first
+abbrev pub sizeAt : ℕ
+sizeAt = 3
+
+-- these four
 abbrev pub headWidth : ℕ
-headWidth = 3
+headWidth = 5
 
 -- ---- a process
 

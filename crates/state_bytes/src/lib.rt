@@ -1,11 +1,12 @@
-// The byte form of a state: 680 bytes, integers low byte first. Its widths and places stand in widths.rt.
+// The byte form of a state: 696 bytes, integers low byte first. Its widths and places stand in widths.rt.
 //
-//     85 bytes for each of the eight processes, from process 0 on:
+//     87 bytes for each of the eight processes, from process 0 on:
 //         0        there: 0 or 1
 //         1        the host that debugs it, or 0
 //         2        run state: 0 running, 1 stepping, 2 stopped, 3 at a breakpoint, 4 ended
-//         3 to 20  the nine words R0 to R5, SP, PC, PS
-//         21       8 bytes for each of the eight entries:
+//         3, 4     size
+//         5 to 22  the nine words R0 to R5, SP, PC, PS
+//         23       8 bytes for each of the eight entries:
 //             0        used: 0 or 1
 //             1        lifted: 0 or 1
 //             2, 3     address

@@ -4,12 +4,16 @@ use crate::entry::read_entries;
 use crate::widths::ENTRIES_AT;
 use crate::widths::HOST_AT;
 use crate::widths::RUN_AT;
+use crate::widths::SIZE_AT;
 use crate::widths::THERE_AT;
 use crate::widths::VECTOR_AT;
 use process::Process;
+use process::valid_size;
 use run_state::is_run_number;
 use run_state::run_of;
 use words::flag;
+use words::high_byte;
+use words::low_byte;
 use words::vector_bytes;
 use words::word_of;
 ghost use mathlib.Core.Path.{_≡_};
@@ -17,7 +21,7 @@ ghost use Prim.Native.Nat.{_≤_};
 ghost use lib.ListN.{length};
 ghost use Rattle.lists.specs.Buffer.{overlay};
 ghost use Rattle.lists.specs.Word.{lowFirst, vectorOf};
-ghost use Rattle.state_bytes.specs.Process.{headBytes, processBytes, processOf, headSound};
+ghost use Rattle.state_bytes.specs.Process.{headBytes, sizeOf, processBytes, processOf, headSound};
 ghost use Rattle.state_bytes.specs.Widths.{headWidth, vectorWidth, processWidth};
 
 // The nine words.
@@ -38,6 +42,14 @@ fn read_vector(bytes: &[u8]) -> [u16; 9]
     ]
 }
 
+// The size in the head.
+fn read_size(bytes: &[u8]) -> u16
+    requires { ⌜ headWidth ≤ length (now bytes) ⌝ }
+    ensures { λ r. ⌜ r ≡ sizeOf (now (bytes .entry)) ⌝ }
+{
+    word_of(bytes[SIZE_AT + 1], bytes[SIZE_AT])
+}
+
 // The record that these bytes are the form of.
 pub(crate) fn read_process(bytes: &[u8]) -> Process
     requires { ⌜ processWidth ≤ length (now bytes) ⌝ }
@@ -46,16 +58,18 @@ pub(crate) fn read_process(bytes: &[u8]) -> Process
     let vector = read_vector(&bytes[VECTOR_AT..ENTRIES_AT]);
     let breaks = read_entries(&bytes[ENTRIES_AT..]);
     let run = run_of(bytes[RUN_AT]);
+    let size = read_size(bytes);
     Process {
         there: bytes[THERE_AT] % 2 == 1,
         host: bytes[HOST_AT],
         run: run,
         vector: vector,
         breaks: breaks,
+        size: size,
     }
 }
 
-// Writes whether it is there, host and run state.
+// Writes whether it is there, host, run state and size.
 fn put_head(p: Process, bytes: &mut [u8])
     requires { ⌜ headWidth ≤ length (now bytes) ⌝ }
     ensures { λ _. ⌜ now (bytes .exit) ≡ overlay (headBytes p) (now (bytes .entry)) ⌝ }
@@ -64,6 +78,8 @@ fn put_head(p: Process, bytes: &mut [u8])
     bytes[THERE_AT] = flag(p.there);
     bytes[HOST_AT] = p.host;
     bytes[RUN_AT] = run.number();
+    bytes[SIZE_AT] = low_byte(p.size);
+    bytes[SIZE_AT + 1] = high_byte(p.size);
 }
 
 // Writes the nine words.
@@ -89,12 +105,15 @@ pub(crate) fn put_process(p: Process, bytes: &mut [u8])
     put_entries(breaks, &mut bytes[ENTRIES_AT..]);
 }
 
-// The run state is one of the five, and the process is there, or absent with no host.
+// The run state is one of the five, the size is valid, and the process is there, or absent with no host.
 pub(crate) fn head_sound(bytes: &[u8]) -> bool
     requires { ⌜ headWidth ≤ length (now bytes) ⌝ }
     ensures { λ r. ⌜ r ≡ headSound (now (bytes .entry)) ⌝ }
 {
     if !is_run_number(bytes[RUN_AT]) {
+        return false;
+    }
+    if !valid_size(read_size(bytes)) {
         return false;
     }
     if bytes[THERE_AT] == 1 {

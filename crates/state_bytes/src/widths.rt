@@ -14,7 +14,9 @@ pub(crate) const HOST_AT: usize = 1;
 
 pub(crate) const RUN_AT: usize = 2;
 
-pub(crate) const HEAD_BYTES: usize = 3;
+pub(crate) const SIZE_AT: usize = 3;
+
+pub(crate) const HEAD_BYTES: usize = 5;
 
 // A process.
 pub(crate) const VECTOR_AT: usize = HEAD_BYTES;

@@ -2,10 +2,9 @@
 use mathlib.Core.Path.{_≡_, ap, sym, _∙_}
 use native.Mathlib.Omega.{arith}
 use Rattle.lists.specs.Buffer.{Bytes}
-use Rattle.state.proofs.SlotLaws.{startOf-is}
 use Rattle.rules.specs.Tests.{lent}
 use Rattle.state_bytes.specs.State.{stateOf}
-use Rattle.gateway.proofs.PartLaws.{slot-back, tested-part, local-part}
+use Rattle.gateway.proofs.PartLaws.{slot-back, local-part, part-inside, tested-part}
 use Rattle.service.specs.At.{namedAt}
 use Rattle.service.proofs.AtLaws.{unchanged}
 use Rattle.gateway.proofs.AskedLaws.{asked-named}
@@ -21,13 +20,19 @@ read-process-at-requires c κs =
     let a = s .args in
     (s .pre .0 .2, omega (arith, lent-long (a .state .now) (a .memory .now) (a .reply .now) (s .pre .1 .0)))
 
+extent-requires : tie.Need-extent-requires
+extent-requires c κs = search needs
+
 start-requires : tie.Need-start-requires
-start-requires c κs = c .before .before .before .before .before .before .pre .0 .2
+start-requires c κs = c .before .before .before .before .before .before .before .pre .0 .2
 
 add-end : tie.Need-add-end
 add-end c =
-    let s = c .before .before .before .before .before .before .before in
-    omega (arith, c .start .ensures, startOf-is (s .args .pid) (s .pre .0 .2), s .pre .0 .2)
+    let q = c .before .before in
+    let s = c .before .before .before .before .before .before .before .before in
+    let a = s .args in
+    let fit = lent-fits (a .state .now) (a .memory .now) (a .reply .now) (s .pre .1 .0) in
+    omega (arith, part-inside (stateOf (a .state .now)) (a .memory .now) (a .pid) (c .start .result) (c .before .extent .result) (q .read-process-at .result) (c .start .ensures) (q .read-process-at .ensures) (c .before .extent .ensures) (s .pre .0 .2) (fit .memory) (fit .sound))
 
 sub-answer-for-process : tie.Need-sub-answer-for-process
 sub-answer-for-process c = search needs
@@ -37,27 +42,28 @@ part-answer-for-process-start c = search needs
 
 part-answer-for-process-end : tie.Need-part-answer-for-process-end
 part-answer-for-process-end c =
-    let s = c .before .before .before .before .before .before .before in
+    let q = c .before .before in
+    let s = c .before .before .before .before .before .before .before .before in
     let a = s .args in
-    omega (arith, c .start .ensures, startOf-is (a .pid) (s .pre .0 .2), s .pre .0 .2, lent-fits (a .state .now) (a .memory .now) (a .reply .now) (s .pre .1 .0) .memory)
+    let fit = lent-fits (a .state .now) (a .memory .now) (a .reply .now) (s .pre .1 .0) in
+    omega (arith, fit .memory, part-inside (stateOf (a .state .now)) (a .memory .now) (a .pid) (c .start .result) (c .before .extent .result) (q .read-process-at .result) (c .start .ensures) (q .read-process-at .ensures) (c .before .extent .ensures) (s .pre .0 .2) (fit .memory) (fit .sound))
 
 answer-for-process-requires : tie.Need-answer-for-process-requires
 answer-for-process-requires c κs =
     let t = c .before .before in
-    let q = c .before .before .before in
-    let s = c .before .before .before .before .before .before .before .before .before in
+    let x = c .before .before .before in
+    let q = c .before .before .before .before in
+    let s = c .before .before .before .before .before .before .before .before .before .before in
     let a = s .args in
-    let low = s .pre .0 .2 in
     let fit = lent-fits (a .state .now) (a .memory .now) (a .reply .now) (s .pre .1 .0) in
-    rw (q .read-process-at .ensures)
-    (tested-part (stateOf (a .state .now)) (a .memory .now) (a .pid) (t .start .result) low (t .start .ensures) (fit .memory) (fit .sound), (s .pre .1 .1, fit .room))
+    (tested-part (stateOf (a .state .now)) (a .memory .now) (a .pid) (t .start .result) (x .extent .result) (q .read-process-at .result) (t .start .ensures) (q .read-process-at .ensures) (x .extent .ensures) (s .pre .0 .2) (fit .memory) (fit .sound), (s .pre .1 .1, fit .room))
 
 changes-requires : tie.Need-changes-requires
 changes-requires c κs = search needs
 
 keep-requires : tie.Need-keep-requires
 keep-requires c κs =
-    let s = c .before .before .before .before .before .before .before .before .before .before .before .before .before .before .before .before .before .before in
+    let s = c .before .before .before .before .before .before .before .before .before .before .before .before .before .before .before .before .before .before .before in
     let a = s .args in
     (s .pre .0 .2, lent-long (a .state .now) (a .memory .now) (a .reply .now) (s .pre .1 .0))
 
@@ -75,15 +81,18 @@ returns c =
     let f = c .before .before in
     let v = c .before .before .before .before .before .before .before .before .before .before .before in
     let t = c .before .before .before .before .before .before .before .before .before .before .before .before .before .before in
-    let q = c .before .before .before .before .before .before .before .before .before .before .before .before .before .before .before in
-    let k = c .before .before .before .before .before .before .before .before .before .before .before .before .before .before .before .before .before .before .before .before in
-    let s = c .before .before .before .before .before .before .before .before .before .before .before .before .before .before .before .before .before .before .before .before .before in
+    let x = c .before .before .before .before .before .before .before .before .before .before .before .before .before .before .before in
+    let q = c .before .before .before .before .before .before .before .before .before .before .before .before .before .before .before .before in
+    let k = c .before .before .before .before .before .before .before .before .before .before .before .before .before .before .before .before .before .before .before .before .before in
+    let s = c .before .before .before .before .before .before .before .before .before .before .before .before .before .before .before .before .before .before .before .before .before .before in
     let a = s .args in
     let st = lent (stateOf (a .state .now)) (a .memory .now) in
     let bytes : Bytes (a .state .now) = λ i. omega (arith, k .slice-known .given i) in
     let formed = lent-formed (a .state .now) (a .memory .now) (a .reply .now) (s .pre .1 .0) in
-    let whole = local-part (stateOf (a .state .now)) (a .memory .now) (a .pid) (t .start .result) (q .read-process-at .result) (t .start .ensures) (q .read-process-at .ensures) in
-    rw (f .keep .ensures, slot-back (a .pid) (t .start .result) (a .memory .now) (t .start .ensures) _)
+    let fit = lent-fits (a .state .now) (a .memory .now) (a .reply .now) (s .pre .1 .0) in
+    let whole = local-part (stateOf (a .state .now)) (a .memory .now) (a .pid) (t .start .result) (x .extent .result) (q .read-process-at .result) (t .start .ensures) (q .read-process-at .ensures) (x .extent .ensures) in
+    let inside = part-inside (stateOf (a .state .now)) (a .memory .now) (a .pid) (t .start .result) (x .extent .result) (q .read-process-at .result) (t .start .ensures) (q .read-process-at .ensures) (x .extent .ensures) (s .pre .0 .2) (fit .memory) (fit .sound) in
+    rw (f .keep .ensures, slot-back (a .pid) (t .start .result) (x .extent .result) (a .memory .now) (t .start .ensures) _ (search needs) (omega (arith, fit .memory, inside)))
     (finished-served (a .state .now) (a .memory .now) bytes formed (a .pid) (s .pre .0 .2) _ _ _ _ _ (rw whole at (v .answer-for-process .ensures)) _ (asked-named (a .h) (a .string .now) (a .reply .now) st (a .pid) (s .pre .0)))
 
 same-length-4 : tie.Need-same-length-4
@@ -99,16 +108,19 @@ returns-2 : tie.Need-returns-2
 returns-2 c =
     let v = c .before .before .before .before .before .before .before in
     let t = c .before .before .before .before .before .before .before .before .before .before in
-    let q = c .before .before .before .before .before .before .before .before .before .before .before in
-    let k = c .before .before .before .before .before .before .before .before .before .before .before .before .before .before .before .before in
-    let s = c .before .before .before .before .before .before .before .before .before .before .before .before .before .before .before .before .before in
+    let x = c .before .before .before .before .before .before .before .before .before .before .before in
+    let q = c .before .before .before .before .before .before .before .before .before .before .before .before in
+    let k = c .before .before .before .before .before .before .before .before .before .before .before .before .before .before .before .before .before in
+    let s = c .before .before .before .before .before .before .before .before .before .before .before .before .before .before .before .before .before .before in
     let a = s .args in
     let st = lent (stateOf (a .state .now)) (a .memory .now) in
     let bytes : Bytes (a .state .now) = λ i. omega (arith, k .slice-known .given i) in
     let formed = lent-formed (a .state .now) (a .memory .now) (a .reply .now) (s .pre .1 .0) in
-    let whole = local-part (stateOf (a .state .now)) (a .memory .now) (a .pid) (t .start .result) (q .read-process-at .result) (t .start .ensures) (q .read-process-at .ensures) in
+    let fit = lent-fits (a .state .now) (a .memory .now) (a .reply .now) (s .pre .1 .0) in
+    let whole = local-part (stateOf (a .state .now)) (a .memory .now) (a .pid) (t .start .result) (x .extent .result) (q .read-process-at .result) (t .start .ensures) (q .read-process-at .ensures) (x .extent .ensures) in
+    let inside = part-inside (stateOf (a .state .now)) (a .memory .now) (a .pid) (t .start .result) (x .extent .result) (q .read-process-at .result) (t .start .ensures) (q .read-process-at .ensures) (x .extent .ensures) (s .pre .0 .2) (fit .memory) (fit .sound) in
     let same = unchanged (a .h) (a .string .now) (a .reply .now) _ (sym (c .before .changes .ensures) ∙ c .if1 .left) in
-    rw (slot-back (a .pid) (t .start .result) (a .memory .now) (t .start .ensures) _)
+    rw (slot-back (a .pid) (t .start .result) (x .extent .result) (a .memory .now) (t .start .ensures) _ (search needs) (omega (arith, fit .memory, inside)))
     (finished-kept (a .state .now) (a .memory .now) bytes formed (a .pid) _ _ _ _ _ (rw whole at (v .answer-for-process .ensures)) same _ (asked-named (a .h) (a .string .now) (a .reply .now) st (a .pid) (s .pre .0)))
 
 pub answer-named-spec : {M : Type 1} → statement M
@@ -116,6 +128,7 @@ answer-named-spec =
     tie.close
     (tie.spec
     read-process-at-requires
+    extent-requires
     start-requires
     add-end
     sub-answer-for-process

@@ -1,4 +1,4 @@
--- `state_bytes::process_form::put_head` meets its contract: three stores. Assumes nothing.
+-- `state_bytes::process_form::put_head` meets its contract: five stores. Assumes nothing.
 use native.Mathlib.Omega.{arith}
 use borrow.Author.Needs.{needs}
 use lib.ListN.{length-set}
@@ -22,11 +22,31 @@ number-requires c κs = search needs
 slice-write-bytes-3 : tie.Need-slice-write-bytes-3
 slice-write-bytes-3 c = simp length-set (omega arith)
 
+low-byte-requires : tie.Need-low-byte-requires
+low-byte-requires c κs = search needs
+
+slice-write-bytes-4 : tie.Need-slice-write-bytes-4
+slice-write-bytes-4 c = simp length-set (omega arith)
+
+high-byte-requires : tie.Need-high-byte-requires
+high-byte-requires c κs = search needs
+
+add-bytes : tie.Need-add-bytes
+add-bytes c = search needs
+
+slice-write-bytes-5 : tie.Need-slice-write-bytes-5
+slice-write-bytes-5 c = simp length-set (omega arith)
+
 same-length : tie.Need-same-length
 same-length c = search needs
 
 returns : tie.Need-returns
-returns c = let s = c .before .before .before in rw (c .before .flag .ensures, c .number .ensures) (sets-overlay (headBytes (s .args .p)) (s .args .bytes .now) (s .pre))
+returns c =
+    let l = c .before in
+    let n = l .before in
+    let f = n .before in
+    let s = f .before .before in
+    rw (f .flag .ensures, n .number .ensures, l .low-byte .ensures, c .high-byte .ensures) (sets-overlay (headBytes (s .args .p)) (s .args .bytes .now) (s .pre))
 
 pub put-head-spec : {M : Type 1} → statement M
 put-head-spec =
@@ -37,5 +57,10 @@ put-head-spec =
     slice-write-bytes-2
     number-requires
     slice-write-bytes-3
+    low-byte-requires
+    slice-write-bytes-4
+    high-byte-requires
+    add-bytes
+    slice-write-bytes-5
     same-length
     returns)

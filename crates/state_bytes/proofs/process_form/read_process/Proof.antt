@@ -38,20 +38,24 @@ shared-slice-read-run-of c = search needs
 run-of-requires : tie.Need-run-of-requires
 run-of-requires c κs = search needs
 
-shared-slice-read-t13 : tie.Need-shared-slice-read-t13
-shared-slice-read-t13 c = search needs
+read-size-requires : tie.Need-read-size-requires
+read-size-requires c κs = search needs
 
-shared-slice-read-t18 : tie.Need-shared-slice-read-t18
-shared-slice-read-t18 c = search needs
+shared-slice-read-t14 : tie.Need-shared-slice-read-t14
+shared-slice-read-t14 c = search needs
+
+shared-slice-read-t19 : tie.Need-shared-slice-read-t19
+shared-slice-read-t19 c = search needs
 
 returns : tie.Need-returns
 unfolding processOf
 returns c =
-    let r = c .before .before in
+    let z = c .before .before in
+    let r = z .before in
     let e = r .before .before in
     let v = e .before .before in
     let m = v .before .before .before .args .bytes .now in
-    rw (r .run-of .ensures, v .read-vector .ensures, e .read-entries .ensures, tail-part entriesAt m)
+    rw (r .run-of .ensures, v .read-vector .ensures, e .read-entries .ensures, z .read-size .ensures, tail-part entriesAt m)
 
 pub read-process-spec : {M : Type 1} → statement M
 read-process-spec =
@@ -67,6 +71,7 @@ read-process-spec =
     read-entries-requires
     shared-slice-read-run-of
     run-of-requires
-    shared-slice-read-t13
-    shared-slice-read-t18
+    read-size-requires
+    shared-slice-read-t14
+    shared-slice-read-t19
     returns)

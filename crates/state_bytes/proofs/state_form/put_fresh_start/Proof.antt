@@ -1,6 +1,5 @@
 -- `state_bytes::state_form::put_fresh_start` meets its contract. The loop's invariant: the processes passed are laid over the bytes. Assumes nothing.
 use mathlib.Core.Path.{_≡_, refl, sym, ap, _∙_}
-use mathlib.Core.Bool.{Bool, false}
 use mathlib.Core.List.{List}
 use Prim.Native.Nat.{ℕ, _-_, _*_, _≤_, _<_}
 use native.Mathlib.Omega.{arith}
@@ -10,36 +9,38 @@ use lib.Seq.{length-take-le, take-all}
 use Rattle.lists.specs.Buffer.{overlay}
 use Rattle.lists.specs.Joined.{joined}
 use Rattle.lists.proofs.Buffer.{length-overlay, overlay-all}
-use Rattle.run_state.specs.declared.Run.the-variants.{Running}
-use Rattle.process.specs.Record.{fresh}
-use Rattle.state.specs.Records.{freshStart}
+use Rattle.process.specs.declared.record.Process.{Process}
+use Rattle.state.specs.Records.{nobody, freshProcesses, freshStart}
 use Rattle.state_bytes.specs.Process.{processBytes}
 use Rattle.state_bytes.specs.State.{stateBytes}
 use Rattle.state_bytes.specs.Widths.{processCount, processWidth, stateWidth}
-use Rattle.state_bytes.proofs.ChunkLaws.{joined-map, joined-step, length-joined-more}
+use Rattle.state_bytes.proofs.ChunkLaws.{joined-step, length-joined-more}
+use Rattle.state_bytes.proofs.StateLaws.{length-freshProcesses, getD-freshProcesses}
 use Rattle.state_bytes.proofs.state_form.put_fresh_start.Statement.{statement}
 use Rattle.state_bytes.proofs.state_form.put_fresh_start.Tie as tie
 
--- the bytes of a process at a fresh start
-abbrev freshBytes : Bool → List ℕ
-freshBytes t = processBytes (fresh t 0 Running)
-
 abbrev Inv-loop : tie.InvT-loop
-Inv-loop state₀ there p₀ at₀ state p at =
-    (p ≤ processCount) × (length there ≡ processCount) × (length state ≡ length state₀) × (at ≡ processWidth * p) × (length (joined freshBytes (take p there)) ≡ at) × (state ≡ overlay (joined freshBytes (take p there)) state₀)
+Inv-loop state₀ there sizes p₀ at₀ state p at =
+    (p ≤ processCount) × (length there ≡ processCount) × (length state ≡ length state₀) × (at ≡ processWidth * p) × (length (joined processBytes (take p (freshProcesses there sizes))) ≡ at) × (state ≡ overlay (joined processBytes (take p (freshProcesses there sizes))) state₀)
 
 abbrev μ-loop : tie.MeasureT-loop
-μ-loop state₀ there p₀ at₀ state p at = processCount - p
+μ-loop state₀ there sizes p₀ at₀ state p at = processCount - p
 
 loop-holds : tie.Need-loop-holds Inv-loop μ-loop
 unfolding joined overlay
 loop-holds c = (omega arith, search needs, refl, omega arith, refl, refl)
 
-array-read-fresh : tie.Need-array-read-fresh Inv-loop μ-loop
-array-read-fresh c = omega arith
+array-read-fresh-process : tie.Need-array-read-fresh-process Inv-loop μ-loop
+array-read-fresh-process c = omega arith
 
-fresh-requires : tie.Need-fresh-requires Inv-loop μ-loop
-fresh-requires c κs = search needs
+mul-fresh-process : tie.Need-mul-fresh-process Inv-loop μ-loop
+mul-fresh-process c = search needs
+
+array-read-fresh-process-2 : tie.Need-array-read-fresh-process-2 Inv-loop μ-loop
+array-read-fresh-process-2 c = omega arith
+
+fresh-process-requires : tie.Need-fresh-process-requires Inv-loop μ-loop
+fresh-process-requires c κs = search needs
 
 sub-put-process : tie.Need-sub-put-process Inv-loop μ-loop
 sub-put-process c = omega arith
@@ -75,10 +76,14 @@ loop-again c =
     let l = f .before .before in
     let s = l .before .before in
     let a = s .args in
-    let h : l .loop .p < length (a .t1) = omega (arith, l .loop .inv .1) in
-    let one = ap processBytes (f .fresh .ensures) in
-    let laid = joined-step freshBytes (a .t1) (l .loop .p) (l .loop .at) false (a .state .now) (l .loop .state) (q .put-process .last .1 .0) h (l .loop .inv .4) (l .loop .inv .5) (rw one at (q .put-process .ensures .1)) in
-    let long = length-joined-more processWidth freshBytes (a .t1) (l .loop .p) (l .loop .at) false h (l .loop .inv .4) (rw one at (q .put-process .ensures .0)) in
+    let k = l .loop .p in
+    let all = freshProcesses (a .t1) (a .t2) in
+    let h : k < length all = omega (arith, l .loop .inv .1, length-freshProcesses (a .t1) (a .t2)) in
+    let one = f .fresh-process .ensures ∙ sym (getD-freshProcesses (a .t1) (a .t2) k (omega (arith, l .loop .inv .1))) in
+    let now = q .put-process .ensures .1 ∙ ap (λ (r : Process). overlay (processBytes r) (take (length (l .loop .state) - l .loop .at) (drop (l .loop .at) (l .loop .state)))) one in
+    let laid = joined-step processBytes all k (l .loop .at) nobody (a .state .now) (l .loop .state) (q .put-process .last .1 .0) h (l .loop .inv .4) (l .loop .inv .5) now in
+    let size = ap (λ (r : Process). length (processBytes r)) (sym one) ∙ q .put-process .ensures .0 in
+    let long = length-joined-more processWidth processBytes all k (l .loop .at) nobody h (l .loop .inv .4) size in
     (omega arith, l .loop .inv .1, ap (λ (b : List ℕ). length b) laid ∙ length-overlay _ (a .state .now) (omega (arith, long, s .pre)), omega arith, long, laid)
 
 same-length : tie.Need-same-length Inv-loop μ-loop
@@ -90,10 +95,11 @@ returns c =
     let l = c .before in
     let s = l .before .before in
     let a = s .args in
-    let all = take-all (l .loop .p) (a .t1) (omega (arith, l .loop .inv .1)) in
+    let processes = freshProcesses (a .t1) (a .t2) in
+    let all = take-all (l .loop .p) processes (omega (arith, l .loop .inv .1, length-freshProcesses (a .t1) (a .t2))) in
     let end : l .loop .p ≡ processCount = omega arith in
-    let whole = overlay-all (joined freshBytes (take (l .loop .p) (a .t1))) (a .state .now) (omega (arith, l .loop .inv .4, s .pre)) in
-    l .loop .inv .5 ∙ whole ∙ ap (joined freshBytes) all ∙ sym (joined-map processBytes (λ (t : Bool). fresh t 0 Running) (a .t1))
+    let whole = overlay-all (joined processBytes (take (l .loop .p) processes)) (a .state .now) (omega (arith, l .loop .inv .4, s .pre)) in
+    l .loop .inv .5 ∙ whole ∙ ap (joined processBytes) all
 
 pub put-fresh-start-spec : {M : Type 1} → statement M
 put-fresh-start-spec =
@@ -102,8 +108,10 @@ put-fresh-start-spec =
     Inv-loop
     μ-loop
     loop-holds
-    array-read-fresh
-    fresh-requires
+    array-read-fresh-process
+    mul-fresh-process
+    array-read-fresh-process-2
+    fresh-process-requires
     sub-put-process
     part-put-process-start
     part-put-process-end
