@@ -138,8 +138,8 @@ module _ (h : Header) (string buffer : List ℕ) (s : State) where
     by-number : (k : ℕ) → number ≡ k → asked h string buffer s ≡ stepped p (namedBy k h string buffer (localOf s p)) s
     unfolding asked granted grantedNamed refused namedBy cantBy
     by-number zero e =
-        rw (number-asked, e, n, here)
-        (ap (λ (t : State). record { answer = replyOf h (ruleOf (h .cmd) .shown h (localOf s p)) buffer; after = t }) (sym (put-over p (ruleOf (h .cmd) .effect h string (localOf s p)) s)))
+        rw (number-asked, e, n, ← here)
+        (ap (λ (t : State). record { answer = replyOf h (ruleOf (h .cmd) .shown h (localOf s (h .pid))) buffer; after = t }) (sym (put-over (h .pid) (ruleOf (h .cmd) .effect h string (localOf s (h .pid))) s)))
     by-number (suc k) e =
         let long = number-high (λ z. omega (arith, sym e ∙ z)) in
         rw (number-asked, e, ne-eqb (suc k) 0 (λ z. omega (arith, z)), le-ltb (suc k) 7 (rw e at long), put-same p s)

@@ -74,7 +74,7 @@ answered : (state memory : List ℕ) (c : Call) (x : Called) → Did state memor
 unfolding Did numbersOf machineStored numberOf
 answered state memory (request m buffer) x d = call-answered state memory (request m buffer) refl refl x d
 answered state memory (report p kind reason words buffer) x d = call-answered state memory (report p kind reason words buffer) refl refl x d
-answered state memory (store p a v) x d = rw d (record { listed = refl; refused = λ n. absurd (n refl) })
+answered state memory (store p a v) x d = rw (d .1) (record { listed = refl; refused = λ n. absurd (n refl) })
 
 refused-by : (state memory buffer : List ℕ) → (lentOn state memory buffer ≡ 0 → ⊥)
     → called (Refused (lentOn state memory buffer)) state memory buffer ≡ refusedBy (lentOn state memory buffer) state memory buffer
@@ -138,7 +138,7 @@ made-runs state memory b l es m = m .trace ∙ done-run state memory b l (m .typ
 
 pub demands : Demands
 demands = record {
-  starts = record { fresh = λ there state memory long. fresh-begins there long state memory; passed = passed-begins; after = did-begins };
+  starts = record { fresh = λ there sizes state memory long right. fresh-begins there sizes long right state memory; passed = passed-begins; after = did-begins };
   total-on-bytes = total-on-bytes;
   lists = lists-on-bytes Made made-runs;
   total = total;

@@ -6,10 +6,10 @@ use Prim.Native.Nat.{ℕ, _<_}
 use Rattle.lists.specs.Buffer.{Bytes}
 use Rattle.format.specs.declared.outcome.Outcome.{Outcome}
 use Rattle.process.specs.declared.record.Process.{Process}
-use Rattle.process.specs.Local.{Local, local}
-use Rattle.state.specs.Slot.{slot, withSlot}
+use Rattle.process.specs.Local.{Local, local, extent}
+use Rattle.state.specs.Slot.{withSlot}
 use Rattle.state.proofs.SlotLaws.{withSlot-slot}
-use Rattle.rules.specs.Tests.{lent}
+use Rattle.rules.specs.Tests.{lent, recordOf}
 use Rattle.rules.specs.Step.{Answer, StepResult, localOf, put}
 use Rattle.rules.proofs.StateLaws.{put-same}
 use Rattle.rules.specs.Isolation.{isGranted}
@@ -45,4 +45,4 @@ module _ (state memory : List ℕ) (bytes : Bytes state) (formed : stateFormed s
       let s = lent (stateOf state) memory in
       let same : part ≡ localOf s p .bytes = ap (λ (z : ProcessResult). z .left .bytes) e ∙ ap (λ (z : Local). z .bytes) l in
       let still : stepped p x s ≡ unmoved (x .answer) s = rw (l, put-same p s) in
-      rw (same, withSlot-slot p (extent (s .records .processes)) memory) (finished-unmoved o buffer (x .answer) (ap (λ (z : ProcessResult). z .answer) e) y (i ∙ still))
+      rw (same, withSlot-slot p (extent (recordOf s p)) memory) (finished-unmoved o buffer (x .answer) (ap (λ (z : ProcessResult). z .answer) e) y (i ∙ still))

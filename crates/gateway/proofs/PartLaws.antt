@@ -33,6 +33,9 @@ module _ (p start n : ℕ) (memory : List ℕ) (e : start ≡ startOf p) where
   unfolding slot
   slot-part = rw (size, e)
 
+  pub slot-size : start + n ≤ length memory → length (take (start + n - start) (drop start memory)) ≡ n
+  slot-size inside = rw size (length-part start n memory inside)
+
   -- as many bytes come back
   pub slot-back : (bytes : List ℕ) → length bytes ≡ length (take (start + n - start) (drop start memory)) → start + n ≤ length memory
       → take start memory ++ (bytes ++ drop (start + n - start) (drop start memory)) ≡ withSlot p bytes memory

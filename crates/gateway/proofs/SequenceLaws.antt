@@ -1,30 +1,33 @@
 -- Calls on bytes, one after another, are a run of the rules. Assumes nothing.
 use mathlib.Core.Path.{_≡_, refl, sym, ap, ap₂, _∙_, subst}
 use mathlib.Core.Bool.{Bool, true, false, cond, _&&_, true≢false}
-use mathlib.Core.List.{List, [], _∷_, map}
-use Prim.Native.Nat.{ℕ, zero, suc, _<_}
+use mathlib.Core.List.{List, [], _∷_}
+use Prim.Native.Nat.{ℕ, _+_, _<_}
 use native.Mathlib.Nat.{not-suc-le-zero}
 use native.Mathlib.Omega.{arith}
-use borrow.Author.Tests.{eqb-true, eq-eqb}
-use lib.ListN.{length, getD}
+use borrow.Author.Tests.{eq-eqb, lt-ltb, ltb-true, ltb-false}
+use lib.ListN.{length, getD, set, List·getD-eq-default}
 use lib.Seq.{set-getD}
-use lib.Dec.{eqb, ltb}
+use lib.Dec.{ltb}
 use Rattle.lists.specs.Word.{vectorOf}
 use Rattle.lists.proofs.Bool.{&&-left, &&-right}
 use Rattle.format.specs.declared.outcome.Outcome.{Outcome}
 use Rattle.format.specs.Outcome.{numberOf}
-use Rattle.run_state.specs.declared.Run.the-variants.{Running}
 use Rattle.process.specs.declared.record.Process.{Process}
 use Rattle.process.specs.Record.{fresh}
-use Rattle.state.specs.Records.{Records, nobody, processAt, freshStart, soundTest, SoundState}
-use Rattle.state.specs.Slot.{capacity}
+use Rattle.process.specs.Request.{cleared}
+use Rattle.process.specs.Local.{extent}
+use Rattle.state.specs.Records.{Records, nobody, processAt, freshProcess, freshStart, sizesRight, SoundState}
+use Rattle.state.specs.Slot.{capacity, startOf}
 use Rattle.state.specs.Theorems.{EightEntries, FreshIsSound}
-use Rattle.state.proofs.RecordsLaws.{state-passes, fresh-is-sound}
+use Rattle.state.proofs.SlotLaws.{length-slot, set-slot}
+use Rattle.state.proofs.RecordsLaws.{state-passes, fresh-is-sound, length-freshProcesses, getD-freshProcesses}
 use Rattle.rules.specs.Tests.{State, lent, noRoom}
 use Rattle.rules.specs.Step.{Answer, StepResult, Call, request, report, store, stored, put, step}
 use Rattle.rules.specs.Ready.{Ready, Worded, Typed}
 use Rattle.rules.specs.Run.{TraceItem, traceItem, run}
 use Rattle.rules.specs.Isolation.{isGranted}
+use Rattle.rules.proofs.StateLaws.{extent-low}
 use Rattle.rules.proofs.StepLaws.{by-test}
 use Rattle.rules.proofs.TotalLaws.{total}
 use Rattle.state_bytes.specs.Chunk.{chunks}
@@ -102,11 +105,31 @@ stored-records : (p a v : ℕ) (before : State) → stored p a v before .records
 unfolding stored put
 stored-records p a v before = by-test (λ (t : State). t .records ≡ before .records) (ltb p 8) (λ e. ap (λ (ps : List Process). record { processes = ps }) (set-getD (before .records .processes) p nobody)) (λ e. refl)
 
-store-follows : (state memory : List ℕ) → Begins state memory → (p a v : ℕ) (x : Called) → x ≡ machineStored p a v state memory → Follows state memory (store p a v) x
+-- a process with bytes is one of the eight
+few : (state : List ℕ) (p a : ℕ) → a < extent (processAt (stateOf state) p) → p < 8
+few state p a h = go (ltb p 8) refl
+  where
+    go : (t : Bool) → ltb p 8 ≡ t → p < 8
+    go true e = ltb-true p 8 e
+    go false e =
+        let none : processAt (stateOf state) p ≡ nobody = List·getD-eq-default (stateOf state .processes) nobody (omega (arith, eight-at state, ltb-false p 8 e)) in
+        absurd (not-suc-le-zero (rw none at h))
+
+stored-memory : (state memory : List ℕ) → Begins state memory → (p a v : ℕ) → a < extent (processAt (stateOf state) p)
+    → set memory (startOf p + a) v ≡ stored p a v (readFrom state memory) .memory
+unfolding stored put
+stored-memory state memory b p a v h =
+    let low = few state p a h in
+    let n = extent (processAt (stateOf state) p) in
+    let long = length-slot p n memory low (b .ready .memory) (extent-low (readFrom state memory) (b .ready) p low) in
+    rw (lt-ltb p 8 low) (set-slot p n a v memory low (b .ready .memory) (omega (arith, h, long)))
+
+store-follows : (state memory : List ℕ) → Begins state memory → (p a v : ℕ) (x : Called) → a < extent (processAt (stateOf state) p) → x ≡ machineStored p a v state memory
+    → Follows state memory (store p a v) x
 unfolding machineStored step
-store-follows state memory b p a v x e = rw e (record {
+store-follows state memory b p a v x h e = rw e (record {
   answer = refl;
-  after = ap (λ (g : Records). lent g (stored p a v (readFrom state memory) .memory)) (sym (stored-records p a v (readFrom state memory)));
+  after = ap₂ lent (sym (stored-records p a v (readFrom state memory))) (stored-memory state memory b p a v h);
   formed = b .formed;
 })
 
@@ -114,7 +137,7 @@ pub did-follows : (state memory : List ℕ) → Begins state memory → (c : Cal
 unfolding Did
 did-follows state memory b (request m buffer) t x d = call-follows state memory b (request m buffer) t x d
 did-follows state memory b (report p kind reason words buffer) t x d = call-follows state memory b (report p kind reason words buffer) t x d
-did-follows state memory b (store p a v) t x d = store-follows state memory b p a v x d
+did-follows state memory b (store p a v) t x d = store-follows state memory b p a v x (d .0) (d .1)
 
 -- ---- whole lists
 
@@ -136,43 +159,41 @@ done-run state memory b (c ∷ cs) ts (x ∷ xs) d =
 
 -- ---- where lists begin
 
-fresh-many : (ts : List Bool) → length (map (λ (t : Bool). fresh t 0 Running) ts) ≡ length ts
-fresh-many [] = refl
-fresh-many (t ∷ ts) = ap suc (fresh-many ts)
+fresh-sizes : (t : Bool) (n : ℕ) → (length (freshProcess t n .vector) ≡ 9) × (length (freshProcess t n .breaks) ≡ 8)
+unfolding freshProcess fresh cleared
+fresh-sizes true n = (refl, refl)
+fresh-sizes false n = (refl, refl)
 
-fresh-sizes : (ts : List Bool) (p : ℕ) → p < length ts
-    → (length (getD (map (λ (t : Bool). fresh t 0 Running) ts) p nobody .vector) ≡ 9) × (length (getD (map (λ (t : Bool). fresh t 0 Running) ts) p nobody .breaks) ≡ 8)
-unfolding fresh
-fresh-sizes [] p h = absurd (not-suc-le-zero h)
-fresh-sizes (t ∷ ts) zero h = (refl, refl)
-fresh-sizes (t ∷ ts) (suc p) h = fresh-sizes ts p (omega arith)
+module _ (ts : List Bool) (ns : List ℕ) (long : length ts ≡ 8) (right : sizesRight ts ns ≡ true) where
+  at-fresh : (p : ℕ) → p < 8 → (length (processAt (freshStart ts ns) p .vector) ≡ 9) × (length (processAt (freshStart ts ns) p .breaks) ≡ 8)
+  unfolding freshStart
+  at-fresh p h = rw (getD-freshProcesses ts ns p (omega (arith, h, long))) (fresh-sizes (getD ts p false) (getD ns p 0))
 
-module _ (ts : List Bool) (long : length ts ≡ 8) where
-  fresh-sized : Sized (freshStart ts)
+  fresh-sized : Sized (freshStart ts ns)
   unfolding freshStart
   fresh-sized = record {
-    processes = fresh-many ts ∙ long;
-    vectors = λ p h. fresh-sizes ts p (omega (arith, h, long)) .0;
-    entries = λ p h. fresh-sizes ts p (omega (arith, h, long)) .1;
+    processes = length-freshProcesses ts ns ∙ long;
+    vectors = λ p h. at-fresh p h .0;
+    entries = λ p h. at-fresh p h .1;
   }
 
-  fresh-sound : SoundState (freshStart ts)
+  fresh-sound : SoundState (freshStart ts ns)
   unfolding FreshIsSound
-  fresh-sound = fresh-is-sound ts long
+  fresh-sound = fresh-is-sound ts ns long right
 
-  fresh-ready : (memory : List ℕ) → length memory ≡ capacity → Ready (lent (freshStart ts) memory)
+  fresh-ready : (memory : List ℕ) → length memory ≡ capacity → Ready (lent (freshStart ts ns) memory)
   fresh-ready memory size = record {
     memory = size;
     processes = fresh-sized .processes;
     entries = fresh-sized .entries;
-    sound = state-passes (freshStart ts) (fresh-sized .entries) fresh-sound;
+    sound = state-passes (freshStart ts ns) (fresh-sized .entries) fresh-sound;
   }
 
-  pub fresh-begins : (state memory : List ℕ) → length state ≡ stateWidth → length memory ≡ capacity → Begins (startOn ts state .state) memory
+  pub fresh-begins : (state memory : List ℕ) → length state ≡ stateWidth → length memory ≡ capacity → Begins (startOn ts ns state .state) memory
   unfolding startOn
-  fresh-begins state memory wide size = rw (eq-eqb (length state) stateWidth wide) (record {
-    formed = inverse .written-is-formed (freshStart ts) fresh-sized;
-    ready = subst (λ (g : Records). Ready (lent g memory)) (sym (inverse .written-is-read (freshStart ts) fresh-sized)) (fresh-ready memory size);
+  fresh-begins state memory wide size = rw (eq-eqb (length state) stateWidth wide, right) (record {
+    formed = inverse .written-is-formed (freshStart ts ns) fresh-sized;
+    ready = subst (λ (g : Records). Ready (lent g memory)) (sym (inverse .written-is-read (freshStart ts ns) fresh-sized)) (fresh-ready memory size);
   })
 
 pub passed-begins : (state memory buffer : List ℕ) → lentOn state memory buffer ≡ 0 → Begins state memory

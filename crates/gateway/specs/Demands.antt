@@ -5,6 +5,7 @@ use mathlib.Core.List.{List, [], _∷_}
 use Prim.Native.Nat.{ℕ, _<_}
 use lib.ListN.{length}
 use Rattle.format.specs.Outcome.{numberOf}
+use Rattle.state.specs.Records.{sizesRight}
 use Rattle.state.specs.Slot.{capacity}
 use Rattle.rules.specs.Step.{Call, request, report, localOf}
 use Rattle.rules.specs.Ready.{Typed}
@@ -20,9 +21,9 @@ use Rattle.gateway.specs.Sequence.{Begins, Made, readFrom}
 
 -- where lists begin
 pub record Starts : Type 0 where
-  -- after a fresh start, with a memory of the right size
-  pub fresh : (there : List Bool) (state memory : List ℕ) → length there ≡ 8 → length state ≡ stateWidth → length memory ≡ capacity
-      → Begins (startOn there state .state) memory
+  -- after a fresh start with right sizes, with a memory of its length
+  pub fresh : (there : List Bool) (sizes state memory : List ℕ) → length there ≡ 8 → sizesRight there sizes ≡ true → length state ≡ stateWidth
+      → length memory ≡ capacity → Begins (startOn there sizes state .state) memory
   -- wherever the tests 1 and 2 pass
   pub passed : (state memory buffer : List ℕ) → lentOn state memory buffer ≡ 0 → Begins state memory
   -- and after each call of a list

@@ -4,8 +4,17 @@ use process::valid_size;
 use state_bytes::STATE_BYTES;
 use state_bytes::put_fresh_start;
 ghost use mathlib.Core.Path.{_≡_};
+ghost use mathlib.Core.Bool.{not, _||_};
+ghost use Rattle.process.specs.Sizes.{validSize};
 ghost use Rattle.state.specs.Records.{sizesRight};
 ghost use Rattle.gateway.specs.Called.{started, startOn};
+
+// A process is absent, or has a right size.
+fn size_right(there: bool, size: u16) -> bool
+    ensures { λ r. ⌜ r ≡ not there || validSize size ⌝ }
+{
+    if there { valid_size(size) } else { true }
+}
 
 // Every process that is there has a right size.
 fn sizes_right(there: [bool; 8], sizes: [u16; 8]) -> bool
@@ -13,10 +22,8 @@ fn sizes_right(there: [bool; 8], sizes: [u16; 8]) -> bool
 {
     let mut p = 0;
     while p < 8 {
-        if there[p] {
-            if !valid_size(sizes[p]) {
-                return false;
-            }
+        if !size_right(there[p], sizes[p]) {
+            return false;
         }
         p += 1;
     }

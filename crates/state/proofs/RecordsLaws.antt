@@ -1,12 +1,12 @@
 -- Laws of the eight records. Assumes nothing.
-use mathlib.Core.Path.{_≡_, refl}
+use mathlib.Core.Path.{_≡_, refl, ap, _∙_}
 use mathlib.Core.Bool.{Bool, true, false, not, _&&_, _||_}
 use mathlib.Core.List.{List, [], _∷_}
-use Prim.Native.Nat.{ℕ, zero, suc, _<_, _%_}
-use native.Mathlib.Nat.{not-suc-le-zero}
+use Prim.Native.Nat.{ℕ, zero, suc, _+_, _<_, _%_}
 use native.Mathlib.Omega.{arith}
 use borrow.Author.Tests.{eqb-true, leb-true}
 use lib.ListN.{length, drop, getD}
+use lib.Seq.{getD-drop}
 use lib.Dec.{eqb, leb}
 use Rattle.lists.proofs.Bool.{&&-left, &&-right}
 use Rattle.lists.proofs.Every.{below-at, below-all}
@@ -44,13 +44,22 @@ unfolding freshProcess fresh cleared validSize
 fresh-sound true n e = sound-free (fresh true 0 Running n) (size-right n e) refl (λ i. refl)
 fresh-sound false n e = sound-free (fresh false 0 Running 4096) (size-right 4096 refl) refl (λ i. refl)
 
-fresh-sounds : (ts : List Bool) (ns : List ℕ) → sizesRight ts ns ≡ true → (p : ℕ) → p < length ts → Sound (getD (freshProcesses ts ns) p nobody)
-unfolding freshProcesses sizesRight
-fresh-sounds [] ns e p h = absurd (not-suc-le-zero h)
-fresh-sounds (t ∷ ts) ns e zero h = fresh-sound t (getD ns 0 0) (&&-left (not t || validSize (getD ns 0 0)) _ e)
-fresh-sounds (t ∷ ts) ns e (suc p) h =
-    fresh-sounds ts (drop 1 ns) (&&-right (not t || validSize (getD ns 0 0)) (sizesRight ts (drop 1 ns)) e) p (omega arith)
+pub length-freshProcesses : (ts : List Bool) (ns : List ℕ) → length (freshProcesses ts ns) ≡ length ts
+unfolding freshProcesses
+length-freshProcesses [] ns = refl
+length-freshProcesses (t ∷ ts) ns = ap suc (length-freshProcesses ts (drop 1 ns))
+
+-- process k is there as the first list says, with its size of the second
+pub getD-freshProcesses : (ts : List Bool) (ns : List ℕ) (k : ℕ) → k < length ts → getD (freshProcesses ts ns) k nobody ≡ freshProcess (getD ts k false) (getD ns k 0)
+unfolding freshProcesses
+getD-freshProcesses [] ns k h = absurd (omega (arith, h))
+getD-freshProcesses (t ∷ ts) ns zero h = refl
+getD-freshProcesses (t ∷ ts) ns (suc k) h =
+    let next : 1 + k ≡ suc k = omega arith in
+    getD-freshProcesses ts (drop 1 ns) k (omega (arith, h)) ∙ ap (freshProcess (getD ts k false)) (getD-drop 1 ns k 0 ∙ ap (λ (n : ℕ). getD ns n 0) next)
 
 pub fresh-is-sound : FreshIsSound
-unfolding FreshIsSound freshStart
-fresh-is-sound ts ns long e p h = fresh-sounds ts ns e p (omega (arith, h, long))
+unfolding FreshIsSound freshStart sizesRight
+fresh-is-sound ts ns long e p h =
+    rw (getD-freshProcesses ts ns p (omega (arith, h, long)))
+    (fresh-sound (getD ts p false) (getD ns p 0) (below-at (λ (q : ℕ). not (getD ts q false) || validSize (getD ns q 0)) 8 p h e))

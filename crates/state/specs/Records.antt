@@ -1,5 +1,5 @@
 -- The process records of the gateway: 'processes 0 to 7, each there or not'. In the code they are the bytes of a state.
-use mathlib.Core.Bool.{Bool, true, false, not, cond, _&&_, _||_}
+use mathlib.Core.Bool.{Bool, true, false, not, cond, _||_}
 use mathlib.Core.List.{List, [], _∷_}
 use Prim.Native.Nat.{ℕ, _<_}
 use lib.ListN.{drop, getD, set}
@@ -57,5 +57,4 @@ freshStart there sizes = record { processes = freshProcesses there sizes }
 
 -- no 'bad size (at fresh start too, of a process then there)'
 unfoldable pub sizesRight : List Bool → List ℕ → Bool
-sizesRight [] sizes = true
-sizesRight (t ∷ ts) sizes = (not t || validSize (getD sizes 0 0)) && sizesRight ts (drop 1 sizes)
+sizesRight there sizes = below (λ (p : ℕ). not (getD there p false) || validSize (getD sizes p 0)) 8

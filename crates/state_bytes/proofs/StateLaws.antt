@@ -111,22 +111,6 @@ sound-next at m s h e =
     let more : (at + processWidth) / processWidth ≡ suc n = omega arith in
     (omega (arith, more, s .0), omega (arith, h, s .0), s .2, rw more (every-snoc processWidth processSound n m (s .3) e))
 
--- ---- a fresh start
-
-pub length-freshProcesses : (ts : List Bool) (ns : List ℕ) → length (freshProcesses ts ns) ≡ length ts
-unfolding freshProcesses
-length-freshProcesses [] ns = refl
-length-freshProcesses (t ∷ ts) ns = ap suc (length-freshProcesses ts (drop 1 ns))
-
--- process k is there as the first list says, with its size of the second
-pub getD-freshProcesses : (ts : List Bool) (ns : List ℕ) (k : ℕ) → k < length ts → getD (freshProcesses ts ns) k nobody ≡ freshProcess (getD ts k false) (getD ns k 0)
-unfolding freshProcesses
-getD-freshProcesses [] ns k h = absurd (omega (arith, h))
-getD-freshProcesses (t ∷ ts) ns zero h = refl
-getD-freshProcesses (t ∷ ts) ns (suc k) h =
-    let next : 1 + k ≡ suc k = omega arith in
-    getD-freshProcesses ts (drop 1 ns) k (omega (arith, h)) ∙ ap (freshProcess (getD ts k false)) (getD-drop 1 ns k 0 ∙ ap (λ (n : ℕ). getD ns n 0) next)
-
 -- ---- there and back
 
 state-back : (g : Records) → Sized g → stateOf (stateBytes g) ≡ g

@@ -1,6 +1,8 @@
 -- `gateway::requests::answer_named` meets its contract: that of the request at its process, in the slot and the bytes of the process. Assumes nothing.
 use mathlib.Core.Path.{_≡_, ap, sym, _∙_}
+use Prim.Native.Nat.{_+_, _≤_}
 use native.Mathlib.Omega.{arith}
+use lib.ListN.{length}
 use Rattle.lists.specs.Buffer.{Bytes}
 use Rattle.rules.specs.Tests.{lent}
 use Rattle.state_bytes.specs.State.{stateOf}
@@ -92,7 +94,7 @@ returns c =
     let fit = lent-fits (a .state .now) (a .memory .now) (a .reply .now) (s .pre .1 .0) in
     let whole = local-part (stateOf (a .state .now)) (a .memory .now) (a .pid) (t .start .result) (x .extent .result) (q .read-process-at .result) (t .start .ensures) (q .read-process-at .ensures) (x .extent .ensures) in
     let inside = part-inside (stateOf (a .state .now)) (a .memory .now) (a .pid) (t .start .result) (x .extent .result) (q .read-process-at .result) (t .start .ensures) (q .read-process-at .ensures) (x .extent .ensures) (s .pre .0 .2) (fit .memory) (fit .sound) in
-    rw (f .keep .ensures, slot-back (a .pid) (t .start .result) (x .extent .result) (a .memory .now) (t .start .ensures) _ (search needs) (omega (arith, fit .memory, inside)))
+    rw (f .keep .ensures, slot-back (a .pid) (t .start .result) (x .extent .result) (a .memory .now) (t .start .ensures) (v .answer-for-process .last .1 .1 .0) (v .answer-for-process .kept .1 .1 .0) (omega (arith, fit .memory, inside)))
     (finished-served (a .state .now) (a .memory .now) bytes formed (a .pid) (s .pre .0 .2) _ _ _ _ _ (rw whole at (v .answer-for-process .ensures)) _ (asked-named (a .h) (a .string .now) (a .reply .now) st (a .pid) (s .pre .0)))
 
 same-length-4 : tie.Need-same-length-4
@@ -119,8 +121,9 @@ returns-2 c =
     let fit = lent-fits (a .state .now) (a .memory .now) (a .reply .now) (s .pre .1 .0) in
     let whole = local-part (stateOf (a .state .now)) (a .memory .now) (a .pid) (t .start .result) (x .extent .result) (q .read-process-at .result) (t .start .ensures) (q .read-process-at .ensures) (x .extent .ensures) in
     let inside = part-inside (stateOf (a .state .now)) (a .memory .now) (a .pid) (t .start .result) (x .extent .result) (q .read-process-at .result) (t .start .ensures) (q .read-process-at .ensures) (x .extent .ensures) (s .pre .0 .2) (fit .memory) (fit .sound) in
+    let fits : t .start .result + x .extent .result ≤ length (a .memory .now) = omega (arith, fit .memory, inside) in
     let same = unchanged (a .h) (a .string .now) (a .reply .now) _ (sym (c .before .changes .ensures) ∙ c .if1 .left) in
-    rw (slot-back (a .pid) (t .start .result) (x .extent .result) (a .memory .now) (t .start .ensures) _ (search needs) (omega (arith, fit .memory, inside)))
+    rw (slot-back (a .pid) (t .start .result) (x .extent .result) (a .memory .now) (t .start .ensures) (v .answer-for-process .last .1 .1 .0) (v .answer-for-process .kept .1 .1 .0) fits)
     (finished-kept (a .state .now) (a .memory .now) bytes formed (a .pid) _ _ _ _ _ (rw whole at (v .answer-for-process .ensures)) same _ (asked-named (a .h) (a .string .now) (a .reply .now) st (a .pid) (s .pre .0)))
 
 pub answer-named-spec : {M : Type 1} → statement M

@@ -5,7 +5,7 @@ use Rattle.lists.specs.Buffer.{Bytes}
 use Rattle.state.proofs.SlotLaws.{startOf-is}
 use Rattle.rules.specs.Tests.{lent}
 use Rattle.state_bytes.specs.State.{stateOf}
-use Rattle.gateway.proofs.PartLaws.{slot-back, tested-part}
+use Rattle.gateway.proofs.PartLaws.{slot-size, slot-back}
 use Rattle.gateway.proofs.AskedLaws.{asked-new, asked-full}
 use Rattle.gateway.proofs.LentLaws.{lent-formed, lent-fits, lent-long}
 use Rattle.gateway.proofs.FinishLaws.{finished-served, finished-unmoved}
@@ -78,7 +78,7 @@ answer-create-requires c κs =
     let a = s .args in
     let low = c .before .before .before .before .before .if1 .left in
     let fit = lent-fits (a .state .now) (a .memory .now) (a .reply .now) (s .pre .1) in
-    (low, (tested-part (stateOf (a .state .now)) (a .memory .now) _ (t .start .result) low (t .start .ensures) (fit .memory) (fit .sound) .size, fit .room))
+    (low, (slot-size _ (t .start .result) 4096 (a .memory .now) (t .start .ensures) (omega (arith, t .start .ensures, startOf-is _ low, fit .memory)), fit .room))
 
 keep-requires : tie.Need-keep-requires
 keep-requires c κs =
@@ -108,7 +108,7 @@ returns-2 c =
     let st = lent (stateOf (a .state .now)) (a .memory .now) in
     let bytes : Bytes (a .state .now) = λ j. omega (arith, k .slice-known .given j) in
     let formed = lent-formed (a .state .now) (a .memory .now) (a .reply .now) (s .pre .1) in
-    rw (f .keep .ensures, slot-back _ (t .start .result) (a .memory .now) (t .start .ensures) _)
+    rw (f .keep .ensures, slot-back _ (t .start .result) 4096 (a .memory .now) (t .start .ensures) (v .answer-create .last .1 .1 .1 .0) (v .answer-create .kept .1 .1 .1 .0) (omega (arith, t .start .ensures, startOf-is _ (i .if1 .left), lent-fits (a .state .now) (a .memory .now) (a .reply .now) (s .pre .1) .memory)))
     (finished-served (a .state .now) (a .memory .now) bytes formed _ (i .if1 .left) _ _ _ _ _ (v .answer-create .ensures) _ (asked-new (a .h) string (a .reply .now) st (s .pre .0) _ (c .before .before .before .before .before .before .before .before .before .before .before .before .before .before .before .before .lowest-absent .ensures) (i .if1 .left)))
 
 pub answer-new-spec : {M : Type 1} → statement M

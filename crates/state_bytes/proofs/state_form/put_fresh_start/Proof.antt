@@ -15,7 +15,7 @@ use Rattle.state_bytes.specs.Process.{processBytes}
 use Rattle.state_bytes.specs.State.{stateBytes}
 use Rattle.state_bytes.specs.Widths.{processCount, processWidth, stateWidth}
 use Rattle.state_bytes.proofs.ChunkLaws.{joined-step, length-joined-more}
-use Rattle.state_bytes.proofs.StateLaws.{length-freshProcesses, getD-freshProcesses}
+use Rattle.state.proofs.RecordsLaws.{length-freshProcesses, getD-freshProcesses}
 use Rattle.state_bytes.proofs.state_form.put_fresh_start.Statement.{statement}
 use Rattle.state_bytes.proofs.state_form.put_fresh_start.Tie as tie
 
