@@ -10,7 +10,8 @@ use lib.Dec.{eqb}
 use Rattle.lists.specs.Every.{every, below}
 use Rattle.lists.proofs.Bool.{&&-left, &&-right}
 use Rattle.lists.proofs.Every.{below-at}
-use Rattle.state.specs.Records.{freshStart, soundTest as soundState, lowestAbsent}
+use Rattle.process.specs.Sizes.{validSize}
+use Rattle.state.specs.Records.{freshProcess, freshProcesses, freshStart, soundTest as soundState, lowestAbsent}
 use Rattle.lists.specs.Buffer.{overlay}
 use Rattle.lists.specs.Word.{lowFirst}
 use Rattle.format.specs.Answer.{cantOf, createdOf, noticeOf}
@@ -28,7 +29,7 @@ use Rattle.process.specs.Request.{hasBreak, hasRoom, examined, deposited, vecto
 use Rattle.breakpoints.specs.Seen.{restored, seen, savedFrom, overlaySavedByte, overlaySavedWord}
 use Rattle.process.specs.Request.{sheltered}
 use Rattle.breakpoints.specs.Entry.{validBreakAddress}
-use Rattle.process.specs.Sound.{absentHasNoHost, liftSound, usedSound, entrySound, soundTest}
+use Rattle.process.specs.Sound.{absentHasNoHost, liftSound, usedSound, entrySound, soundTest, keepsRules}
 use Rattle.state.specs.Slot.{startOf, slot, withSlot}
 use Rattle.rules.specs.Rule.{public, ruleOf, names}
 use Rattle.rules.specs.Step.{put, grantedNamed, grantedCreate, granted, refused, requestStep, noticeTo, notified, reportStep, step}
@@ -106,7 +107,7 @@ record Computed : Type 0 where
   unlike : heard (only 9) (run one oneCalls) ≡ heard (only 9) (run other otherCalls) → ⊥
 
 computed : Computed
-unfolding strikeRun hiddenAfter createdFor withoutTheirs namesOne subject event passedOver fieldsOf isOne isGranted struck withoutData theirs insider heard part asker sentTo noticed stored overlay lowFirst cantOf createdOf noticeOf written headerOf stringOf fixedRight numberOf lengthOf firstFailing unusedZero carriedLength wrongLength wrongHeader misfits rowOf requestForm matches find plantedIn liftedIn removedFrom replanted liftedAt fresh accepts storeVectorAndReplant passes verdictOf recipientOf passed runAfter reported hasBreak hasRoom examined deposited vectorAfter breakSet breakRemoved created cleared restored seen savedFrom sheltered overlaySavedByte overlaySavedWord validBreakAddress absentHasNoHost liftSound usedSound entrySound soundTest freshStart soundState startOf slot withSlot public ruleOf names run put grantedNamed grantedCreate granted refused requestStep noticeTo notified reportStep step lowestAbsent askedTests requestNumber reportNumber
+unfolding strikeRun hiddenAfter createdFor withoutTheirs namesOne subject event passedOver fieldsOf isOne isGranted struck withoutData theirs insider heard part asker sentTo noticed stored overlay lowFirst cantOf createdOf noticeOf written headerOf stringOf fixedRight numberOf lengthOf firstFailing unusedZero carriedLength wrongLength wrongHeader misfits rowOf requestForm matches find plantedIn liftedIn removedFrom replanted liftedAt fresh accepts storeVectorAndReplant passes verdictOf recipientOf passed runAfter reported hasBreak hasRoom examined deposited vectorAfter breakSet breakRemoved created cleared restored seen savedFrom sheltered overlaySavedByte overlaySavedWord validBreakAddress absentHasNoHost liftSound usedSound entrySound soundTest validSize keepsRules freshProcess freshProcesses freshStart soundState startOf slot withSlot public ruleOf names run put grantedNamed grantedCreate granted refused requestStep noticeTo notified reportStep step lowestAbsent askedTests requestNumber reportNumber
 computed = record {
   one-ready = record { memory = refl; processes = refl; entries = eight one refl; sound = refl };
   other-ready = record { memory = refl; processes = refl; entries = eight other refl; sound = refl };

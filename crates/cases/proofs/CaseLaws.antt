@@ -17,8 +17,9 @@ use Rattle.process.specs.Request.{hasBreak, hasRoom, examined, deposited, vecto
 use Rattle.breakpoints.specs.Seen.{restored, seen, savedFrom, overlaySavedByte, overlaySavedWord}
 use Rattle.process.specs.Request.{sheltered}
 use Rattle.breakpoints.specs.Entry.{validBreakAddress}
-use Rattle.process.specs.Sound.{absentHasNoHost, liftSound, usedSound, entrySound, soundTest}
-use Rattle.state.specs.Records.{freshStart, soundTest as soundState, lowestAbsent}
+use Rattle.process.specs.Sound.{absentHasNoHost, liftSound, usedSound, entrySound, soundTest, keepsRules}
+use Rattle.process.specs.Sizes.{validSize}
+use Rattle.state.specs.Records.{freshProcess, freshProcesses, freshStart, soundTest as soundState, lowestAbsent}
 use Rattle.state.specs.Slot.{startOf, slot, withSlot}
 use Rattle.rules.specs.Rule.{public, ruleOf, names}
 use Rattle.rules.specs.Run.{run}
@@ -27,5 +28,5 @@ use Rattle.rules.specs.Tests.{askedTests, requestNumber, reportNumber}
 use Rattle.cases.specs.Cases.{CasesHold}
 
 pub cases-hold : CasesHold
-unfolding CasesHold overlay lowFirst vectorOf cantOf createdOf noticeOf written headerOf stringOf fixedRight firstFailing unusedZero carriedLength wrongLength wrongHeader misfits rowOf requestForm matches find plantedIn liftedIn removedFrom replanted liftedAt fresh accepts storeVectorAndReplant passes verdictOf recipientOf passed runAfter reported hasBreak hasRoom examined deposited vectorAfter breakSet breakRemoved created cleared restored seen savedFrom sheltered overlaySavedByte overlaySavedWord validBreakAddress absentHasNoHost liftSound usedSound entrySound soundTest freshStart soundState startOf slot withSlot public ruleOf names run put grantedNamed grantedCreate granted refused requestStep noticeTo notified reportStep step lowestAbsent askedTests requestNumber reportNumber
+unfolding CasesHold overlay lowFirst vectorOf cantOf createdOf noticeOf written headerOf stringOf fixedRight firstFailing unusedZero carriedLength wrongLength wrongHeader misfits rowOf requestForm matches find plantedIn liftedIn removedFrom replanted liftedAt fresh accepts storeVectorAndReplant passes verdictOf recipientOf passed runAfter reported hasBreak hasRoom examined deposited vectorAfter breakSet breakRemoved created cleared restored seen savedFrom sheltered overlaySavedByte overlaySavedWord validBreakAddress absentHasNoHost liftSound usedSound entrySound soundTest validSize keepsRules freshProcess freshProcesses freshStart soundState startOf slot withSlot public ruleOf names run put grantedNamed grantedCreate granted refused requestStep noticeTo notified reportStep step lowestAbsent askedTests requestNumber reportNumber
 cases-hold = refl

@@ -20,7 +20,7 @@ use Rattle.rules.specs.Total.{oneOf}
 use Rattle.rules.specs.Isolation.{Hosts, Processes, heard}
 use Rattle.rules.specs.Outsider.{only}
 use Rattle.rules.specs.Together.{withoutTheirs, callsOf, TwoRuns}
-use Rattle.cases.specs.Case.{buffer, asked}
+use Rattle.cases.specs.Case.{whole, buffer, asked}
 use Rattle.cases.specs.Cases.{zeros}
 
 -- the two laptops
@@ -37,12 +37,12 @@ fiveThere = true ∷ true ∷ true ∷ true ∷ true ∷ false ∷ false ∷ fal
 
 -- the one gateway: the seller's processes run, and their memory is zero
 abbrev pub one : State
-one = record { records = withProcess 4 (fresh true 9 Running) (withProcess 2 (fresh true 9 Running) (freshStart fiveThere)); memory = zeros }
+one = record { records = withProcess 4 (fresh true 9 Running 4096) (withProcess 2 (fresh true 9 Running 4096) (freshStart fiveThere whole)); memory = zeros }
 
 -- the other: they are stopped, and the first byte of each is 7
 abbrev pub other : State
 other = record {
-  records = withProcess 4 (fresh true 9 Stopped) (withProcess 2 (fresh true 9 Stopped) (freshStart fiveThere));
+  records = withProcess 4 (fresh true 9 Stopped 4096) (withProcess 2 (fresh true 9 Stopped 4096) (freshStart fiveThere whole));
   memory = set (set zeros 8192 7) 16384 7;
 }
 

@@ -44,9 +44,13 @@ seenOf places looks e = record {
   records = looks (e .after .records);
 }
 
+-- every process has 4,096 bytes
+abbrev pub whole : List ℕ
+whole = replicate 8 4096
+
 -- what is seen when the calls of a case are run
 abbrev pub outcomes : Case → List Seen
-outcomes c = map (seenOf (c .places) (c .looks)) (run (record { records = freshStart (c .there); memory = c .lent }) (c .calls))
+outcomes c = map (seenOf (c .places) (c .looks)) (run (record { records = freshStart (c .there) whole; memory = c .lent }) (c .calls))
 
 -- ---- what to look at in the records
 

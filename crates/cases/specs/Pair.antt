@@ -14,7 +14,7 @@ use Rattle.rules.specs.Ready.{Ready}
 use Rattle.rules.specs.Run.{run}
 use Rattle.rules.specs.Isolation.{Alike, heard}
 use Rattle.rules.specs.Outsider.{only, Differ, Outside}
-use Rattle.cases.specs.Case.{buffer, asked}
+use Rattle.cases.specs.Case.{whole, buffer, asked}
 use Rattle.cases.specs.Cases.{zeros}
 
 -- processes 2 and 3
@@ -23,11 +23,11 @@ twoThere = false ∷ false ∷ true ∷ true ∷ false ∷ false ∷ false ∷ f
 
 -- the one gateway: host 6 debugs process 2, which runs in the one and is stopped in the other; its first byte differs
 abbrev pub one : State
-one = record { records = withProcess 2 (fresh true 6 Running) (freshStart twoThere); memory = zeros }
+one = record { records = withProcess 2 (fresh true 6 Running 4096) (freshStart twoThere whole); memory = zeros }
 
 -- the other gateway
 abbrev pub other : State
-other = record { records = withProcess 2 (fresh true 6 Stopped) (freshStart twoThere); memory = set zeros 8192 7 }
+other = record { records = withProcess 2 (fresh true 6 Stopped 4096) (freshStart twoThere whole); memory = set zeros 8192 7 }
 
 -- host 5 asks for process 2, which he does not debug, and examines process 3
 abbrev pub closing : List Call

@@ -4,7 +4,7 @@ use mathlib.Core.Path.{_≡_}
 use mathlib.Core.Bool.{true, false, cond}
 use mathlib.Core.List.{List, []}
 use mathlib.Core.Logic.{_⊎_}
-use Prim.Native.Nat.{ℕ, _<_}
+use Prim.Native.Nat.{ℕ, _≤_, _<_}
 use lib.Dec.{eqb}
 use Rattle.format.specs.Outcome.{firstFailing}
 use lib.ListN.{getD}
@@ -31,6 +31,10 @@ Shown s t = (p : ℕ) → p < 8 → publicOf s p ≡ publicOf t p
 abbrev pub Silent : Call → Type 0
 Silent c = (d : ℕ → Public) (a : Answer) (q : ℕ) → toldOf d c a q ≡ d q
 
+-- how many bytes a process has, by its public part
+abbrev pub extentOf : Public → ℕ
+extentOf u = cond (u .there) (u .size) 0
+
 -- a call that goes to process p
 pub record There (s : State) (c : Call) (p : ℕ) (a : Access) : Type 0 where
   pub low : p < 8
@@ -38,6 +42,8 @@ pub record There (s : State) (c : Call) (p : ℕ) (a : Access) : Type 0 where
   pub fair : Fair (asker c) a then
   -- the vector keeps its nine words
   pub words : Typed c → (l : Local) → NineWords (l .process) → NineWords (a .effect l .process)
+  -- only a CREATE gives it more bytes
+  pub narrows : (fieldsOf c .cmd ≡ CREATE → ⊥) → (u : Public) → extentOf (then u) ≤ extentOf u
   -- it goes to the process that it names, or it is a CREATE
   pub named : (P : Processes) → subject P c ≡ true → P p ≡ true
   pub reaches : (subject (only p) c ≡ true) ⊎ (fieldsOf c .cmd ≡ CREATE)

@@ -149,7 +149,7 @@ quiet-said H a then f buffer l out =
     by-test (λ (x : Answer). noticed H (x .outcome) (x .buffer) ≡ false) (eqb (numberAt a l) 0)
     (λ e. quiet H (public (l .process)) out (a .reply l) buffer (f .discreet l)) (λ e. rw (lengthOf-none (numberAt a l)))
 
-reached-answer : (p : ℕ) (a : Access) (buffer : List ℕ) (s : State) → reached (atProcess p a) buffer s .answer ≡ saidAt a buffer (localOf s p)
+pub reached-answer : (p : ℕ) (a : Access) (buffer : List ℕ) (s : State) → reached (atProcess p a) buffer s .answer ≡ saidAt a buffer (localOf s p)
 unfolding reached saidAt
 reached-answer p a buffer s = go (eqb (numberAt a (localOf s p)) 0) refl
   where
@@ -157,7 +157,7 @@ reached-answer p a buffer s = go (eqb (numberAt a (localOf s p)) 0) refl
     go true e = rw e
     go false e = rw e
 
-reached-changed : (w : Asker) (p : ℕ) → p < 8 → (a : Access) (then : Public → Public) → Fair w a then → (buffer : List ℕ) (s : State) → Ready s
+pub reached-changed : (w : Asker) (p : ℕ) → p < 8 → (a : Access) (then : Public → Public) → Fair w a then → (buffer : List ℕ) (s : State) → Ready s
     → Changed s (reached (atProcess p a) buffer s .after) p (leftAt a (localOf s p))
 unfolding reached leftAt
 reached-changed w p low a then f buffer s r = go (eqb (numberAt a (localOf s p)) 0) refl

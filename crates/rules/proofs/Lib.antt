@@ -19,3 +19,4 @@ pub mod TraceLaws
 pub mod TogetherLaws
 pub mod ListLaws
 pub mod OutsiderLaws
+pub mod PastLaws

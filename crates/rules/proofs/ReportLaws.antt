@@ -81,6 +81,7 @@ module _ (p kind reason : ℕ) (words : List ℕ) where
       then = kept;
       fair = report-fair;
       words = λ t l n. count-reported kind words l ∙ t;
+      narrows = λ e u. omega arith;
       named = λ P e. e;
       reaches = inl (eq-eqb p p refl);
       carries = λ l e. absurd (omega (arith, e));
@@ -131,6 +132,7 @@ module _ (p x v : ℕ) where
     then = kept;
     fair = store-fair;
     words = λ t l n. n;
+    narrows = λ e u. omega arith;
     named = λ P e. e;
     reaches = inl (eq-eqb p p refl);
     carries = λ l e. absurd (omega (arith, e));

@@ -39,7 +39,7 @@ use Rattle.rules.proofs.RuleLaws.{Taking as RowTaking}
 use Rattle.rules.proofs.NumberLaws.{by-test, same-cond, first-listed, orElse-zero, first-append, Sent, layout-sent}
 use Rattle.rules.proofs.TurnLaws.{request-number, request-turn}
 use Rattle.rules.proofs.AccessLaws.{Taking, May, Discreet, Fair, outerNumber}
-use Rattle.rules.proofs.CallLaws.{Shown, Silent, There, Nowhere, Placed, Lawful}
+use Rattle.rules.proofs.CallLaws.{extentOf, Shown, Silent, There, Nowhere, Placed, Lawful}
 
 -- ---- an op code that names a process
 
@@ -105,6 +105,14 @@ module _ (cmd : ℕ) (r : Rule) (row : Row cmd r) (h : Header) (string : List �
 
 -- ---- CREATE
 
+-- no request that names a process gives it more bytes
+then-narrows : (cmd asker : ℕ) (u : Public) → extentOf (publicThen cmd asker u) ≤ extentOf u
+unfolding publicThen
+then-narrows cmd asker u =
+    by-test (λ (v : Public). extentOf v ≤ extentOf u) (eqb cmd 1) (λ e. omega arith)
+    (λ e. by-test (λ (v : Public). extentOf v ≤ extentOf u) (eqb cmd 2) (λ i. omega arith)
+    (λ i. by-test (λ (v : Public). extentOf v ≤ extentOf u) (eqb cmd 13) (λ j. omega arith) (λ j. omega arith)))
+
 abbrev createdThen : Header → Public → Public
 createdThen h u = record { there = true; host = h .host; size = 4096 }
 
@@ -165,6 +173,7 @@ module _ (m buffer : List ℕ) (s : State) (r : Ready s) (sent : Sent m) where
     then = publicThen (h .cmd) (h .host);
     fair = rule-fair (h .cmd) (ruleOf (h .cmd)) known h (stringOf m) (sent .asked .hosted) (sent .carried);
     words = λ t l n. known .words h (stringOf m) l n;
+    narrows = λ e u. then-narrows (h .cmd) (h .host) u;
     named = λ P e. &&-right (names (h .cmd)) (P (h .pid)) (&&-right (leb 10 (length m)) (names (h .cmd) && P (h .pid)) e);
     reaches = inl (&&-both (leb 10 (length m)) _ long (&&-both (names (h .cmd)) _ n (eq-eqb (h .pid) (h .pid) refl)));
     carries = λ l e. absurd (true≢false (sym (eq-eqb (h .cmd) 12 e) ∙ create-unnamed (h .cmd) n));
@@ -181,6 +190,7 @@ module _ (m buffer : List ℕ) (s : State) (r : Ready s) (sent : Sent m) where
     then = createdThen h;
     fair = create-fair h (lowestAbsent (s .records)) (sent .asked .hosted);
     words = λ t l n. refl;
+    narrows = λ e u. absurd (e (eqb-true (h .cmd) 12 c));
     named = λ P e. absurd (true≢false (sym (&&-left (names (h .cmd)) (P (h .pid)) (&&-right (leb 10 (length m)) (names (h .cmd) && P (h .pid)) e)) ∙ n));
     reaches = inr (eqb-true (h .cmd) 12 c);
     carries = λ l e. refl;

@@ -46,7 +46,7 @@ done s r c =
 
 -- what is left of the process is sound, and the other processes are as they were
 module _ (s : State) (r : Ready s) (c : Call) (p : ℕ) (a : Access) (t : There s c p a) (z : numberAt a (localOf s p) ≡ 0) where
-  left-proper : Proper (a .effect (localOf s p))
+  pub left-proper : Proper (a .effect (localOf s p))
   left-proper = t .fair .keeps (localOf s p) (local-proper s r p (t .low)) z
 
   pub acts-changed : Changed s (put p (a .effect (localOf s p)) s) p (a .effect (localOf s p))

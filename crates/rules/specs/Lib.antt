@@ -12,3 +12,4 @@ pub mod Outsider
 pub mod Together
 pub mod Total
 pub mod Rights
+pub mod PastSizes

@@ -2,6 +2,7 @@
 // includes it.
 ghost use Rattle.rules.specs.Total.{Total};
 ghost use Rattle.rules.specs.Rights.{Rights};
+ghost use Rattle.rules.specs.PastSizes.{PastSizes};
 ghost use Rattle.rules.specs.Together.{Isolation};
 
 // Every call is answered by the number of the first test that fails; a refusal changes nothing; a sound state stays sound.
@@ -18,4 +19,9 @@ pub fn rights()
 // set of processes, also where one is created again for them; and one host and one process, in the words of the rules.
 pub fn isolation()
     ensures { λ _. ⌜ Isolation ⌝ }
+{}
+
+// No call reads or changes a byte of a slot past its process's size, but a CREATE, which writes the whole slot of an absent process.
+pub fn past_sizes()
+    ensures { λ _. ⌜ PastSizes ⌝ }
 {}

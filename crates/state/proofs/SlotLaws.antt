@@ -6,8 +6,9 @@ use mathlib.Core.Logic.{_⊎_, inl, inr}
 use Prim.Native.Nat.{ℕ, zero, suc, _+_, _*_, _≤_, _<_}
 use native.Mathlib.Nat.{not-suc-le-zero}
 use native.Mathlib.Omega.{arith}
-use borrow.Author.Tests.{eqb-true, ltb-true, ltb-false}
-use lib.ListN.{length, take, drop, getD, set, take-append-drop}
+use borrow.Author.Tests.{eqb-true, eqb-false, ltb-true, ltb-false}
+use lib.ListN.{length, take, drop, getD, set, length-set, take-append-drop}
+use lib.Seq.{getD-take, getD-drop}
 use lib.Dec.{eqb, ltb}
 use Rattle.lists.specs.Buffer.{overlay}
 use Rattle.lists.specs.Elements.{elements}
@@ -47,6 +48,18 @@ behind-set (suc s) a v [] h = absurd (not-suc-le-zero h)
 behind-set (suc s) a v (x ∷ m) h =
     let same : suc s + a ≡ suc (s + a) = omega arith in
     rw same (ap (λ (xs : List ℕ). x ∷ xs) (behind-set s a v m (omega (arith, h))))
+
+-- what is set behind a part
+take-set : (n a v : ℕ) (d : List ℕ) → n ≤ a → take n (set d a v) ≡ take n d
+take-set zero a v d h = refl
+take-set (suc n) a v [] h = refl
+take-set (suc n) zero v (x ∷ d) h = absurd (not-suc-le-zero h)
+take-set (suc n) (suc a) v (x ∷ d) h = ap (λ (xs : List ℕ). x ∷ xs) (take-set n a v d (omega (arith, h)))
+
+drop-behind : (s a v : ℕ) (m : List ℕ) → s ≤ length m → drop s (set m (s + a) v) ≡ set (drop s m) a v
+drop-behind zero a v m h = let same : 0 + a ≡ a = omega arith in rw same refl
+drop-behind (suc s) a v [] h = absurd (not-suc-le-zero h)
+drop-behind (suc s) a v (x ∷ m) h = let same : suc s + a ≡ suc (s + a) = omega arith in rw same (drop-behind s a v m (omega (arith, h)))
 
 -- ---- where the bytes lie
 
@@ -116,6 +129,54 @@ pub slot-other : (p q n : ℕ) (bytes memory : List ℕ) → p < 8 → q < 8 →
 unfolding slot withSlot
 slot-other p q n bytes memory h i other size low few =
     part-other (startOf p) (length bytes) memory (inside p (length bytes) memory h size low) bytes refl (startOf q) n (apart p q (length bytes) n h i other low few)
+
+-- ---- single bytes
+
+-- a byte of a process's slot, by its place in the memory
+byte-at : (p n a : ℕ) (memory : List ℕ) → a < n → getD (slot p n memory) a 0 ≡ getD memory (startOf p + a) 0
+unfolding slot
+byte-at p n a memory h = getD-take n (drop (startOf p) memory) a 0 h ∙ getD-drop (startOf p) memory a 0
+
+-- a byte behind those that are put is as it was
+pub slot-behind : (p a : ℕ) (bytes memory : List ℕ) → p < 8 → length memory ≡ 32768 → a < 4096 → length bytes ≤ a
+    → getD (withSlot p bytes memory) (startOf p + a) 0 ≡ getD memory (startOf p + a) 0
+unfolding withSlot
+slot-behind p a bytes memory low size h few =
+    let n = length bytes in
+    let inner = part-other (startOf p) n memory (inside p n memory low size (omega (arith, few, h))) bytes refl (startOf p + a) 1 (inr (omega (arith, few))) in
+    let one : (m : List ℕ) → getD (take 1 (drop (startOf p + a) m)) 0 0 ≡ getD m (startOf p + a) 0 = λ m.
+    getD-take 1 (drop (startOf p + a) m) 0 0 (omega arith) ∙ getD-drop (startOf p + a) m 0 0 ∙ ap (λ (k : ℕ). getD m k 0) (omega arith) in
+    sym (one (take (startOf p) memory ++ (bytes ++ drop n (drop (startOf p) memory)))) ∙ ap (λ (xs : List ℕ). getD xs 0 0) inner ∙ one memory
+
+-- and so is a byte of another's slot
+pub slot-set-other : (p q a : ℕ) (bytes memory : List ℕ) → p < 8 → q < 8 → (q ≡ p → ⊥) → length memory ≡ 32768 → length bytes ≤ 4096 → a < 4096
+    → getD (withSlot p bytes memory) (startOf q + a) 0 ≡ getD memory (startOf q + a) 0
+slot-set-other p q a bytes memory low h other size few at =
+    sym (byte-at q 4096 a (withSlot p bytes memory) at) ∙ ap (λ (xs : List ℕ). getD xs a 0) (slot-other p q 4096 bytes memory low h other size few (omega arith)) ∙ byte-at q 4096 a memory at
+
+-- the first bytes of a slot do not see what is stored behind them
+short-slot : (p n a v : ℕ) (memory : List ℕ) → p < 8 → length memory ≡ 32768 → a < 4096 → n ≤ 4096 → n ≤ a → slot p n (set memory (startOf p + a) v) ≡ slot p n memory
+unfolding slot
+short-slot p n a v memory low size at few past =
+    ap (take n) (drop-behind (startOf p) a v memory (omega (arith, startOf-is p low))) ∙ take-set n a v (drop (startOf p) memory) past
+
+-- a byte that is stored past the bytes of a process changes none of them, nor of another's
+pub slot-set-past : (p q n a v : ℕ) (memory : List ℕ) → p < 8 → q < 8 → length memory ≡ 32768 → a < 4096 → n ≤ 4096 → (q ≡ p → n ≤ a)
+    → slot q n (set memory (startOf p + a) v) ≡ slot q n memory
+slot-set-past p q n a v memory low h size at few past = go (eqb q p) refl
+  where
+    whole : length (slot p 4096 memory) ≡ 4096
+    whole = length-slot p 4096 memory low size (omega arith)
+
+    is : set memory (startOf p + a) v ≡ withSlot p (set (slot p 4096 memory) a v) memory
+    is = set-slot p 4096 a v memory low size (omega (arith, at, whole))
+
+    long : length (set (slot p 4096 memory) a v) ≤ 4096
+    long = omega (arith, length-set (slot p 4096 memory) a v, whole)
+
+    go : (t : Bool) → eqb q p ≡ t → slot q n (set memory (startOf p + a) v) ≡ slot q n memory
+    go true e = rw (eqb-true q p e) (short-slot p n a v memory low size at few (past (eqb-true q p e)))
+    go false e = rw is (slot-other p q n (set (slot p 4096 memory) a v) memory low h (eqb-false q p e) size long few)
 
 pub slots-apart : SlotsApart
 slots-apart = record { starts = startOf-is; size = length-slot; kept = length-withSlot; same = slot-same; other = slot-other }
