@@ -16,7 +16,7 @@
 #define PALUSTRODE_MESSAGE_BYTES 266
 #define PALUSTRODE_HEADER_BYTES 10
 
-/* The stack that a call needs, in bytes, what it calls included: 944 were measured on x86-64 (docs/EMBEDDING.md says how). */
+/* The stack that a call needs, in bytes, what it calls included: 992 were measured on x86-64 (docs/EMBEDDING.md says how). */
 #define PALUSTRODE_STACK_BYTES 1024
 
 /* The op codes of requests, in CMD. A CAN'T has PALUSTRODE_CANT added. */
@@ -79,8 +79,8 @@ int64_t palustrode_fresh_start(uint64_t there, uint8_t *state, size_t state_leng
 int64_t palustrode_request(uint8_t *state, size_t state_length, uint8_t *memory, size_t memory_length,
                            const uint8_t *message, size_t message_length, uint8_t *reply, size_t reply_length);
 
-/* A machine report of one of the four kinds; the nine words R0 to R5, SP, PC, PS as 18 bytes, low byte first. A kind over 3, a reason not 0
- * with another kind than TRAP, and a reason over 65,535 are refused with -14; a process over 7 with -7. */
+/* A machine report of one of the four kinds; the nine words R0 to R5, SP, PC, PS as 18 bytes, low byte first. Another length of the words is
+ * refused with -1; a kind over 3, a reason not 0 with another kind than TRAP, and a reason over 65,535 with -14; a process over 7 with -7. */
 int64_t palustrode_report(uint8_t *state, size_t state_length, uint8_t *memory, size_t memory_length, uint64_t process,
                           uint64_t kind, uint64_t reason, const uint8_t *words, size_t words_length, uint8_t *notice,
                           size_t notice_length);

@@ -30,7 +30,8 @@ fn sizes_right(there: [bool; 8], sizes: [u16; 8]) -> bool
     true
 }
 
-// Writes the state in which the given processes are there, each with its size.
+// Writes the state in which the given processes are there, each with its size; a buffer that is not of a state's length is refused with 1, a
+// bad size of a process then there with 2.
 pub fn fresh_start(there: [bool; 8], sizes: [u16; 8], state: &mut [u8]) -> Outcome
     ensures { λ r. ⌜ started r (now (state .exit)) ≡ startOn there sizes (now (state .entry)) ⌝ }
 {

@@ -5,12 +5,14 @@ ghost use Rattle.rules.specs.Rights.{Rights};
 ghost use Rattle.rules.specs.PastSizes.{PastSizes};
 ghost use Rattle.rules.specs.Together.{Isolation};
 
-// Every call is answered by the number of the first test that fails; a refusal changes nothing; a sound state stays sound.
+// Every call is answered by the number of the first test that fails, or granted where none does; a refusal changes nothing; a sound state
+// stays sound.
 pub fn total()
     ensures { λ _. ⌜ Total ⌝ }
 {}
 
-// A process changes only by the host that debugs it, by a report or by a store; a right begins and ends only by its holder.
+// A process changes only by a request of the host that debugs it before the call or after it, by a report or by a store; a right begins only
+// where nobody has one, and ends only by its holder.
 pub fn rights()
     ensures { λ _. ⌜ Rights ⌝ }
 {}
