@@ -1,6 +1,7 @@
 // The state at a fresh start.
 use format::Outcome;
 use process::valid_size;
+use state::size_of;
 use state_bytes::STATE_BYTES;
 use state_bytes::put_fresh_start;
 ghost use mathlib.Core.Path.{_≡_};
@@ -22,7 +23,7 @@ fn sizes_right(there: [bool; 8], sizes: [u16; 8]) -> bool
 {
     let mut p = 0;
     while p < 8 {
-        if !size_right(there[p], sizes[p]) {
+        if !size_right(there[p], size_of(sizes, p)) {
             return false;
         }
         p += 1;

@@ -4,6 +4,7 @@ use crate::widths::PROCESS_BYTES;
 use crate::widths::PROCESS_COUNT;
 use process::Process;
 use run_state::Run;
+use state::size_of;
 ghost use mathlib.Core.Path.{_≡_};
 ghost use lib.ListN.{length};
 ghost use Rattle.state.specs.Records.{freshProcess, freshStart};
@@ -28,7 +29,7 @@ pub fn put_fresh_start(there: [bool; 8], sizes: [u16; 8], state: &mut [u8])
     let mut p = 0;
     let mut at = 0;
     while p < PROCESS_COUNT {
-        put_process(fresh_process(there[p], sizes[p]), &mut state[at..]);
+        put_process(fresh_process(there[p], size_of(sizes, p)), &mut state[at..]);
         at += PROCESS_BYTES;
         p += 1;
     }

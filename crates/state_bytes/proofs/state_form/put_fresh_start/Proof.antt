@@ -20,11 +20,11 @@ use Rattle.state_bytes.proofs.state_form.put_fresh_start.Statement.{sta
 use Rattle.state_bytes.proofs.state_form.put_fresh_start.Tie as tie
 
 abbrev Inv-loop : tie.InvT-loop
-Inv-loop state₀ there sizes p₀ at₀ state p at =
+Inv-loop sizes state₀ there p₀ at₀ state p at =
     (p ≤ processCount) × (length there ≡ processCount) × (length state ≡ length state₀) × (at ≡ processWidth * p) × (length (joined processBytes (take p (freshProcesses there sizes))) ≡ at) × (state ≡ overlay (joined processBytes (take p (freshProcesses there sizes))) state₀)
 
 abbrev μ-loop : tie.MeasureT-loop
-μ-loop state₀ there sizes p₀ at₀ state p at = processCount - p
+μ-loop sizes state₀ there p₀ at₀ state p at = processCount - p
 
 loop-holds : tie.Need-loop-holds Inv-loop μ-loop
 unfolding joined overlay
@@ -33,11 +33,8 @@ loop-holds c = (omega arith, search needs, refl, omega arith, refl, refl)
 array-read-fresh-process : tie.Need-array-read-fresh-process Inv-loop μ-loop
 array-read-fresh-process c = omega arith
 
-mul-fresh-process : tie.Need-mul-fresh-process Inv-loop μ-loop
-mul-fresh-process c = search needs
-
-array-read-fresh-process-2 : tie.Need-array-read-fresh-process-2 Inv-loop μ-loop
-array-read-fresh-process-2 c = omega arith
+size-of-requires : tie.Need-size-of-requires Inv-loop μ-loop
+size-of-requires c κs = omega arith
 
 fresh-process-requires : tie.Need-fresh-process-requires Inv-loop μ-loop
 fresh-process-requires c κs = search needs
@@ -53,7 +50,7 @@ part-put-process-end c = search needs
 
 put-process-requires : tie.Need-put-process-requires Inv-loop μ-loop
 put-process-requires c κs =
-    let l = c .before .before .before in
+    let l = c .before .before .before .before in
     let s = l .before .before in
     let now = l .loop .state in
     let at = l .loop .at in
@@ -73,13 +70,14 @@ loop-again : tie.Need-loop-again Inv-loop μ-loop
 loop-again c =
     let q = c .before .before in
     let f = q .before .before in
-    let l = f .before .before in
+    let n = f .before in
+    let l = n .before .before in
     let s = l .before .before in
     let a = s .args in
     let k = l .loop .p in
-    let all = freshProcesses (a .t1) (a .t2) in
-    let h : k < length all = omega (arith, l .loop .inv .1, length-freshProcesses (a .t1) (a .t2)) in
-    let one = f .fresh-process .ensures ∙ sym (getD-freshProcesses (a .t1) (a .t2) k (omega (arith, l .loop .inv .1))) in
+    let all = freshProcesses (a .t1) (a .sizes) in
+    let h : k < length all = omega (arith, l .loop .inv .1, length-freshProcesses (a .t1) (a .sizes)) in
+    let one = rw (n .size-of .ensures) at (f .fresh-process .ensures) ∙ sym (getD-freshProcesses (a .t1) (a .sizes) k (omega (arith, l .loop .inv .1))) in
     let now = q .put-process .ensures .1 ∙ ap (λ (r : Process). overlay (processBytes r) (take (length (l .loop .state) - l .loop .at) (drop (l .loop .at) (l .loop .state)))) one in
     let laid = joined-step processBytes all k (l .loop .at) nobody (a .state .now) (l .loop .state) (q .put-process .last .1 .0) h (l .loop .inv .4) (l .loop .inv .5) now in
     let size = ap (λ (r : Process). length (processBytes r)) (sym one) ∙ q .put-process .ensures .0 in
@@ -95,8 +93,8 @@ returns c =
     let l = c .before in
     let s = l .before .before in
     let a = s .args in
-    let processes = freshProcesses (a .t1) (a .t2) in
-    let all = take-all (l .loop .p) processes (omega (arith, l .loop .inv .1, length-freshProcesses (a .t1) (a .t2))) in
+    let processes = freshProcesses (a .t1) (a .sizes) in
+    let all = take-all (l .loop .p) processes (omega (arith, l .loop .inv .1, length-freshProcesses (a .t1) (a .sizes))) in
     let end : l .loop .p ≡ processCount = omega arith in
     let whole = overlay-all (joined processBytes (take (l .loop .p) processes)) (a .state .now) (omega (arith, l .loop .inv .4, s .pre)) in
     l .loop .inv .5 ∙ whole ∙ ap (joined processBytes) all
@@ -109,8 +107,7 @@ put-fresh-start-spec =
     μ-loop
     loop-holds
     array-read-fresh-process
-    mul-fresh-process
-    array-read-fresh-process-2
+    size-of-requires
     fresh-process-requires
     sub-put-process
     part-put-process-start
