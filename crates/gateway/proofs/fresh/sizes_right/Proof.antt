@@ -19,22 +19,19 @@ abbrev right : List Bool → List ℕ → ℕ → Bool
 right there sizes p = not (getD there p false) || validSize (getD sizes p 0)
 
 abbrev Inv-loop : tie.InvT-loop
-Inv-loop there sizes p₀ p = (p ≤ 8) × (length there ≡ 8) × (length sizes ≡ 8) × (below (right there sizes) p ≡ true)
+Inv-loop sizes there p₀ p = (p ≤ 8) × (length there ≡ 8) × (below (right there sizes) p ≡ true)
 
 abbrev μ-loop : tie.MeasureT-loop
-μ-loop there sizes p₀ p = 8 - p
+μ-loop sizes there p₀ p = 8 - p
 
 loop-holds : tie.Need-loop-holds Inv-loop μ-loop
-loop-holds c = (omega arith, search needs, search needs, refl)
+loop-holds c = (omega arith, search needs, refl)
 
 array-read-size-right : tie.Need-array-read-size-right Inv-loop μ-loop
 array-read-size-right c = omega arith
 
-mul-size-right : tie.Need-mul-size-right Inv-loop μ-loop
-mul-size-right c = search needs
-
-array-read-size-right-2 : tie.Need-array-read-size-right-2 Inv-loop μ-loop
-array-read-size-right-2 c = omega arith
+size-of-requires : tie.Need-size-of-requires Inv-loop μ-loop
+size-of-requires c κs = omega arith
 
 size-right-requires : tie.Need-size-right-requires Inv-loop μ-loop
 size-right-requires c κs = search needs
@@ -43,9 +40,11 @@ returns : tie.Need-returns Inv-loop μ-loop
 unfolding sizesRight
 returns c =
     let x = c .before in
-    let l = c .before .before .before in
-    let a = c .before .before .before .before .args in
-    sym (below-fails (right (a .t1) (a .t2)) 8 (l .loop .p) (c .before .before .loop-test .taken) (sym (x .size-right .ensures) ∙ not-true (x .size-right .result) (c .if1 .taken)))
+    let n = c .before .before in
+    let l = c .before .before .before .before in
+    let a = c .before .before .before .before .before .args in
+    let is = rw (n .size-of .ensures) at (x .size-right .ensures) in
+    sym (below-fails (right (a .t1) (a .sizes)) 8 (l .loop .p) (c .before .before .before .loop-test .taken) (sym is ∙ not-true (x .size-right .result) (c .if1 .taken)))
 
 add-p : tie.Need-add-p Inv-loop μ-loop
 add-p c = omega arith
@@ -56,16 +55,18 @@ loop-less c = omega arith
 loop-again : tie.Need-loop-again Inv-loop μ-loop
 loop-again c =
     let x = c .before in
-    let l = c .before .before .before in
-    let a = c .before .before .before .before .args in
-    (omega arith, l .loop .inv .1, l .loop .inv .2, below-more (right (a .t1) (a .t2)) (l .loop .p) (l .loop .inv .3) (sym (x .size-right .ensures) ∙ not-false (x .size-right .result) (c .if1 .left)))
+    let n = c .before .before in
+    let l = c .before .before .before .before in
+    let a = c .before .before .before .before .before .args in
+    let is = rw (n .size-of .ensures) at (x .size-right .ensures) in
+    (omega arith, l .loop .inv .1, below-more (right (a .t1) (a .sizes)) (l .loop .p) (l .loop .inv .2) (sym is ∙ not-false (x .size-right .result) (c .if1 .left)))
 
 returns-2 : tie.Need-returns-2 Inv-loop μ-loop
 unfolding sizesRight
 returns-2 c =
     let l = c .before in
     let end : l .loop .p ≡ 8 = omega arith in
-    sym (rw end at (l .loop .inv .3))
+    sym (rw end at (l .loop .inv .2))
 
 pub sizes-right-spec : {M : Type 1} → statement M
-sizes-right-spec = tie.close (tie.spec Inv-loop μ-loop loop-holds array-read-size-right mul-size-right array-read-size-right-2 size-right-requires returns add-p loop-less loop-again returns-2)
+sizes-right-spec = tie.close (tie.spec Inv-loop μ-loop loop-holds array-read-size-right size-of-requires size-right-requires returns add-p loop-less loop-again returns-2)
