@@ -5,22 +5,21 @@ use mathlib.Core.Bool.{Bool, true, false, cond}
 use mathlib.Core.List.{List, [], _∷_, _++_}
 use Prim.Native.Nat.{ℕ, _+_, _-_, _*_, _≤_, _<_, min}
 use native.Mathlib.Omega.{arith}
-use borrow.Author.Tests.{lt-ltb, le-ltb, leb-true, leb-false}
+use borrow.Author.Tests.{lt-ltb, le-ltb, leb-true, leb-false, eq-eqb, ne-eqb}
 use lib.ListN.{length, take, drop, set, replicate, length-take, length-drop, length-replicate, replicate-append-replicate, take-append-drop, drop-of-length-le}
-use lib.Seq.{take-set-le, drop-set-add, take-set-lt, drop-set-lt, take-add, take-take, take-all, drop-drop, drop-at, length-take-le}
+use lib.Seq.{take-add, take-take, take-all, drop-drop, drop-at, length-take-le}
 use lib.Dec.{leb}
 use Rattle.lists.specs.Buffer.{overlay}
 use Rattle.lists.proofs.Buffer.{overlay-snoc, overlay-all}
 use Rattle.format.specs.declared.outcome.Outcome.{Outcome}
 use Rattle.format.specs.Outcome.{outcome, numberOf, firstFailing}
 use Rattle.format.specs.Refusal.{wrongLength}
-use Rattle.state.specs.Slot.{startOf, slot, withSlot}
+use Rattle.state.specs.Slot.{startOf, slot}
 use Rattle.state.proofs.SlotLaws.{startOf-is}
 use Rattle.rules.specs.Tests.{State, lent, noRoom, unsound, requestNumber}
-use Rattle.rules.specs.Step.{answers, refused, requestStep, step, stored}
-use Rattle.rules.specs.Step.{put as putLocal}
+use Rattle.rules.specs.Step.{answers, refused, requestStep, step}
 use Rattle.state_bytes.specs.State.{stateOf}
-use Rattle.gateway.specs.Called.{Called, called, callOn, machineStored}
+use Rattle.gateway.specs.Called.{Called, called, callOn, started, startOn}
 use Rattle.rules.specs.Turn.{bufferOf}
 use Rattle.lines.specs.Hex.{pairsLine}
 use Rattle.lines.specs.declared.scan.Phase.{Phase}
@@ -33,7 +32,7 @@ use Rattle.display.specs.Answer.{answerLine}
 use Rattle.calls.specs.declared.listing.Listing.{Listing}
 use Rattle.calls.specs.Listing.{empty, listed}
 use Rattle.calls.specs.Effect.{Effect, Prints, Does}
-use Rattle.calls.specs.Meaning.{unknownEffect, ifRight, zeroBuffer, answered, requestMade, startListing}
+use Rattle.calls.specs.Meaning.{unknownEffect, ifRight, zeroBuffer, answered, requestMade, numberLine, startAnswered, startMade, startListing}
 
 -- ---- a call by whether its line is right
 
@@ -58,7 +57,7 @@ prints-put text len before after h p = let w = put-whole len text before after h
 pub prints-as : (xs ys : List ℕ) (len : ℕ) (before after : List ℕ) → xs ≡ ys → Prints xs len before after → Prints ys len before after
 prints-as xs ys len before after e p = rw e at p
 
--- ---- a process's bytes in memory
+-- ---- some of the bytes of a process's slot
 
 module _ (p : ℕ) (m : List ℕ) (low : p < 8) (size : length m ≡ 32768) where
   at : startOf p ≡ 4096 * p
@@ -67,26 +66,7 @@ module _ (p : ℕ) (m : List ℕ) (low : p < 8) (size : length m ≡ 32768) wher
   rest-long : 4096 ≤ length (drop (startOf p) m)
   rest-long = omega (arith, length-drop (startOf p) m, at, low, size)
 
-  -- one byte of them
-  set-slot : (a v : ℕ) → a < 4096 → set m (startOf p + a) v ≡ withSlot p (set (slot p m) a v) m
-  unfolding withSlot slot
-  set-slot a v h =
-      let s = startOf p in
-      let rest : List ℕ = drop s m in
-      let front : take s (set m (s + a) v) ≡ take s m = take-set-le s m (s + a) v (omega arith) in
-      let behind : drop s (set m (s + a) v) ≡ set rest a v = drop-set-add s m a v in
-      let inner : set rest a v ≡ set (take 4096 rest) a v ++ drop 4096 rest =
-      sym (take-append-drop 4096 (set rest a v)) ∙ ap (λ (l : List ℕ). l ++ drop 4096 (set rest a v)) (take-set-lt 4096 rest a v h) ∙ ap (λ (l : List ℕ). set (take 4096 rest) a v ++ l) (drop-set-lt 4096 rest a v h) in
-      sym (take-append-drop s (set m (s + a) v))
-      ∙ ap (λ (l : List ℕ). l ++ drop s (set m (s + a) v)) front
-      ∙ ap (λ (l : List ℕ). take s m ++ l) (behind ∙ inner)
-
-  pub stores : (a v : ℕ) (s : List ℕ) → a < 4096 → set m (startOf p + a) v ≡ machineStored p a v s m .memory
-  unfolding machineStored stored putLocal
-  stores a v s h = rw (lt-ltb p 8 low) (set-slot a v h)
-
-  -- some of them
-  part-slot : (a c from : ℕ) → from ≡ startOf p + a → a + c ≤ 4096 → take (from + c - from) (drop from m) ≡ take c (drop a (slot p m))
+  part-slot : (a c from : ℕ) → from ≡ startOf p + a → a + c ≤ 4096 → take (from + c - from) (drop from m) ≡ take c (drop a (slot p 4096 m))
   unfolding slot
   part-slot a c from f h =
       let s = startOf p in
@@ -102,7 +82,7 @@ module _ (p : ℕ) (m : List ℕ) (low : p < 8) (size : length m ≡ 32768) wher
       ap (λ (n : ℕ). take n (drop from m)) many
       ∙ sym (cut ∙ ap (take c) (drop-drop a s m ∙ ap (λ (n : ℕ). drop n m) (sym f)))
 
-  pub memory-line : (a c from : ℕ) → from ≡ startOf p + a → a + c ≤ 4096 → pairsLine (take (from + c - from) (drop from m)) ≡ pairsLine (take c (drop a (slot p m)))
+  pub memory-line : (a c from : ℕ) → from ≡ startOf p + a → a + c ≤ 4096 → pairsLine (take (from + c - from) (drop from m)) ≡ pairsLine (take c (drop a (slot p 4096 m)))
   memory-line a c from f h = ap pairsLine (part-slot a c from f h)
 
 -- ---- zeros one after another
@@ -152,6 +132,19 @@ module _ (count : Outcome → ℕ) (o : Outcome) (s m buffer : List ℕ) (x : Ca
       let text : answerLine number (take n buffer) ≡ answerLine (numberOf o) (take (count o) buffer) =
       ap (λ (j : ℕ). answerLine j (take n buffer)) N ∙ ap (answerLine (numberOf o)) (ap (λ (j : ℕ). take j buffer) E ∙ take-at-most k buffer ∙ ap (λ (j : ℕ). take j buffer) K) in
       rw (← X) (record { state = refl; memory = refl; text = prints-as _ _ len before after text p })
+
+-- ---- a fresh start
+
+module _ (o : Outcome) (there : List Bool) (sizes s m s₁ : List ℕ) (X : started o s₁ ≡ startOn there sizes s) (number : ℕ) (N : number ≡ numberOf o) where
+  pub start-refused : (number ≡ 0 → ⊥) → (len : ℕ) (before after : List ℕ) → Prints (numberLine number) len before after
+      → Does (startMade there sizes s m) len s₁ m before after
+  unfolding startMade startAnswered
+  start-refused ne len before after p = rw (← X, ← N, ne-eqb number 0 ne) (record { state = refl; memory = refl; text = p })
+
+  pub start-granted : number ≡ 0 → (m₁ before : List ℕ) → m₁ ≡ replicate (length m) 0 → Does (startMade there sizes s m) 0 s₁ m₁ before before
+  unfolding startMade startAnswered overlay
+  start-granted z m₁ before M =
+      rw (← X, ← N, eq-eqb number 0 z) (record { state = refl; memory = M; text = record { size = refl; fits = omega arith; laid = refl } })
 
 -- ---- a message over 266 bytes is refused whatever stands after them
 

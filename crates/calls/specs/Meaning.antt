@@ -1,19 +1,21 @@
 -- What each line does to state and memory, and what it prints. The numbers of a line are read by their bounds.
 use mathlib.Core.Bool.{Bool, cond}
-use mathlib.Core.List.{List, [], _∷_}
+use mathlib.Core.List.{List, [], _∷_, _++_}
 use Prim.Native.Nat.{ℕ, _-_}
 use lib.ListN.{length, take, drop, replicate}
+use lib.Dec.{eqb}
 use Rattle.format.specs.declared.outcome.Outcome.{Outcome}
 use Rattle.format.specs.Outcome.{numberOf}
 use Rattle.state.specs.Records.{processAt}
 use Rattle.state.specs.Slot.{slot}
 use Rattle.rules.specs.Step.{request, report}
 use Rattle.state_bytes.specs.State.{stateOf}
-use Rattle.gateway.specs.Called.{Called, callOn, machineStored, startOn}
+use Rattle.gateway.specs.Called.{Called, StartResult, callOn, machineStored, startOn}
 use Rattle.gateway.specs.Lengths.{replyLength, noticeLength}
 use Rattle.lines.specs.declared.scan.Phase.{Phase}
 use Rattle.lines.specs.Hex.{pairsLine}
 use Rattle.lines.specs.Scan.{full}
+use Rattle.decimal.specs.Numeral.{numeral}
 use Rattle.decimal.specs.declared.number.Number.{Number}
 use Rattle.decimal.specs.Read.{begun, behind, endsLine}
 use Rattle.display.specs.Answer.{answerLine}
@@ -57,16 +59,29 @@ unfoldable pub reportEffect : List ℕ → List ℕ → List ℕ → Effect
 reportEffect line s m =
     ifRight (reportIn line) (reportMade (processIn line .value) (kindIn line .value) (reasonIn line .value) (wordsOf 9 line (reasonIn line)) s m) s m
 
--- the processes that a line lists after the word `start`
+-- a number as a line
+unfoldable pub numberLine : ℕ → List ℕ
+numberLine number = numeral number ++ (10 ∷ [])
+
+-- what a fresh start comes to: if it is granted, memory is all zero and nothing is printed; else its number is printed and memory stays
+unfoldable pub startAnswered : StartResult → List ℕ → Effect
+startAnswered x m =
+    cond (eqb (numberOf (x .outcome)) 0) (effect (x .state) (replicate (length m) 0) []) (effect (x .state) m (numberLine (numberOf (x .outcome))))
+
+-- the fresh start with these processes and sizes
+unfoldable pub startMade : List Bool → List ℕ → List ℕ → List ℕ → Effect
+startMade there sizes s m = startAnswered (startOn there sizes s) m
+
+-- the processes and sizes that a line lists after the word `start`
 abbrev pub startListing : List ℕ → Listing
 startListing line = listed empty (drop 5 line)
 
--- start P P ..: a fresh start of the processes that are listed, memory all zero; it prints nothing
+-- start P:SIZE P ..: a fresh start of the processes that are listed
 unfoldable pub startEffect : List ℕ → List ℕ → List ℕ → Effect
 startEffect line s m =
-    ifRight (complete (startListing line .place)) (effect (startOn (startListing line .there) s .state) (replicate (length m) 0) []) s m
+    ifRight (complete (startListing line .place)) (startMade (startListing line .there) (startListing line .sizes) s m) s m
 
--- store P ADDRESS BYTE: the machine's store
+-- store P ADDRESS BYTE: the machine's store, into the 4,096 bytes of the process's slot, whatever its size
 module _ (line : List ℕ) where
   -- the process
   abbrev pub storeP : Number
@@ -86,7 +101,7 @@ module _ (line : List ℕ) where
       ifRight (endsLine line storeByte)
       (effect s (machineStored (storeP .value) (storeAddress .value) (storeByte .value) s m .memory) (111 ∷ 107 ∷ 10 ∷ [])) s m
 
--- memory P ADDRESS COUNT: no byte after the process's last
+-- memory P ADDRESS COUNT: no byte after the last of the process's slot
 module _ (line : List ℕ) where
   -- the process
   abbrev pub memoryP : Number
@@ -104,7 +119,7 @@ module _ (line : List ℕ) where
   unfoldable pub memoryEffect : List ℕ → List ℕ → Effect
   memoryEffect s m =
       ifRight (endsLine line memoryCount)
-      (effect s m (pairsLine (take (memoryCount .value) (drop (memoryAddress .value) (slot (memoryP .value) m))))) s m
+      (effect s m (pairsLine (take (memoryCount .value) (drop (memoryAddress .value) (slot (memoryP .value) memoryBytes m))))) s m
 
 -- process P: it prints the record of the process
 module _ (line : List ℕ) where

@@ -8,6 +8,7 @@ use crate::number::read_report;
 use crate::show::answer_unknown;
 use crate::show::place;
 use decimal::Number;
+use decimal::put_number;
 use display::put_answer;
 use gateway::fresh_start;
 use gateway::notice_length;
@@ -23,8 +24,8 @@ ghost use Prim.Native.Nat.{_+_, _*_, _≤_, _<_};
 ghost use lib.ListN.{length, replicate};
 ghost use Rattle.lines.specs.declared.scan.Phase.the-variants.{Open};
 ghost use Rattle.lines.specs.Scan.{bytesOf};
-ghost use Rattle.calls.specs.Effect.{longestText, memorySize, Does};
-ghost use Rattle.calls.specs.Meaning.{zeroBuffer, requestMade, requestEffect, reportMade, reportEffect, startEffect, storeEffect};
+ghost use Rattle.calls.specs.Effect.{longestText, memorySize, Prints, Does};
+ghost use Rattle.calls.specs.Meaning.{zeroBuffer, requestMade, requestEffect, reportMade, reportEffect, numberLine, startMade, startEffect, storeEffect};
 
 // The buffer that is lent to a call.
 fn zero_buffer() -> [u8; MESSAGE]
@@ -125,7 +126,35 @@ fn clear(memory: &mut [u8])
     }
 }
 
-// start P P ..
+// The number of a refused start, as a line.
+fn put_refused(number: u8, out: &mut [u8]) -> usize
+    requires { ⌜ longestText ≤ length (now out) ⌝ }
+    ensures { λ r. ⌜ Prints (numberLine number) r (now (out .entry)) (now (out .exit)) ⌝ }
+{
+    let at = put_number(number as u16, 0, out);
+    put(b"\n", at, out)
+}
+
+// Makes a fresh start, and puts the line of a refused one.
+fn make_start(
+    state: &mut [u8; STATE],
+    memory: &mut [u8; MEMORY],
+    there: [bool; 8],
+    sizes: [u16; 8],
+    out: &mut [u8],
+) -> usize
+    requires { ⌜ longestText ≤ length (now out) ⌝ }
+    ensures { λ r. ⌜ Does (startMade there sizes (now (state .entry)) (now (memory .entry))) r (now (state .exit)) (now (memory .exit)) (now (out .entry)) (now (out .exit)) ⌝ }
+{
+    let number = fresh_start(there, sizes, state).number();
+    if number != 0 {
+        return put_refused(number, out);
+    }
+    clear(memory);
+    0
+}
+
+// start P:SIZE P ..
 pub fn answer_start(
     state: &mut [u8; STATE],
     memory: &mut [u8; MEMORY],
@@ -138,12 +167,11 @@ pub fn answer_start(
     let word = at_most(5, line);
     let listing = Listing::new().part(&line[word..]);
     let there = listing.there;
+    let sizes = listing.sizes;
     if !listing.is_complete() {
         return answer_unknown(state, memory, out);
     }
-    clear(memory);
-    fresh_start(there, state);
-    0
+    make_start(state, memory, there, sizes, out)
 }
 
 // store P ADDRESS BYTE

@@ -2,7 +2,8 @@
 use mathlib.Core.Bool.{Bool, true, false}
 use mathlib.Core.List.{List, [], _∷_}
 use Prim.Native.Nat.{ℕ}
-use lib.ListN.{drop}
+use lib.ListN.{drop, replicate}
+use Rattle.process.specs.Sizes.{memoryBytes}
 use Rattle.gateway.specs.Called.{startOn}
 use Rattle.lines.specs.declared.scan.Phase.{Phase}
 use Rattle.lines.specs.declared.scan.Phase.the-variants.{Open}
@@ -25,9 +26,9 @@ unfoldable pub thereAt : Language → List Bool
 thereAt Bench = false ∷ false ∷ true ∷ false ∷ false ∷ false ∷ false ∷ false ∷ []
 thereAt Recording = false ∷ false ∷ false ∷ false ∷ false ∷ false ∷ false ∷ false ∷ []
 
--- the bytes of the state before the first line
+-- the bytes of the state before the first line: what is there has 4,096 bytes
 unfoldable pub firstState : Language → List ℕ → List ℕ
-firstState l s = startOn (thereAt l) s .state
+firstState l s = startOn (thereAt l) (replicate 8 memoryBytes) s .state
 
 -- what a line of a recording with this word does: phase is where its pairs led, and s and m are state and memory
 module _ (phase : Phase) (line s m : List ℕ) where

@@ -1,6 +1,7 @@
 // The two languages.
 use calls::STATE;
 use gateway::fresh_start;
+use process::MEMORY_BYTES;
 ghost use mathlib.Core.Path.{_≡_};
 ghost use Rattle.recording.specs.Line.{thereAt, pairsAt, firstState};
 
@@ -34,9 +35,9 @@ impl Language {
     }
 }
 
-// Writes the state before the first line.
+// Writes the state before the first line: what is there has 4,096 bytes.
 pub fn begin(language: Language, state: &mut [u8; STATE])
     ensures { λ _. ⌜ now (state .exit) ≡ firstState language (now (state .entry)) ⌝ }
 {
-    fresh_start(language.there(), state);
+    fresh_start(language.there(), [MEMORY_BYTES as u16; 8], state);
 }

@@ -3,8 +3,6 @@ use mathlib.Core.Path.{_≡_, refl, sym, ap, _∙_}
 use borrow.Author.Tests.{not-true, not-false}
 use mathlib.Core.Bool.{Bool, true, false}
 use native.Mathlib.Omega.{arith}
-use Rattle.lists.specs.Buffer.{overlay}
-use Rattle.gateway.specs.Called.{StartResult}
 use Rattle.calls.specs.declared.listing.Listing.{Listing}
 use Rattle.calls.specs.Listing.{complete}
 use Rattle.calls.specs.Meaning.{startListing, startEffect}
@@ -29,7 +27,7 @@ part-part-end : tie.Need-part-part-end
 part-part-end c = search needs
 
 part-requires : tie.Need-part-requires
-part-requires c κs = search needs
+part-requires c κs = rw (c .before .new .ensures) (omega arith)
 
 is-complete-requires : tie.Need-is-complete-requires
 is-complete-requires c κs = search needs
@@ -43,25 +41,26 @@ same-length c = search needs
 returns : tie.Need-returns
 unfolding startEffect
 returns c =
-    let line = c .before .before .before .before .before .before .before .before .before .before .before .before .before .before .before .before .before .args .line .now in
-    let is = start-listing _ _ _ line (c .before .before .before .before .before .before .before .before .before .before .before .before .before .new .ensures) (c .before .before .before .before .before .before .before .before .before .before .before .before .before .before .at-most .ensures .0) (c .before .before .before .before .before .before .before .before .before .before .before .part .ensures) in
-    let wrong : complete (startListing line .place) ≡ false = ap (λ (x : Listing). complete (x .place)) (sym is) ∙ sym (c .before .before .before .before .before .before .before .before .before .is-complete .ensures) ∙ not-true _ (c .before .before .before .before .before .before .before .before .if1 .taken) in
+    let n = c .before .before .before .before .before .before .before .before .before in
+    let line = c .before .before .before .before .before .before .before .before .before .before .before .before .before .before .before .before .before .before .args .line .now in
+    let is = start-listing _ _ _ line (c .before .before .before .before .before .before .before .before .before .before .before .before .before .before .new .ensures) (c .before .before .before .before .before .before .before .before .before .before .before .before .before .before .before .at-most .ensures .0) (c .before .before .before .before .before .before .before .before .before .before .before .before .part .ensures) in
+    let wrong : complete (startListing line .place) ≡ false = ap (λ (x : Listing). complete (x .place)) (sym is) ∙ sym (n .is-complete .ensures) ∙ not-true _ (c .before .before .before .before .before .before .before .before .if1 .taken) in
     does-wrong _ _ _ _ _ _ _ _ _ wrong (c .before .before .answer-unknown .ensures)
 
-clear-requires : tie.Need-clear-requires
-clear-requires c κs = search needs
+make-start-requires : tie.Need-make-start-requires
+make-start-requires c κs = search needs
 
-fresh-start-requires : tie.Need-fresh-start-requires
-fresh-start-requires c κs = search needs
+same-length-2 : tie.Need-same-length-2
+same-length-2 c = search needs
 
 returns-2 : tie.Need-returns-2
-unfolding startEffect overlay
+unfolding startEffect
 returns-2 c =
-    let line = c .before .before .before .before .before .before .before .before .before .before .before .before .before .args .line .now in
-    let is = start-listing _ _ _ line (c .before .before .before .before .before .before .before .before .before .new .ensures) (c .before .before .before .before .before .before .before .before .before .before .at-most .ensures .0) (c .before .before .before .before .before .before .before .part .ensures) in
-    let right : complete (startListing line .place) ≡ true = ap (λ (x : Listing). complete (x .place)) (sym is) ∙ sym (c .before .before .before .before .before .is-complete .ensures) ∙ not-false _ (c .before .before .before .before .if1 .left) in
-    let done = rw is at (ap (λ (x : StartResult). x .state) (c .fresh-start .ensures)) in
-    does-right _ _ _ _ _ _ _ _ _ right (record { state = done; memory = c .before .before .clear .ensures; text = record { size = refl; fits = omega arith; laid = refl } })
+    let n = c .before .before .before .before .before .before .before in
+    let line = c .before .before .before .before .before .before .before .before .before .before .before .before .before .before .before .before .args .line .now in
+    let is = start-listing _ _ _ line (c .before .before .before .before .before .before .before .before .before .before .before .before .new .ensures) (c .before .before .before .before .before .before .before .before .before .before .before .before .before .at-most .ensures .0) (c .before .before .before .before .before .before .before .before .before .before .part .ensures) in
+    let right : complete (startListing line .place) ≡ true = ap (λ (x : Listing). complete (x .place)) (sym is) ∙ sym (n .is-complete .ensures) ∙ not-false _ (c .before .before .before .before .before .before .if1 .left) in
+    does-right _ _ _ _ _ _ _ _ _ right (rw is at (c .before .before .make-start .ensures))
 
 pub answer-start-spec : {M : Type 1} → statement M
 answer-start-spec =
@@ -77,6 +76,6 @@ answer-start-spec =
     answer-unknown-requires
     same-length
     returns
-    clear-requires
-    fresh-start-requires
+    make-start-requires
+    same-length-2
     returns-2)

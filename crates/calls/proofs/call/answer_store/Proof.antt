@@ -6,9 +6,10 @@ use mathlib.Core.List.{List, [], _∷_}
 use Prim.Native.Nat.{ℕ}
 use native.Mathlib.Omega.{arith}
 use lib.ListN.{length, set}
+use Rattle.gateway.specs.Called.{machineStored}
 use Rattle.decimal.specs.Read.{behind, endsLine}
 use Rattle.calls.specs.Meaning.{storeP, storeAddress, storeByte, storeEffect}
-use Rattle.calls.proofs.MeaningLaws.{does-right, does-wrong, prints-put, stores}
+use Rattle.calls.proofs.MeaningLaws.{does-right, does-wrong, prints-put}
 use borrow.Author.Needs.{needs}
 use Rattle.calls.proofs.call.answer_store.Statement.{statement}
 use Rattle.calls.proofs.call.answer_store.Tie as tie
@@ -78,13 +79,11 @@ same-length-4 : tie.Need-same-length-4
 same-length-4 c = search needs
 
 returns-2 : tie.Need-returns-2
-unfolding storeEffect
+unfolding storeEffect machineStored
 returns-2 c =
     let p = c .before .before in
     let q = c .before .before .before .before .before .before in
     let e = c .before .before .before .before .before .before .before .before in
-    let n1 = e .before .before .before in
-    let n2 = e .before .before in
     let byte = e .before .then3 .result in
     let s = c .before .before .before .before .before .before .before .before .before .before .before .before .before .before .before .before .before in
     let a = s .args in
@@ -94,7 +93,7 @@ returns-2 c =
     rw (← is .2, ← is .1, ← is .0)
     (does-right _ _ _ _ _ _ _ _ _ right (record {
       state = refl;
-      memory = ap (λ (k : ℕ). set (a .memory .now) k (byte .value)) (q .place .ensures .0) ∙ stores (n1 .then .result .value) (a .memory .now) (omega (arith, n1 .then .ensures .1)) (s .pre .0) (n2 .then2 .result .value) (byte .value) (a .state .now) (omega (arith, n2 .then2 .ensures .1));
+      memory = ap (λ (k : ℕ). set (a .memory .now) k (byte .value)) (q .place .ensures .0);
       text = prints-put ok _ _ _ (omega (arith, s .pre .1)) (p .put .ensures);
     }))
 

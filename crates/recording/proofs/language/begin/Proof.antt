@@ -9,6 +9,9 @@ use Rattle.recording.proofs.language.begin.Tie as tie
 there-requires : tie.Need-there-requires
 there-requires c κs = search needs
 
+cast-fresh-start : tie.Need-cast-fresh-start
+cast-fresh-start c = search needs
+
 fresh-start-requires : tie.Need-fresh-start-requires
 fresh-start-requires c κs = search needs
 
@@ -17,4 +20,4 @@ unfolding firstState
 returns c = rw (c .before .before .there .ensures) at (ap (λ (x : StartResult). x .state) (c .fresh-start .ensures))
 
 pub begin-spec : {M : Type 1} → statement M
-begin-spec = tie.close (tie.spec there-requires fresh-start-requires returns)
+begin-spec = tie.close (tie.spec there-requires cast-fresh-start fresh-start-requires returns)
