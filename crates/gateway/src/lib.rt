@@ -1,4 +1,4 @@
-// The gateway: what answers the requests of the network and the reports of the machine. Its state is a lent buffer of 680 bytes: a call
+// The gateway: what answers the requests of the network and the reports of the machine. Its state is a lent buffer of 696 bytes: a call
 // tests them where they lie, reads the one process that it goes to, and writes that one back.
 mod fresh;
 mod kept;
@@ -9,6 +9,7 @@ mod requests;
 pub mod theorems;
 
 pub use fresh::fresh_start;
+pub use fresh::sizes_right;
 pub use lengths::notice_length;
 pub use lengths::reply_length;
 pub use reports::report;
