@@ -10,6 +10,7 @@ use gateway::sizes_right;
 use state_bytes::STATE_BYTES;
 use words::vector_of;
 ghost use mathlib.Core.Path.{_≡_};
+ghost use Prim.Native.Nat.{_≤_};
 ghost use lib.ListN.{length};
 ghost use Rattle.lists.specs.Word.{vectorOf};
 ghost use Rattle.rules.specs.Step.{request};
