@@ -1,19 +1,22 @@
 -- A fresh start by the library: where its tests are the gateway's, and where it is refused before the gateway is called. Assumes nothing.
-use mathlib.Core.Path.{_≡_, refl, sym, ap, _∙_}
+use mathlib.Core.Path.{_≡_, refl}
 use mathlib.Core.Bool.{Bool, true, false, not, cond}
 use mathlib.Core.List.{List, [], _∷_}
 use Prim.Native.Nat.{ℕ, zero, suc, _<_, _≤_}
 use native.Mathlib.Omega.{arith}
 use borrow.Author.Tests.{eq-eqb, ne-eqb, lt-ltb, le-ltb}
-use lib.IntN.{ℤ, pos, negsuc, +ℤ-idl}
 use lib.ListN.{length, getD}
 use lib.Dec.{eqb}
 use Rattle.format.specs.Outcome.{outcome, numberOf, lengthOf, isGranted, firstFailing}
+use Rattle.rules.proofs.StepLaws.{by-test}
 use Rattle.state.specs.Records.{freshStart, sizesRight}
 use Rattle.state_bytes.specs.Widths.{processCount, stateWidth}
 use Rattle.state_bytes.specs.State.{stateBytes}
 use Rattle.gateway.specs.Called.{StartResult, started, startOn}
 use Rattle.c_api.specs.Called.{minus, signed, Short, bitsOf, startNumber, startWith}
+
+abbrev ShortStart : StartResult → Type 0
+ShortStart x = Short (x .outcome)
 
 module _ (there : ℕ) (sizes state : List ℕ) where
   abbrev fresh : List ℕ
@@ -53,6 +56,14 @@ module _ (there : ℕ) (sizes state : List ℕ) where
   pub start-uneven : (length sizes ≡ processCount → ⊥) → startWith there sizes state ≡ started (outcome 1 0) state
   unfolding startWith startNumber firstFailing
   start-uneven other = rw (ne-eqb (length sizes) processCount other)
+
+-- no start has a length
+pub startOn-short : (there : List Bool) (sizes state : List ℕ) → Short (startOn there sizes state .outcome)
+unfolding startOn lengthOf
+startOn-short there sizes state =
+    by-test ShortStart (eqb (length state) stateWidth)
+    (λ e. by-test ShortStart (sizesRight there sizes) (λ r. omega arith) (λ r. omega arith))
+    (λ e. omega arith)
 
 -- the result is minus the number that refuses it
 pub start-signed : (n : ℕ) → minus n ≡ signed (outcome n 0)

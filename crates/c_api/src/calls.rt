@@ -37,7 +37,16 @@ fn eight(sizes: &[u16]) -> [u16; 8]
     requires { ⌜ length (now sizes) ≡ 8 ⌝ }
     ensures { λ r. ⌜ r ≡ now (sizes .entry) ⌝ }
 {
-    [sizes[0], sizes[1], sizes[2], sizes[3], sizes[4], sizes[5], sizes[6], sizes[7]]
+    [
+        sizes[0],
+        sizes[1],
+        sizes[2],
+        sizes[3],
+        sizes[4],
+        sizes[5],
+        sizes[6],
+        sizes[7],
+    ]
 }
 
 // The number that refuses a fresh start with a process over 7.
@@ -49,7 +58,11 @@ fn start_refusal(there: u64, sizes: &[u16], state: &[u8]) -> u8
     if state.len() != STATE_BYTES {
         return 1;
     }
-    if sizes_right(bits(there), eight(sizes)) { 7 } else { 2 }
+    if sizes_right(bits(there), eight(sizes)) {
+        7
+    } else {
+        2
+    }
 }
 
 // A fresh start with the processes whose bits are set, each with its size.

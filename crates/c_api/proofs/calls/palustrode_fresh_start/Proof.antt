@@ -1,62 +1,68 @@
+-- `c_api::calls::palustrode_fresh_start` meets its contract: that of the gateway's fresh start, where the sizes are eight and no bit is above the
+-- eighth. Assumes nothing.
+use mathlib.Core.Path.{_≡_, refl, sym, ap, _∙_, subst}
+use mir.Syntax.{w64}
+use mir.Val.{toZ, ofZ}
+use Rattle.gateway.specs.Called.{StartResult}
+use Rattle.c_api.specs.Called.{minus, Short, startNumber}
+use Rattle.c_api.proofs.ReturnLaws.{start-returns}
+use Rattle.c_api.proofs.StartLaws.{start-same, start-over, start-uneven, startOn-short, start-signed}
 use borrow.Author.Needs.{needs}
 use Rattle.c_api.proofs.calls.palustrode_fresh_start.Statement.{statement}
 use Rattle.c_api.proofs.calls.palustrode_fresh_start.Tie as tie
-use Rattle.c_api.proofs.calls.palustrode_fresh_start.Reads as reads
-use Rattle.c_api.proofs.calls.palustrode_fresh_start.Lts as lts
-use Rattle.c_api.proofs.calls.bits.Reads as bits-reads
-use Rattle.c_api.proofs.calls.eight.Reads as eight-reads
-use Rattle.c_api.proofs.calls.start_refusal.Reads as start-refusal-reads
-use Rattle.c_api.proofs.result.minus.Reads as minus-reads
-use Rattle.c_api.proofs.result.signed.Reads as signed-reads
-use Rattle.gateway.proofs.fresh_start.Reads as fresh-start-reads
 
--- src/calls.rt:61:9
 minus-requires : tie.Need-minus-requires
 minus-requires c κs = search needs
 
--- src/calls.rt:61:9
 returns : tie.Need-returns
-returns c = ?
+returns c =
+    let a = c .before .before .before .before .args in
+    let same : toZ w64 (ofZ w64 (c .minus .result)) ≡ c .minus .result = search needs in
+    rw (start-uneven (a .there) (a .sizes .now) (a .state .now) (c .before .if1 .taken))
+    (record { result-is = same ∙ c .minus .ensures ∙ start-signed 1; state-is = refl })
 
--- src/calls.rt:64:22
 start-refusal-requires : tie.Need-start-refusal-requires
 start-refusal-requires c κs = search needs
 
--- src/calls.rt:64:9
 minus-requires-2 : tie.Need-minus-requires-2
 minus-requires-2 c κs = search needs
 
--- src/calls.rt:64:9
 same-length : tie.Need-same-length
 same-length c = search needs
 
--- src/calls.rt:64:9
 returns-2 : tie.Need-returns-2
-returns-2 c = ?
+returns-2 c =
+    let i = c .before .before .before in
+    let a = i .before .before .before .before .args in
+    let same : toZ w64 (ofZ w64 (c .minus2 .result)) ≡ c .minus2 .result = search needs in
+    rw (start-over (a .there) (a .sizes .now) (a .state .now) (i .if2 .taken))
+    (record { result-is = same ∙ c .minus2 .ensures ∙ ap minus (c .before .start-refusal .ensures) ∙ start-signed (startNumber (a .there) (a .sizes .now) (a .state .now)); state-is = refl })
 
--- src/calls.rt:66:31
 bits-requires : tie.Need-bits-requires
 bits-requires c κs = search needs
 
--- src/calls.rt:66:44
 eight-requires : tie.Need-eight-requires
 eight-requires c κs = search needs
 
--- src/calls.rt:66:9
 fresh-start-requires : tie.Need-fresh-start-requires
 fresh-start-requires c κs = search needs
 
--- src/calls.rt:67:5
 signed-requires : tie.Need-signed-requires
-signed-requires c κs = ?
+signed-requires c κs = subst Short (sym (ap (λ (x : StartResult). x .outcome) (c .before .before .fresh-start .ensures))) (startOn-short _ _ _)
 
--- src/calls.rt:56:1
 same-length-2 : tie.Need-same-length-2
 same-length-2 c = search needs
 
--- src/calls.rt:56:1
 returns-3 : tie.Need-returns-3
-returns-3 c = ?
+returns-3 c =
+    let f = c .before .before .before in
+    let e = f .before .before in
+    let b = e .before in
+    let i = b .before in
+    let a = i .before .before .before .before .args in
+    let same : toZ w64 (ofZ w64 (c .signed .result)) ≡ c .signed .result = search needs in
+    rw (start-same (a .there) (a .sizes .now) (a .state .now) (i .if2 .left) (i .before .if1 .left))
+    (start-returns _ _ _ (rw (b .bits .ensures, e .eight .ensures) at (f .fresh-start .ensures)) _ (same ∙ c .signed .ensures))
 
 pub palustrode-fresh-start-spec : {M : Type 1} → statement M
 palustrode-fresh-start-spec =
