@@ -1,10 +1,12 @@
-/* A gateway in C over the stub, and the desk that asks it: host 5 debugs process 2, host 6 is refused, and process 2 stops at a breakpoint. */
+/* A gateway in C over the stub, and the desk that asks it: host 5 debugs process 2, which has 1,536 bytes, host 6 is refused, and process 2
+ * stops at a breakpoint. */
 #include "palustrode.h"
 #include <stdio.h>
 #include <string.h>
 
 enum {
-    SPACE = PALUSTRODE_MEMORY_BYTES / 8,                               /* a process's bytes of memory */
+    PLACE = PALUSTRODE_MEMORY_BYTES / PALUSTRODE_PROCESSES,            /* from one process to the next in memory */
+    SIZE = 1536,                                                       /* of process 2 */
     HOST = 1,                                                          /* in a process's bytes of the state */
     ENTRIES = PALUSTRODE_PROCESS_BYTES - 8 * PALUSTRODE_ENTRY_BYTES,   /* and where its breakpoints begin */
     PC = 7                                                             /* among the nine words */
@@ -23,8 +25,15 @@ static void show(const char *what, int64_t result, size_t written) {
 }
 
 static void show_word(const char *what, int address) {
-    const uint8_t *word = memory + 2 * SPACE + address;
+    const uint8_t *word = memory + 2 * PLACE + address;
     printf("%-28s       %02x %02x\n", what, word[0], word[1]);
+}
+
+/* A fresh start with process 2 of this size; the sizes of the others, which are not there, are 0. */
+static void start(const char *what, uint64_t there, uint16_t size, size_t count) {
+    uint16_t sizes[PALUSTRODE_PROCESSES] = {0};
+    sizes[2] = size;
+    show(what, palustrode_fresh_start(there, sizes, count, state, sizeof state), 0);
 }
 
 /* Returns the length of the answer to send: a CAN'T has no string. */
@@ -84,8 +93,10 @@ int main(void) {
 
     uint16_t fields[PALUSTRODE_FIELDS];
 
-    show("fresh start, process 8", palustrode_fresh_start(1 << 8, state, sizeof state), 0);
-    show("fresh start, process 2", palustrode_fresh_start(1 << 2, state, sizeof state), 0);
+    start("fresh start, process 8", 1 << 8, PALUSTRODE_SIZE_MAX, PALUSTRODE_PROCESSES);
+    start("process 2 of 1,535 bytes", 1 << 2, SIZE - 1, PALUSTRODE_PROCESSES);
+    start("of 1,536, and seven sizes", 1 << 2, SIZE, PALUSTRODE_PROCESSES - 1);
+    start("of 1,536, and eight sizes", 1 << 2, SIZE, PALUSTRODE_PROCESSES);
     ask("host 5 debugs it", debug5, sizeof debug5);
     ask("host 6 asks for it", debug6, sizeof debug6);
     desk("the desk deposits 18, 52", PALUSTRODE_DEPOSIT, 256, sizeof word, word, sizeof word);
@@ -93,6 +104,8 @@ int main(void) {
     show_word("memory holds", 256);
     desk("the desk examines it", PALUSTRODE_EXAMINE, 256, 2, word, 0);
     desk("an address over 65,535", PALUSTRODE_EXAMINE, 65536 + 256, 2, word, 0);
+    desk("its last two bytes", PALUSTRODE_EXAMINE, SIZE - 2, 2, word, 0);
+    desk("a byte past its size", PALUSTRODE_EXAMINE, SIZE - 1, 2, word, 0);
     report("BPT there, passed silently", 2, PALUSTRODE_KIND_BPT, 256);
     report("process 258 has a BPT", 258, PALUSTRODE_KIND_BPT, 256);
     report("process 2 has kind 258", 2, 258, 256);

@@ -1,8 +1,8 @@
 //! What the fuzzer runs: its bytes are read as a list of calls, the proved library and the model make each of them, and the program aborts
 //! at the first difference of result, state, memory, message, words or output buffer, or of the bytes around one of them.
 //!
-//! The first byte says which processes are there; in the desk's calls, and where bit 7 of a report asks for it, numbers are wider than their
-//! fields. Then come records of eight bytes; the low three bits of the first say what it is:
+//! The first byte says which processes are there, the second how large each of them is; in the desk's calls, and where bit 7 of a report asks
+//! for it, numbers are wider than their fields. Then come records of eight bytes; the low three bits of the first say what it is:
 //!
 //!     0 to 2  a request: HOST, CMD, PID, ARG1, ARG2, with the string that its CMD carries
 //!     3       a request of any bytes: a length, and the message from the bytes that follow the record
@@ -118,10 +118,11 @@ fn word(high: u8, low: u8) -> u16 {
 
 /// Where bits 3 and 5 move an address or a count to.
 fn moved(first: u8, n: u16) -> u16 {
-    const EDGES: [u16; 16] =
-        [0, 1, 2, 16, 17, 18, 255, 256, 257, 4092, 4094, 4095, 4096, 4097, 65_534, 65_535];
+    const EDGES: [u16; 19] = [
+        0, 1, 2, 16, 17, 18, 255, 256, 257, 1534, 1535, 1536, 4092, 4094, 4095, 4096, 4097, 65_534, 65_535,
+    ];
     match (first & 8 != 0, first & 32 != 0) {
-        (_, true) => EDGES[usize::from(n % 16)],
+        (_, true) => EDGES[usize::from(n) % EDGES.len()],
         (true, false) => n % 20,
         _ => n,
     }
@@ -250,11 +251,20 @@ impl Spoiled {
 
 // ---------------------------------------------------------------- the list
 
+/// The sizes that a byte stands for: 4,096 for all, or a different one for each, from the least to the greatest.
+fn sizes_from(by: u8) -> Vec<u16> {
+    const SIZES: [u16; PROCESSES] = [1536, 4096, 2, 18, 4094, 256, 20, 4];
+    match by {
+        0..=127 => vec![LARGEST; PROCESSES],
+        _ => (0..PROCESSES).map(|p| SIZES[(p + usize::from(by)) % PROCESSES]).collect(),
+    }
+}
+
 /// Both sides after a fresh start into a buffer that is not zero.
-fn started(there: u8) -> Pair {
+fn started(there: u8, sizes: Vec<u16>) -> Pair {
     let memory: Vec<u8> = (0..MEMORY).map(|i| (i / 2 % 251) as u8).collect();
     let mut pair = Pair::new(Side::new(&[1; STATE_BYTES], &memory, &[0xee; LONGEST]));
-    if let Err(text) = pair.call(&Call::FreshStart { there: there.into() }) {
+    if let Err(text) = pair.call(&Call::FreshStart { there: there.into(), sizes }) {
         stop(&text);
     }
     pair
@@ -289,8 +299,8 @@ fn store(pair: &mut Pair, r: [u8; 8]) {
 }
 
 fn run(data: &[u8]) {
-    let Some((&there, rest)) = data.split_first() else { return };
-    let mut pair = started(there);
+    let Some((&[there, by], rest)) = data.split_first_chunk() else { return };
+    let mut pair = started(there, sizes_from(by));
     let mut records = Records(rest);
     let mut spoiled = Spoiled::default();
     while let Some(r) = records.next() {

@@ -5,11 +5,19 @@
 #include <stddef.h>
 #include <stdint.h>
 
-/* A state is eight processes of 87 bytes; the last 64 of these are eight breakpoint entries of 8 bytes. */
+/* A state is eight processes of 87 bytes; the last 64 of these are eight breakpoint entries of 8 bytes. In memory each process has its place
+ * of 4,096 bytes, whatever its size. */
 #define PALUSTRODE_STATE_BYTES 696
 #define PALUSTRODE_PROCESS_BYTES 87
 #define PALUSTRODE_ENTRY_BYTES 8
 #define PALUSTRODE_MEMORY_BYTES 32768
+
+/* The number of processes, and of their sizes; and the least and the greatest size in bytes, which is even. */
+#define PALUSTRODE_PROCESSES 8
+#define PALUSTRODE_SIZE_MIN 2
+#define PALUSTRODE_SIZE_MAX 4096
+
+/* The nine words of a report. */
 #define PALUSTRODE_WORDS_BYTES 18
 
 /* The longest message, which is the least room for any that is written; of it, the bytes before its string. */
@@ -59,21 +67,22 @@ extern "C" {
  * Numbers are 64 bits wide, so that none is cut on its way in: one that its field has no room for is refused, with the number named below.
  *
  * What a caller must see to, since no call can test it:
- * - each pointer is valid for the number that follows it: of bytes, and for the five fields of 16-bit words. Nothing is promised of NULL,
- *   even with a length of 0;
+ * - each pointer is valid for the number that follows it: of bytes, and for the sizes and the five fields of 16-bit words. Nothing is promised
+ *   of NULL, even with a length of 0;
  * - the buffers lent in one call do not overlap, least of all the reply and the message;
  * - one call at a time on a state and on its memory: no second thread, and no interrupt that calls while a call is under way;
  * - the machine stores nothing into memory during a call, and nobody writes into a lent buffer; between calls the machine may store;
  * - PALUSTRODE_STACK_BYTES of stack are left at a call;
  * - the first call on a state is a fresh start, or the state is one that such calls left: any other sound state is taken for what it says.
  *
- * Buffers of bytes may lie at any address; the fields are aligned as uint16_t is. No call keeps a pointer, allocates or uses other memory
+ * Buffers of bytes may lie at any address; sizes and fields are aligned as uint16_t is. No call keeps a pointer, allocates or uses other memory
  * than the stack and what it is lent, so calls on different states with different memories may be made at the same time. */
 
-/* A fresh start: process p is there where bit p of `there` is set, running, with no host, and the others are not. Every byte of the state is
- * written, whatever it held; memory is not touched, and stays as it is. 0; or, with nothing written, -1 where the state has not its 680
- * bytes, and else -7 where a bit above the eighth is set. */
-int64_t palustrode_fresh_start(uint64_t there, uint8_t *state, size_t state_length);
+/* A fresh start: process p is there where bit p of `there` is set, running, with no host and with sizes[p] bytes, and the others are not; their
+ * sizes are passed over. Every byte of the state is written, whatever it held; memory is not touched, and stays as it is. 0; or, with nothing
+ * written, -1 where not eight sizes are lent or the state has not its 696 bytes, else -2 where the size of a process that is to be there is odd,
+ * 0 or over 4,096, and else -7 where a bit above the eighth is set. */
+int64_t palustrode_fresh_start(uint64_t there, const uint16_t *sizes, size_t sizes_count, uint8_t *state, size_t state_length);
 
 /* A request: any message, and the buffer for its reply. A CAN'T of ten bytes is written where -13 to -7 is returned. */
 int64_t palustrode_request(uint8_t *state, size_t state_length, uint8_t *memory, size_t memory_length,

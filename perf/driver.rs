@@ -5,12 +5,12 @@
 //!     driver stack SIDE ROW    the deepest stack of the row's calls, in bytes
 //!     driver SIDE ROW TURNS    the row on one side, and nothing printed
 //!
-//! SIDE is `library`, `typed` (the model on a state kept as a struct), `bytes` (the model on the 680 bytes of a state) or `empty` (no call
+//! SIDE is `library`, `typed` (the model on a state kept as a struct), `bytes` (the model on the 696 bytes of a state) or `empty` (no call
 //! is made; what is left is the harness).
 #![no_main]
 
 use library::*;
-use model::{Run, State, FIELDS, LONGEST, MEMORY, STATE_BYTES, VECTOR, WORDS};
+use model::{Run, State, FIELDS, LARGEST, LONGEST, MEMORY, PROCESSES, STATE_BYTES, VECTOR, WORDS};
 use std::arch::asm;
 use std::ffi::{c_char, c_int, CStr};
 use std::hint::black_box;
@@ -22,6 +22,7 @@ mod library;
 
 /// Processes 0 to 6 are there, and host 5 debugs process 2.
 const THERE: u8 = 0x7f;
+const SIZES: [u16; PROCESSES] = [LARGEST; PROCESSES];
 const P: u8 = 2;
 const OWNER: u8 = 5;
 const STRANGER: u8 = 6;
@@ -283,7 +284,9 @@ impl Side for Empty {
 
 fn fresh_bytes() -> [u8; STATE_BYTES] {
     let mut state = [0; STATE_BYTES];
-    unsafe { palustrode_fresh_start(THERE.into(), state.as_mut_ptr(), STATE_BYTES) };
+    let (sizes, start) = (SIZES.as_ptr(), state.as_mut_ptr());
+    let answer = unsafe { palustrode_fresh_start(THERE.into(), sizes, PROCESSES, start, STATE_BYTES) };
+    assert_eq!(answer, 0);
     state
 }
 
@@ -291,7 +294,7 @@ fn side(name: &str) -> Option<Box<dyn Side>> {
     Some(match name {
         "library" => Box::new(Library(Gate::new(fresh_bytes()))),
         "bytes" => Box::new(Bytes(Gate::new(fresh_bytes()))),
-        "typed" => Box::new(Typed(Gate::new(model::fresh_start(THERE)))),
+        "typed" => Box::new(Typed(Gate::new(model::fresh_start(THERE, &SIZES).unwrap()))),
         "empty" => Box::new(Empty(Gate::new(fresh_bytes()))),
         _ => return None,
     })

@@ -1,6 +1,7 @@
 -- Laws that the proofs of this crate cite.
 pub mod SignLaws
 pub mod ShortLaws
+pub mod StartLaws
 pub mod ReturnLaws
 pub mod LibraryLaws
 pub mod NarrowLaws

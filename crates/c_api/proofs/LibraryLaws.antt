@@ -3,12 +3,14 @@ use mathlib.Core.Path.{_≡_, refl, sym, ap, ap₂, _∙_}
 use mathlib.Core.Bool.{true, true≢false}
 use mathlib.Core.List.{List, [], _∷_, map}
 use Prim.Native.Nat.{ℕ, zero, suc, _<_}
-use borrow.Author.Tests.{eq-eqb, lt-ltb}
-use lib.IntN.{negsuc, +ℤ-idl}
+use native.Mathlib.Omega.{arith}
+use borrow.Author.Tests.{eq-eqb, eqb-true, ltb-true, not-false}
+use lib.IntN.{ℤ, pos, negsuc, +ℤ-idl}
 use lib.ListN.{length}
 use Rattle.format.specs.declared.outcome.Outcome.{Outcome}
 use Rattle.format.specs.declared.outcome.Outcome.the-variants.{Granted, Refused}
-use Rattle.format.specs.Outcome.{numberOf, lengthOf}
+use Rattle.format.specs.Outcome.{outcome, numberOf, lengthOf}
+use Rattle.format.proofs.OutcomeLaws.{first-passes, rest-passes}
 use Rattle.state.specs.Slot.{capacity}
 use Rattle.rules.specs.Tests.{State}
 use Rattle.rules.specs.Step.{Answer, Call, request, report, store, step}
@@ -16,14 +18,15 @@ use Rattle.rules.specs.Ready.{Typed}
 use Rattle.rules.specs.Run.{TraceItem, traceItem, run}
 use Rattle.rules.specs.Isolation.{isGranted}
 use Rattle.rules.proofs.TotalLaws.{total}
-use Rattle.state_bytes.specs.Widths.{stateWidth}
+use Rattle.state_bytes.specs.Widths.{processCount, stateWidth}
 use Rattle.gateway.specs.Called.{Called, Did}
 use Rattle.gateway.specs.Sequence.{Begins, item, readFrom}
 use Rattle.gateway.proofs.SequenceLaws.{Follows, did-follows, did-begins, fresh-begins}
 use Rattle.gateway.proofs.DemandLaws.{lists-on-bytes}
-use Rattle.c_api.specs.Called.{signed, Returns, reportOn, bitsOf, startWith}
+use Rattle.c_api.specs.Called.{signed, Returns, reportOn, bitsOf, startNumber, startWith}
 use Rattle.c_api.specs.Library.{LibraryCall, requested, reported, stored, Returned, DidReturn, DoneByLibrary, callOf, Whole, AllWhole, outcomeOf, returnedItem, returnedItems, MadeByLibrary, LibraryDemands}
 use Rattle.c_api.proofs.ShortLaws.{nine-words}
+use Rattle.c_api.proofs.StartLaws.{start-same}
 
 -- ---- the number that is returned tells the outcome
 
@@ -46,7 +49,7 @@ is-call : (state memory : List ℕ) (c : LibraryCall) → Whole c → (y : Retur
 unfolding DidReturn Did callOf Whole reportOn
 is-call state memory (requested m reply) w y d = record { call = _; did = refl; returns = d }
 is-call state memory (reported p kind reason words notice) w y d = record { call = _; did = refl; returns = rw (eq-eqb (length words) 18 w) at d }
-is-call state memory (stored p a v) w y d = record { call = _; did = refl; returns = d }
+is-call state memory (stored p a v) w y d = record { call = _; did = (d .0, refl); returns = d .1 }
 
 typed : (c : LibraryCall) → Typed (callOf c)
 unfolding Typed callOf
@@ -99,13 +102,31 @@ eight-bits : (there : ℕ) → length (bitsOf there) ≡ 8
 unfolding bitsOf
 eight-bits there = refl
 
-started-begins : (there : ℕ) (before memory : List ℕ) → there < 256 → length before ≡ stateWidth → length memory ≡ capacity
-    → Begins (startWith there before .state) memory
+-- 0 is returned where no test fails
+none-fails : (n : ℕ) → pos 0 ≡ signed (outcome n 0) → n ≡ 0
+unfolding outcomeOf numberOf
+none-fails zero e = refl
+none-fails (suc n) e =
+    sym (ap (λ (z : ℤ). numberOf (outcomeOf z)) e ∙ ap numberOf (told (Refused (suc n)) (λ z. absurd (omega (arith, z)))))
+
+started-begins : (there : ℕ) (sizes before memory : List ℕ) → startNumber there sizes before ≡ 0 → length memory ≡ capacity
+    → Begins (startWith there sizes before .state) memory
+unfolding startNumber
+started-begins there sizes before memory e size =
+    let eight = eqb-true (length sizes) processCount (not-false _ (first-passes 0 _ _ e)) in
+    let state = rest-passes 0 _ _ e in
+    let wide = eqb-true (length before) stateWidth (not-false _ (first-passes 0 _ _ state)) in
+    let right = not-false _ (first-passes 1 _ _ (rest-passes 0 _ _ state)) in
+    let low = ltb-true there 256 (not-false _ (first-passes 6 _ _ (rest-passes 1 _ _ (rest-passes 0 _ _ state)))) in
+    rw (start-same there sizes before low eight) (fresh-begins (bitsOf there) sizes (eight-bits there) right before memory wide size)
+
+started-zero : (there : ℕ) (sizes before : List ℕ) (r : ℤ) → r ≡ signed (startWith there sizes before .outcome) → r ≡ pos 0 → startNumber there sizes before ≡ 0
 unfolding startWith
-started-begins there before memory low wide size = rw (lt-ltb there 256 low) (fresh-begins (bitsOf there) (eight-bits there) before memory wide size)
+started-zero there sizes before r e z = none-fails (startNumber there sizes before) (sym z ∙ e)
 
 pub library-demands : LibraryDemands
 library-demands = record {
-  fresh = λ there before state memory r s low wide size. rw (s .state-is) (started-begins there before memory low wide size);
+  fresh = λ there sizes before state memory r s z size.
+      rw (s .state-is) (started-begins there sizes before memory (started-zero there sizes before r (s .result-is) z) size);
   lists = lists-on-bytes MadeByLibrary made-runs;
 }

@@ -11,7 +11,7 @@ use Rattle.format.specs.Outcome.{outcome, numberOf, isGranted}
 use Rattle.rules.specs.Step.{Call}
 use Rattle.state_bytes.specs.Widths.{stateWidth}
 use Rattle.gateway.specs.Called.{Called, StartResult, called, started, callOn}
-use Rattle.c_api.specs.Called.{minus, signed, Short, Returns, startRefusal, Starts}
+use Rattle.c_api.specs.Called.{minus, signed, Short, Returns, Starts}
 
 module _ (o : Outcome) (state memory buffer before lent : List ℕ) (c : Call) (same : called o state memory buffer ≡ callOn before lent c) where
   pub call-short : Short (callOn before lent c .outcome) → Short o
@@ -30,12 +30,3 @@ start-returns o state x same r e = record {
   result-is = e ∙ ap (λ (y : StartResult). signed (y .outcome)) same;
   state-is = ap (λ (y : StartResult). y .state) same;
 }
-
--- a refused start returns minus its number
-pub refusal-signed : (state : List ℕ) → minus (startRefusal state) ≡ signed (outcome (startRefusal state) 0)
-unfolding startRefusal signed isGranted numberOf
-refusal-signed state = go (eqb (length state) stateWidth)
-  where
-    go : (t : Bool) → minus (cond t 7 1) ≡ signed (outcome (cond t 7 1) 0)
-    go true = refl
-    go false = refl

@@ -4,49 +4,55 @@ use mathlib.Core.Bool.{Bool, true, false, cond}
 use mathlib.Core.List.{List, []}
 use Prim.Native.Nat.{ℕ, _≤_}
 use native.Mathlib.Omega.{arith}
+use borrow.Author.Tests.{eqb-true}
 use lib.ListN.{length, drop}
 use lib.Dec.{eqb}
 use Rattle.lists.specs.Word.{vectorOf}
-use Rattle.lists.proofs.Short.{take-short, drop-short}
+use Rattle.lists.proofs.Short.{take-short}
 use Rattle.lists.proofs.Word.{length-lowFirst}
 use Rattle.format.specs.declared.header.Header.{Header}
 use Rattle.process.specs.Local.{Local}
 use Rattle.breakpoints.specs.Seen.{seen}
 use Rattle.process.specs.Request.{examined}
-use Rattle.breakpoints.proofs.SeenLaws.{length-seen}
-use Rattle.state.specs.Slot.{startOf, slot}
 use Rattle.rules.specs.Rule.{ruleOf, names, creates}
-use Rattle.format.specs.Outcome.{outcome, lengthOf}
+use Rattle.format.specs.Outcome.{outcome, lengthOf, firstFailing}
 use Rattle.format.specs.Layout.{headerOf}
-use Rattle.format.proofs.OutcomeLaws.{lengthOf-none}
-use Rattle.rules.specs.Tests.{State, lent, requestNumber, reportNumber}
+use Rattle.format.proofs.OutcomeLaws.{lengthOf-none, rest-passes}
+use Rattle.rules.specs.Tests.{State, lent, recordOf, ruleTests, askedTests, requestNumber, reportNumber}
 use Rattle.rules.specs.Step.{Answer, StepResult, request, report, step, localOf, grantedNamed, grantedCreate, granted, refused, requestStep, told, noticeTo, notified, reportStep}
 use Rattle.rules.proofs.StepLaws.{by-test}
 use Rattle.checks.proofs.OpLaws.{coded}
+use Rattle.service.proofs.EffectLaws.{examine-short}
 use Rattle.state_bytes.specs.State.{stateOf, stateFormed}
 use Rattle.rules.specs.Turn.{bufferOf}
 use Rattle.gateway.specs.Called.{Called, lentOn, finished, callOn}
 use Rattle.c_api.specs.Called.{Short}
 
-slot-short : (p : ℕ) (m : List ℕ) → length (slot p m) ≤ 4096
-unfolding slot
-slot-short p m = take-short 4096 (drop (startOf p) m) .0
-
-examined-short : (at count : ℕ) (l : Local) → length (examined at count l) ≤ length (l .bytes)
+examined-short : (at count : ℕ) (l : Local) → length (examined at count l) ≤ count
 unfolding examined
-examined-short at count l =
-    let all = seen (l .process .breaks) (l .bytes) in
-    omega (arith, take-short count (drop at all) .1, drop-short at all, length-seen (l .process .breaks) (l .bytes))
+examined-short at count l = take-short count (drop at (seen (l .process .breaks) (l .bytes))) .0
 
-shown-short : (h : Header) (s : State) → length (ruleOf (h .cmd) .shown h (localOf s (h .pid))) ≤ 4096
-shown-short h s = rw (coded (h .cmd) .shown h (localOf s (h .pid))) (go (eqb (h .cmd) 6))
+-- a granted request that names a process passed the tests of its rule
+rule-passed : (s : State) (m buffer : List ℕ) → requestNumber s m buffer ≡ 0 → names (headerOf m .cmd) ≡ true
+    → firstFailing (ruleTests (ruleOf (headerOf m .cmd)) (headerOf m) (recordOf s (headerOf m .pid))) ≡ 0
+unfolding requestNumber askedTests
+rule-passed s m buffer e n =
+    let laid = rest-passes 1 _ _ (rest-passes 0 _ _ e) in
+    let asked = rest-passes 5 _ _ (rest-passes 4 _ _ (rest-passes 3 _ _ (rest-passes 2 _ _ laid))) in
+    rest-passes 6 _ _ (rw n at asked)
+
+-- and EXAMINE's count is at most 256
+shown-short : (h : Header) (s : State) → firstFailing (ruleTests (ruleOf (h .cmd)) h (recordOf s (h .pid))) ≡ 0
+    → length (ruleOf (h .cmd) .shown h (localOf s (h .pid))) ≤ 256
+shown-short h s e = rw (coded (h .cmd) .shown h (localOf s (h .pid))) (go (eqb (h .cmd) 6) refl)
   where
-    go : (t : Bool) → length (cond {A = List ℕ} t (examined (h .arg1) (h .arg2) (localOf s (h .pid))) []) ≤ 4096
-    go true = omega (arith, examined-short (h .arg1) (h .arg2) (localOf s (h .pid)), slot-short (h .pid) (s .memory))
-    go false = omega arith
+    go : (t : Bool) → eqb (h .cmd) 6 ≡ t → length (cond {A = List ℕ} t (examined (h .arg1) (h .arg2) (localOf s (h .pid))) []) ≤ 256
+    go true op =
+        omega (arith, examined-short (h .arg1) (h .arg2) (localOf s (h .pid)), examine-short h (recordOf s (h .pid)) e (eqb-true (h .cmd) 6 op))
+    go false op = omega arith
 
 -- what is refused has no length
-refused-short : (n : ℕ) → Short (outcome n 0)
+pub refused-short : (n : ℕ) → Short (outcome n 0)
 refused-short n = rw (lengthOf-none n) (omega arith)
 
 abbrev ShortStep : StepResult → Type 0
@@ -57,7 +63,7 @@ unfolding requestStep granted grantedNamed grantedCreate refused lengthOf
 requestStep-short m buffer s =
     by-test ShortStep (eqb (requestNumber s m buffer) 0)
     (λ e. by-test ShortStep (names (headerOf m .cmd))
-    (λ n. omega (arith, shown-short (headerOf m) s))
+    (λ n. omega (arith, shown-short (headerOf m) s (rule-passed s m buffer (eqb-true _ 0 e) n)))
     (λ n. by-test ShortStep (creates (headerOf m .cmd)) (λ c. omega arith) (λ c. omega arith)))
     (λ e. refused-short (requestNumber s m buffer))
 

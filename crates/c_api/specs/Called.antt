@@ -1,6 +1,6 @@
 -- What the exported functions return and leave.
 use mathlib.Core.Path.{_≡_}
-use mathlib.Core.Bool.{Bool, cond}
+use mathlib.Core.Bool.{Bool, not, cond}
 use mathlib.Core.List.{List, [], _∷_}
 use Prim.Native.Nat.{ℕ, _<_, _/_, _%_}
 use lib.IntN.{ℤ, pos, _-ℤ_}
@@ -8,10 +8,12 @@ use lib.ListN.{length}
 use lib.Dec.{eqb, ltb}
 use Rattle.lists.specs.Word.{vectorOf}
 use Rattle.format.specs.declared.outcome.Outcome.{Outcome}
-use Rattle.format.specs.Outcome.{outcome, numberOf, lengthOf, isGranted}
+use Rattle.format.specs.Outcome.{outcome, numberOf, lengthOf, isGranted, test, firstFailing}
+use Rattle.state.specs.Records.{freshStart, sizesRight}
 use Rattle.rules.specs.Step.{report}
-use Rattle.state_bytes.specs.Widths.{stateWidth}
-use Rattle.gateway.specs.Called.{Called, StartResult, refusedBy, callOn, started, startOn}
+use Rattle.state_bytes.specs.Widths.{processCount, stateWidth}
+use Rattle.state_bytes.specs.State.{stateBytes}
+use Rattle.gateway.specs.Called.{Called, StartResult, refusedBy, callOn, started}
 
 -- minus this number
 abbrev pub minus : ℕ → ℤ
@@ -58,13 +60,22 @@ bitsOf n =
     ∷ eqb (n / 128 % 2) 1
     ∷ []
 
--- a process over 7 is refused with 7, and before it, with 1, a state's buffer of the wrong length
-unfoldable pub startRefusal : List ℕ → ℕ
-startRefusal state = cond (eqb (length state) stateWidth) 7 1
+-- 1 refuses sizes that are not eight and a state's buffer of the wrong length, 2 'a bad size (at fresh start too, of a process then there)', and 7
+-- a process over 7, which a bit above the eighth is
+unfoldable pub startNumber : ℕ → List ℕ → List ℕ → ℕ
+startNumber there sizes state =
+    firstFailing
+    (test 1 (not (eqb (length sizes) processCount))
+    ∷ test 1 (not (eqb (length state) stateWidth))
+    ∷ test 2 (not (sizesRight (bitsOf there) sizes))
+    ∷ test 7 (not (ltb there 256))
+    ∷ [])
 
--- a fresh start with the processes whose bits are set; a bit above the eighth is a process over 7
-unfoldable pub startWith : ℕ → List ℕ → StartResult
-startWith there state = cond (ltb there 256) (startOn (bitsOf there) state) (started (outcome (startRefusal state) 0) state)
+-- a fresh start with the processes whose bits are set, each with its size; a refused one leaves the bytes
+unfoldable pub startWith : ℕ → List ℕ → List ℕ → StartResult
+startWith there sizes state =
+    started (outcome (startNumber there sizes state) 0)
+    (cond (eqb (startNumber there sizes state) 0) (stateBytes (freshStart (bitsOf there) sizes)) state)
 
 -- a fresh start returned this number, and left these bytes of the state
 pub record Starts (x : StartResult) (result : ℤ) (state : List ℕ) : Type 0 where

@@ -8,6 +8,7 @@ use Rattle.ops.specs.Table.{requestForm}
 use Rattle.format.specs.declared.header.Header.{Header}
 use Rattle.message.specs.Exchange.{writes}
 use Rattle.rules.specs.Step.{report}
+use Rattle.state_bytes.specs.Widths.{processCount}
 use Rattle.gateway.specs.Called.{callOn, startOn}
 use Rattle.c_api.specs.Called.{bitsOf, startWith, reportOn}
 use Rattle.c_api.specs.Desk.{writeOn}
@@ -20,10 +21,11 @@ pub record Fits (h : Header) : Type 0 where
   pub arg1 : h .arg1 < 65536
   pub arg2 : h .arg2 < 65536
 
--- a report is the rules' for any process and kind, where ARG1 has room for its reason; a fresh start the gateway's where no bit is above the eighth;
+-- a report is the rules' for any process and kind, where ARG1 has room for its reason; a fresh start of eight sizes the gateway's where no bit is above the eighth;
 -- and a request is written as the desk's writer writes it
 pub record InRange : Type 0 where
   pub reports : (state memory : List ℕ) (pid kind reason : ℕ) (words notice : List ℕ) → length words ≡ 18 → reason < 65536
       → reportOn state memory pid kind reason words notice ≡ callOn state memory (report pid kind reason (vectorOf words) notice)
-  pub starts : (there : ℕ) (state : List ℕ) → there < 256 → startWith there state ≡ startOn (bitsOf there) state
+  pub starts : (there : ℕ) (sizes state : List ℕ) → there < 256 → length sizes ≡ processCount
+      → startWith there sizes state ≡ startOn (bitsOf there) sizes state
   pub writes-same : (h : Header) (string buffer : List ℕ) → Fits h → writeOn h string buffer ≡ writes requestForm h string buffer

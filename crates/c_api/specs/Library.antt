@@ -7,10 +7,12 @@ use lib.ListN.{length}
 use Rattle.lists.specs.Word.{vectorOf}
 use Rattle.format.specs.declared.outcome.Outcome.{Outcome}
 use Rattle.format.specs.Outcome.{outcome}
+use Rattle.process.specs.Local.{extent}
+use Rattle.state.specs.Records.{processAt}
 use Rattle.state.specs.Slot.{capacity}
 use Rattle.rules.specs.Step.{Call, request, report, store}
 use Rattle.rules.specs.Run.{TraceItem}
-use Rattle.state_bytes.specs.Widths.{stateWidth}
+use Rattle.state_bytes.specs.State.{stateOf}
 use Rattle.gateway.specs.Called.{callOn, machineStored}
 use Rattle.gateway.specs.Sequence.{Begins, readFrom}
 use Rattle.gateway.specs.Demands.{ListsOnBytes}
@@ -34,7 +36,8 @@ unfoldable pub DidReturn : List ℕ → List ℕ → LibraryCall → Returned �
 DidReturn state memory (requested m reply) y = Returns (callOn state memory (request m reply)) (y .result) (y .state) (y .memory) (y .buffer)
 DidReturn state memory (reported p kind reason words notice) y =
     Returns (reportOn state memory p kind reason words notice) (y .result) (y .state) (y .memory) (y .buffer)
-DidReturn state memory (stored p a v) y = Returns (machineStored p a v state memory) (y .result) (y .state) (y .memory) (y .buffer)
+DidReturn state memory (stored p a v) y =
+    (a < extent (processAt (stateOf state) p)) × Returns (machineStored p a v state memory) (y .result) (y .state) (y .memory) (y .buffer)
 
 -- each on the bytes that the one before it left
 unfoldable pub DoneByLibrary : List ℕ → List ℕ → List LibraryCall → List Returned → Type 0
@@ -92,8 +95,8 @@ pub record MadeByLibrary (state memory : List ℕ) (l : List Call) (es : List Tr
 
 -- ---- the theorem
 
--- calls of the library in a row are a run of the rules, from a fresh start of its own, and the demands hold of them
+-- calls of the library in a row are a run of the rules, from a fresh start of its own that returned 0, and the demands hold of them
 pub record LibraryDemands : Type 0 where
-  pub fresh : (there : ℕ) (before state memory : List ℕ) (r : ℤ) → Starts (startWith there before) r state → there < 256 → length before ≡ stateWidth
+  pub fresh : (there : ℕ) (sizes before state memory : List ℕ) (r : ℤ) → Starts (startWith there sizes before) r state → r ≡ pos 0
       → length memory ≡ capacity → Begins state memory
   pub lists : ListsOnBytes MadeByLibrary

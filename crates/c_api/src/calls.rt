@@ -6,14 +6,16 @@ use crate::result::signed;
 use gateway::fresh_start;
 use gateway::report;
 use gateway::request;
+use gateway::sizes_right;
 use state_bytes::STATE_BYTES;
 use words::vector_of;
 ghost use mathlib.Core.Path.{_≡_};
+ghost use Prim.Native.Nat.{_≤_};
 ghost use lib.ListN.{length};
 ghost use Rattle.lists.specs.Word.{vectorOf};
 ghost use Rattle.rules.specs.Step.{request};
 ghost use Rattle.gateway.specs.Called.{callOn};
-ghost use Rattle.c_api.specs.Called.{Returns, Starts, startWith, startRefusal, reportOn, bitsOf};
+ghost use Rattle.c_api.specs.Called.{Returns, Starts, startWith, startNumber, reportOn, bitsOf};
 
 fn bits(there: u64) -> [bool; 8]
     ensures { λ r. ⌜ r ≡ bitsOf there ⌝ }
@@ -30,22 +32,51 @@ fn bits(there: u64) -> [bool; 8]
     ]
 }
 
-// The number that refuses a fresh start with a process over 7.
-fn start_refusal(state: &[u8]) -> u8
-    ensures { λ r. ⌜ r ≡ startRefusal (now (state .entry)) ⌝ }
+// The eight sizes.
+fn eight(sizes: &[u16]) -> [u16; 8]
+    requires { ⌜ length (now sizes) ≡ 8 ⌝ }
+    ensures { λ r. ⌜ r ≡ now (sizes .entry) ⌝ }
 {
-    if state.len() == STATE_BYTES { 7 } else { 1 }
+    [
+        sizes[0],
+        sizes[1],
+        sizes[2],
+        sizes[3],
+        sizes[4],
+        sizes[5],
+        sizes[6],
+        sizes[7],
+    ]
 }
 
-// A fresh start with the processes whose bits are set.
-#[no_mangle]
-pub extern "C" fn palustrode_fresh_start(there: u64, state: &mut [u8]) -> i64
-    ensures { λ r. ⌜ Starts (startWith there (now (state .entry))) r (now (state .exit)) ⌝ }
+// The number that refuses a fresh start with a process over 7.
+fn start_refusal(there: u64, sizes: &[u16], state: &[u8]) -> u8
+    requires { ⌜ 256 ≤ there ⌝ }
+    requires { ⌜ length (now sizes) ≡ 8 ⌝ }
+    ensures { λ r. ⌜ r ≡ startNumber there (now (sizes .entry)) (now (state .entry)) ⌝ }
 {
-    if 256 <= there {
-        return minus(start_refusal(state));
+    if state.len() != STATE_BYTES {
+        return 1;
     }
-    let outcome = fresh_start(bits(there), state);
+    if sizes_right(bits(there), eight(sizes)) {
+        7
+    } else {
+        2
+    }
+}
+
+// A fresh start with the processes whose bits are set, each with its size.
+#[no_mangle]
+pub extern "C" fn palustrode_fresh_start(there: u64, sizes: &[u16], state: &mut [u8]) -> i64
+    ensures { λ r. ⌜ Starts (startWith there (now (sizes .entry)) (now (state .entry))) r (now (state .exit)) ⌝ }
+{
+    if sizes.len() != 8 {
+        return minus(1);
+    }
+    if 256 <= there {
+        return minus(start_refusal(there, sizes, state));
+    }
+    let outcome = fresh_start(bits(there), eight(sizes), state);
     signed(outcome)
 }
 

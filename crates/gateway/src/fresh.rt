@@ -18,7 +18,7 @@ fn size_right(there: bool, size: u16) -> bool
 }
 
 // Every process that is there has a right size.
-fn sizes_right(there: [bool; 8], sizes: [u16; 8]) -> bool
+pub fn sizes_right(there: [bool; 8], sizes: [u16; 8]) -> bool
     ensures { λ r. ⌜ r ≡ sizesRight there sizes ⌝ }
 {
     let mut p = 0;

@@ -9,6 +9,7 @@ mod requests;
 pub mod theorems;
 
 pub use fresh::fresh_start;
+pub use fresh::sizes_right;
 pub use lengths::notice_length;
 pub use lengths::reply_length;
 pub use reports::report;

@@ -6,9 +6,10 @@ use borrow.Author.Tests.{lt-ltb, eq-eqb}
 use lib.ListN.{length}
 use Rattle.lists.specs.Word.{vectorOf}
 use Rattle.rules.specs.Step.{report}
-use Rattle.gateway.specs.Called.{callOn, startOn}
-use Rattle.c_api.specs.Called.{bitsOf, kindOf, startWith, reportOn}
+use Rattle.gateway.specs.Called.{callOn}
+use Rattle.c_api.specs.Called.{kindOf, reportOn}
 use Rattle.c_api.proofs.DeskLaws.{all-fit, fit-writes}
+use Rattle.c_api.proofs.StartLaws.{start-same}
 use Rattle.c_api.proofs.in_range.numbers_in_range.Statement.{statement}
 use Rattle.c_api.proofs.in_range.numbers_in_range.Tie as tie
 
@@ -16,10 +17,6 @@ report-same : (state memory : List ℕ) (pid kind reason : ℕ) (words notice : 
     → reportOn state memory pid kind reason words notice ≡ callOn state memory (report pid kind reason (vectorOf words) notice)
 unfolding reportOn kindOf
 report-same state memory pid kind reason words notice n r = rw (eq-eqb (length words) 18 n, lt-ltb reason 65536 r)
-
-start-same : (there : ℕ) (state : List ℕ) → there < 256 → startWith there state ≡ startOn (bitsOf there) state
-unfolding startWith
-start-same there state h = rw (lt-ltb there 256 h)
 
 returns : tie.Need-returns
 returns c =
