@@ -3,6 +3,7 @@
 
 use crate::calls::{EDGES, HOSTS};
 use crate::sides::{Call, Lent, Side};
+use crate::states::STATE_LENGTHS;
 use model::*;
 
 /// A value of one kind, met in a call that got this answer: 0 for granted, or the
@@ -74,7 +75,7 @@ const VALUES: &[Value] = &[
     value(
         ABSENT,
         "fresh start with a process over 7",
-        |c, _| matches!(c, Call::FreshStart { there } if *there > 255),
+        |c, _| matches!(c, Call::FreshStart { there, .. } if *there > 255),
     ),
     // lengths
     value(WRONG_BUFFER, "memory of any shorter length", |c, s| {
@@ -90,12 +91,9 @@ const VALUES: &[Value] = &[
         on_state(c) && (700..4000).contains(&s.output.bytes().len())
     }),
     value(0, "output over 8,192 bytes", |c, s| on_state(c) && s.output.bytes().len() > 8192),
-    value(NOT_SOUND, "state of any other length", |c, s| {
-        on_state(c) && ![0, 1, 85, 679, 680, 681, 1360].contains(&s.state.bytes().len())
-    }),
+    value(NOT_SOUND, "state of any other length", |c, s| on_state(c) && other_length(s)),
     value(WRONG_BUFFER, "fresh start, state of any other length", |c, s| {
-        matches!(c, Call::FreshStart { .. })
-            && ![0, 1, 85, 679, 680, 681, 1360].contains(&s.state.bytes().len())
+        matches!(c, Call::FreshStart { .. }) && other_length(s)
     }),
     value(
         WRONG_BUFFER,
@@ -134,6 +132,12 @@ const VALUES: &[Value] = &[
         matches!(c, Call::Read { .. }) && s.output.bytes().len() > 20
     }),
 ];
+
+/// Whether the state has a wrong length that is in no list.
+fn other_length(side: &Side) -> bool {
+    let length = side.state.bytes().len();
+    length != STATE_BYTES && !STATE_LENGTHS.contains(&length)
+}
 
 fn other_host(host: u8) -> bool {
     !HOSTS.contains(&host) && ![0, 1, 4, 8, 254, 255].contains(&host)
@@ -184,7 +188,13 @@ pub struct Values {
     offsets: [[u64; 8]; BUFFERS.len()],
 }
 
-const BUFFERS: [&str; 5] = ["state", "memory", "message, words or string", "output", "fields"];
+const BUFFERS: [&str; 6] =
+    ["state", "memory", "message, words or string", "output", "fields", "sizes"];
+
+/// Whether a buffer is one of words, which are never at an odd address.
+fn of_words(buffer: &str) -> bool {
+    matches!(buffer, "fields" | "sizes")
+}
 
 impl Values {
     pub fn new() -> Values {
@@ -199,7 +209,10 @@ impl Values {
         }
         let mut at = |buffer: usize, lent: &Lent| self.offsets[buffer][lent.offset() % 8] += 1;
         match call {
-            Call::FreshStart { .. } => at(0, &side.state),
+            Call::FreshStart { .. } => {
+                at(0, &side.state);
+                at(5, &side.input);
+            }
             Call::Read { .. } => at(4, &side.output),
             Call::Write { .. } => at(3, &side.output),
             _ => {
@@ -230,12 +243,12 @@ impl Values {
         }
     }
 
-    /// The values never met. Fields are never at an odd address.
+    /// The values never met.
     pub fn wrong(&self) -> Vec<String> {
         let values = VALUES.iter().zip(&self.counts).filter(|(_, &n)| n == 0);
         let mut wrong: Vec<String> = values.map(|(value, _)| value.name.to_string()).collect();
         for (name, row) in BUFFERS.iter().zip(&self.offsets) {
-            let every = if *name == "fields" { 2 } else { 1 };
+            let every = if of_words(name) { 2 } else { 1 };
             if row.iter().step_by(every).any(|&n| n == 0) {
                 wrong.push(format!("{name} at every address"));
             }

@@ -9,6 +9,7 @@ use std::sync::atomic::{AtomicUsize, Ordering};
 pub enum Made<'a> {
     Start {
         there: u64,
+        sizes: &'a [u16],
         state: &'a mut [u8],
     },
     Request {
@@ -39,7 +40,7 @@ impl Made<'_> {
     /// The model's answer.
     fn right(&mut self) -> i64 {
         match self {
-            Made::Start { there, state } => fresh_start_bytes(*there, state),
+            Made::Start { there, sizes, state } => fresh_start_bytes(*there, sizes, state),
             Made::Request { state, memory, message, reply } => {
                 request_bytes(state, memory, message, reply)
             }
@@ -207,7 +208,7 @@ const WRONG: &[Wrong] = &[
     Wrong {
         name: "a fresh start passes over bits above the eighth",
         answer: |mut made| match &mut made {
-            Made::Start { there, state } => fresh_start_bytes(*there % 256, state),
+            Made::Start { there, sizes, state } => fresh_start_bytes(*there % 256, sizes, state),
             made => made.right(),
         },
     },
@@ -322,7 +323,7 @@ const WRONG: &[Wrong] = &[
             let answer = made.right();
             if let Made::Report { state, numbers: [p, ..], words, .. } = made {
                 if answer == -9 {
-                    let at = RECORD_BYTES * p as usize + 3;
+                    let at = RECORD_BYTES * p as usize + VECTOR_AT;
                     state[at..at + VECTOR].copy_from_slice(words);
                 }
             }
