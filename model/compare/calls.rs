@@ -11,10 +11,11 @@ pub const HOSTS: [u8; 3] = [5, 6, 7];
 pub const EDGES: [u16; 18] =
     [0, 1, 2, 16, 17, 18, 255, 256, 257, 4092, 4093, 4094, 4095, 4096, 4097, 32768, 65534, 65535];
 
-/// Ranges of a process's memory, how far before its end the first byte is and the
-/// count, at the edges of what is granted. A DEPOSIT of 257 bytes is a message of
-/// 267.
-const LAST_RANGES: [(u16, u16); 6] = [(4, 4), (3, 4), (0, 0), (0, 1), (256, 256), (257, 257)];
+/// Ranges of a process's memory, how far before its end the first byte is (in the
+/// last, one after it) and the count, at the edges of what is granted. A DEPOSIT of
+/// 257 bytes is a message of 267.
+const LAST_RANGES: [(u16, u16); 8] =
+    [(4, 4), (3, 4), (2, 2), (0, 0), (0, 1), (256, 256), (257, 257), (u16::MAX, 0)];
 
 /// The same at the edges that are the same for every size.
 const RANGES: [(u16, u16); 3] = [(65535, 2), (0, 256), (0, 257)];
@@ -148,15 +149,21 @@ fn make_arguments(random: &mut Random, process: &Process, cmd: u8) -> (u16, u16,
             (address, count, Vec::new())
         }
         UNBREAK if random.one_in(2) => (used_address(random, process), 0, Vec::new()),
+        UNBREAK if random.one_in(3) => (some_edge(random, process), 0, Vec::new()),
         UNBREAK => (some_address(random, process), 0, Vec::new()),
         _ => (0, 0, Vec::new()),
     }
 }
 
 fn some_range(random: &mut Random, process: &Process) -> (u16, u16) {
+    // all of a process of a few bytes is near its end
+    if process.size <= 8 && random.one_in(2) {
+        let past = usize::from(process.size) + 2;
+        return (random.below(past) as u16, random.below(past) as u16);
+    }
     match random.below(20) {
         0 => return random.pick(&RANGES),
-        1..=3 => {
+        1..=4 => {
             let (before, count) = random.pick(&LAST_RANGES);
             return (some_end(random, process).wrapping_sub(before), count);
         }
