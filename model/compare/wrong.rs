@@ -2,6 +2,7 @@
 //! one of them.
 
 use crate::run::Comparison;
+use crate::wrong_sizes::WRONG_SIZES;
 use model::*;
 use std::sync::atomic::{AtomicUsize, Ordering};
 
@@ -38,7 +39,7 @@ pub enum Made<'a> {
 
 impl Made<'_> {
     /// The model's answer.
-    fn right(&mut self) -> i64 {
+    pub fn right(&mut self) -> i64 {
         match self {
             Made::Start { there, sizes, state } => fresh_start_bytes(*there, sizes, state),
             Made::Request { state, memory, message, reply } => {
@@ -82,21 +83,21 @@ impl Made<'_> {
     }
 
     /// The records of a request's or a report's state, if its bytes are a state's.
-    fn records(&mut self) -> Option<State> {
+    pub fn records(&mut self) -> Option<State> {
         if matches!(self, Made::Start { .. }) {
             return None;
         }
         decode(self.state()?)
     }
 
-    fn put(&mut self, records: &State) {
+    pub fn put(&mut self, records: &State) {
         if let Some(state) = self.state() {
             state.copy_from_slice(&encode(records));
         }
     }
 
     /// A byte of the request's header.
-    fn byte(&self, at: usize) -> Option<u8> {
+    pub fn byte(&self, at: usize) -> Option<u8> {
         match self {
             Made::Request { message, .. } if message.len() >= HEAD => Some(message[at]),
             _ => None,
@@ -104,12 +105,12 @@ impl Made<'_> {
     }
 
     /// ARG1 or ARG2 of the request.
-    fn word(&self, at: usize) -> Option<u16> {
+    pub fn word(&self, at: usize) -> Option<u16> {
         Some(u16::from_be_bytes([self.byte(at)?, self.byte(at + 1)?]))
     }
 
     /// The model's answer, but for this number in place of that one.
-    fn instead(&mut self, right: i64, wrong: i64) -> i64 {
+    pub fn instead(&mut self, right: i64, wrong: i64) -> i64 {
         match self.right() {
             answer if answer == right => wrong,
             answer => answer,
@@ -139,7 +140,7 @@ fn with_lengths(made: Made, memory_length: usize, output_length: usize) -> i64 {
 }
 
 /// The lengths of memory and output buffer.
-fn lengths(made: &Made) -> Option<(usize, usize)> {
+pub fn lengths(made: &Made) -> Option<(usize, usize)> {
     match made {
         Made::Request { memory, reply: output, .. }
         | Made::Report { memory, notice: output, .. } => Some((memory.len(), output.len())),
@@ -147,9 +148,14 @@ fn lengths(made: &Made) -> Option<(usize, usize)> {
     }
 }
 
-struct Wrong {
-    name: &'static str,
-    answer: fn(Made) -> i64,
+pub struct Wrong {
+    pub name: &'static str,
+    pub answer: fn(Made) -> i64,
+}
+
+/// Every wrong library.
+fn every() -> impl Iterator<Item = &'static Wrong> {
+    WRONG.iter().chain(WRONG_SIZES)
 }
 
 /// Each is the model's answer, but for one error.
@@ -354,261 +360,7 @@ const WRONG: &[Wrong] = &[
             answer
         },
     },
-    // the sizes of processes
-    Wrong {
-        name: "a range is held against 4,096",
-        answer: |mut made| match made.byte(4) {
-            Some(EXAMINE | DEPOSIT) => resized(made, in_full),
-            _ => made.right(),
-        },
-    },
-    Wrong {
-        name: "an EXAMINE of 0 at the size is refused",
-        answer: |mut made| {
-            let (first, count) = (made.word(6), made.word(8));
-            let pid = usize::from(made.byte(5).unwrap_or(0)) % PROCESSES;
-            let size = made.records().map(|records| records.processes[pid].size);
-            let answer = made.right();
-            match made.byte(4) {
-                Some(EXAMINE) if answer == 10 && first == size && count == Some(0) => -10,
-                _ => answer,
-            }
-        },
-    },
-    Wrong {
-        name: "BREAK is held against 4,094",
-        answer: |mut made| match made.byte(4) {
-            Some(BREAK) => resized(made, in_full),
-            _ => made.right(),
-        },
-    },
-    Wrong {
-        name: "BREAK at the size is accepted",
-        answer: |mut made| match (made.byte(4), made.word(6)) {
-            (Some(BREAK), Some(address)) => {
-                resized(
-                    made,
-                    |p| if p.size == address { in_full(p).min(p.size + 2) } else { p.size },
-                )
-            }
-            _ => made.right(),
-        },
-    },
-    Wrong {
-        name: "UNBREAK past the size is refused with 10",
-        answer: |mut made| match (made.byte(4), made.byte(5), made.word(6)) {
-            (Some(UNBREAK), Some(pid), Some(address)) => {
-                let pid = usize::from(pid) % PROCESSES;
-                let size = made.records().map_or(LARGEST, |records| records.processes[pid].size);
-                if address >= size {
-                    made.instead(-12, -10)
-                } else {
-                    made.right()
-                }
-            }
-            _ => made.right(),
-        },
-    },
-    Wrong {
-        name: "an odd size is sound",
-        answer: |made| {
-            resized(made, |p| if p.size < LARGEST { p.size + p.size % 2 } else { p.size })
-        },
-    },
-    Wrong {
-        name: "size 0 is sound",
-        answer: |made| resized(made, |p| if p.size == 0 { SMALLEST } else { p.size }),
-    },
-    Wrong {
-        name: "a size over 4,096 is sound",
-        answer: |made| resized(made, |p| p.size.min(LARGEST)),
-    },
-    Wrong {
-        name: "any size of an absent process is sound",
-        answer: |made| resized(made, |p| if p.there { p.size } else { LARGEST }),
-    },
-    Wrong {
-        name: "a breakpoint past the size is sound",
-        answer: |made| {
-            resized(made, |p| if right_size(p.size) { past_breakpoints(p) } else { p.size })
-        },
-    },
-    Wrong {
-        name: "another size than 4,096 of an absent process is not sound",
-        answer: |mut made| {
-            let small = |p: &Process| !p.there && p.size != LARGEST;
-            let unsound = made.records().is_some_and(|records| records.processes.iter().any(small));
-            match (&made, lengths(&made)) {
-                (Made::Request { .. }, Some((MEMORY, LONGEST..))) if unsound => -2,
-                _ => made.right(),
-            }
-        },
-    },
-    Wrong {
-        name: "CREATE keeps the old size",
-        answer: |made| {
-            granted(made, |before, after| {
-                for (new, old) in after.processes.iter_mut().zip(&before.processes) {
-                    if new.there && !old.there {
-                        new.size = old.size;
-                    }
-                }
-            })
-        },
-    },
-    Wrong {
-        name: "DESTROY keeps the size",
-        answer: |made| {
-            granted(made, |before, after| {
-                for (new, old) in after.processes.iter_mut().zip(&before.processes) {
-                    if !new.there && old.there {
-                        new.size = old.size;
-                    }
-                }
-            })
-        },
-    },
-    Wrong {
-        name: "a fresh start tests sizes of absent processes",
-        answer: |mut made| match has_size(&made, true, |size| !right_size(size)) {
-            true => -2,
-            false => made.right(),
-        },
-    },
-    Wrong {
-        name: "a fresh start keeps the size of an absent process",
-        answer: |mut made| {
-            let answer = made.right();
-            if let Made::Start { sizes, state, .. } = made {
-                let Some(mut records) = decode(state).filter(|_| answer == 0) else {
-                    return answer;
-                };
-                for (process, &size) in records.processes.iter_mut().zip(sizes) {
-                    process.size = if right_size(size) { size } else { process.size };
-                }
-                state.copy_from_slice(&encode(&records));
-            }
-            answer
-        },
-    },
-    Wrong {
-        name: "a fresh start passes over the sizes",
-        answer: |mut made| match has_size(&made, false, |size| !right_size(size)) {
-            true => made.right(),
-            false => started(made, |_| LARGEST),
-        },
-    },
-    Wrong {
-        name: "a fresh start accepts an odd size",
-        answer: |made| started(made, |size| if size < LARGEST { size & !1 } else { size }),
-    },
-    Wrong {
-        name: "a fresh start takes size 0 for 4,096",
-        answer: |made| started(made, |size| if size == 0 { LARGEST } else { size }),
-    },
-    Wrong {
-        name: "a fresh start takes size 4,098 for 4,096",
-        answer: |made| started(made, |size| if size == 4098 { LARGEST } else { size }),
-    },
-    Wrong {
-        name: "a fresh start tests the bits above the eighth before the sizes",
-        answer: |mut made| match &made {
-            Made::Start { there, .. } if *there > 255 => made.instead(-2, -7),
-            _ => made.right(),
-        },
-    },
-    Wrong {
-        name: "a fresh start takes nine sizes",
-        answer: |mut made| match &mut made {
-            Made::Start { there, sizes, state } if sizes.len() == 9 => {
-                fresh_start_bytes(*there, &sizes[..8], state)
-            }
-            made => made.right(),
-        },
-    },
-    Wrong {
-        name: "the size is kept with its high byte first",
-        answer: |mut made| {
-            let answer = made.right();
-            if let Made::Start { state, .. } = made {
-                if answer == 0 {
-                    state.chunks_exact_mut(RECORD_BYTES).for_each(|r| r.swap(SIZE_AT, SIZE_AT + 1));
-                }
-            }
-            answer
-        },
-    },
 ];
-
-/// The largest size, where the process has one that is sound.
-fn in_full(process: &Process) -> u16 {
-    if right_size(process.size) {
-        LARGEST
-    } else {
-        process.size
-    }
-}
-
-/// The size, or a larger one that has every breakpoint in it, if there is one.
-fn past_breakpoints(process: &Process) -> u16 {
-    let used = process.breakpoints.iter().filter(|b| b.used);
-    let last = used.map(|b| b.address / 2 * 2).filter(|&address| address < LARGEST).max();
-    last.map_or(process.size, |address| process.size.max(address + 2))
-}
-
-/// Wrong libraries that take a size for another in a state: the model's answer to
-/// the state with every such size in place of it, and the sizes put back after it.
-fn resized(made: Made, change: impl Fn(&Process) -> u16) -> i64 {
-    let mut made = made;
-    let Some(before) = made.records() else { return made.right() };
-    let mut changed = before.clone();
-    for process in &mut changed.processes {
-        process.size = change(process);
-    }
-    made.put(&changed);
-    let answer = made.right();
-    let mut after = made.records().unwrap_or(before.clone());
-    for (p, process) in after.processes.iter_mut().enumerate() {
-        let old = &before.processes[p];
-        // a record that was cleared or created has a size of its own
-        if process.there == old.there {
-            process.size = old.size;
-        }
-    }
-    made.put(&after);
-    answer
-}
-
-/// Whether a fresh start has such a size, of a process then there or of any.
-fn has_size(made: &Made, any: bool, test: impl Fn(u16) -> bool) -> bool {
-    let Made::Start { there, sizes, state } = made else { return false };
-    let meant = |p: usize| any || there >> p & 1 == 1;
-    let lengths = sizes.len() == PROCESSES && state.len() == STATE_BYTES;
-    lengths && sizes.iter().enumerate().any(|(p, &size)| meant(p) && test(size))
-}
-
-/// The model's answer to a fresh start with other sizes.
-fn started(made: Made, change: impl Fn(u16) -> u16) -> i64 {
-    match made {
-        Made::Start { there, sizes, state } => {
-            let sizes: Vec<u16> = sizes.iter().map(|&size| change(size)).collect();
-            fresh_start_bytes(there, &sizes, state)
-        }
-        mut made => made.right(),
-    }
-}
-
-/// The model's answer, after which the records are changed where it was granted; the
-/// records before it are given too.
-fn granted(mut made: Made, change: impl Fn(&State, &mut State)) -> i64 {
-    let before = made.records();
-    let answer = made.right();
-    if let (0.., Some(before), Some(mut after)) = (answer, before, made.records()) {
-        change(&before, &mut after);
-        made.put(&after);
-    }
-    answer
-}
 
 /// A request of host 200 to a process is refused as a stranger's.
 fn no_right_for_200(mut made: Made) -> i64 {
@@ -656,7 +408,7 @@ fn written(made: Made, change: impl Fn(&mut [u64; FIELDS])) -> i64 {
 static AT_HAND: AtomicUsize = AtomicUsize::new(usize::MAX);
 
 pub fn answer(mut made: Made) -> i64 {
-    match WRONG.get(AT_HAND.load(Ordering::Relaxed)) {
+    match every().nth(AT_HAND.load(Ordering::Relaxed)) {
         Some(wrong) => (wrong.answer)(made),
         None => made.right(),
     }
@@ -666,7 +418,7 @@ pub fn answer(mut made: Made) -> i64 {
 /// seen.
 pub fn all_seen(limit: u64, seed: u64) -> bool {
     let mut seen = 0;
-    for (i, wrong) in WRONG.iter().enumerate() {
+    for (i, wrong) in every().enumerate() {
         AT_HAND.store(i, Ordering::Relaxed);
         let mut comparison = Comparison::new(seed, false);
         match comparison.run(limit) {
@@ -677,6 +429,6 @@ pub fn all_seen(limit: u64, seed: u64) -> bool {
             Ok(()) => println!("NOT SEEN  {}", wrong.name),
         }
     }
-    println!("{seen} of {} wrong libraries seen, each at the call named", WRONG.len());
-    seen == WRONG.len()
+    println!("{seen} of {} wrong libraries seen, each at the call named", every().count());
+    seen == every().count()
 }
