@@ -11,19 +11,14 @@ pub const HOSTS: [u8; 3] = [5, 6, 7];
 pub const EDGES: [u16; 18] =
     [0, 1, 2, 16, 17, 18, 255, 256, 257, 4092, 4093, 4094, 4095, 4096, 4097, 32768, 65534, 65535];
 
-/// Ranges of memory, first byte and count, at the edges of what is granted. A
-/// DEPOSIT of 257 bytes is a message of 267.
-const RANGES: [(u16, u16); 9] = [
-    (4092, 4),
-    (4093, 4),
-    (4096, 0),
-    (4096, 1),
-    (65535, 2),
-    (0, 256),
-    (3840, 256),
-    (0, 257),
-    (3839, 257),
-];
+/// Ranges of a process's memory, how far before its end the first byte is (in the
+/// last, one after it) and the count, at the edges of what is granted. A DEPOSIT of
+/// 257 bytes is a message of 267.
+const LAST_RANGES: [(u16, u16); 8] =
+    [(4, 4), (3, 4), (2, 2), (0, 0), (0, 1), (256, 256), (257, 257), (u16::MAX, 0)];
+
+/// The same at the edges that are the same for every size.
+const RANGES: [(u16, u16); 3] = [(65535, 2), (0, 256), (0, 257)];
 
 /// The same of the vector.
 const VECTOR_RANGES: [(u16, u16); 6] = [(0, 18), (16, 2), (17, 2), (18, 0), (18, 1), (65535, 2)];
@@ -154,17 +149,37 @@ fn make_arguments(random: &mut Random, process: &Process, cmd: u8) -> (u16, u16,
             (address, count, Vec::new())
         }
         UNBREAK if random.one_in(2) => (used_address(random, process), 0, Vec::new()),
+        UNBREAK if random.one_in(3) => (some_edge(random, process), 0, Vec::new()),
         UNBREAK => (some_address(random, process), 0, Vec::new()),
         _ => (0, 0, Vec::new()),
     }
 }
 
 fn some_range(random: &mut Random, process: &Process) -> (u16, u16) {
-    if random.one_in(5) {
-        return random.pick(&RANGES);
+    // all of a process of a few bytes is near its end
+    if process.size <= 8 && random.one_in(2) {
+        let past = usize::from(process.size) + 2;
+        return (random.below(past) as u16, random.below(past) as u16);
+    }
+    match random.below(20) {
+        0 => return random.pick(&RANGES),
+        1..=4 => {
+            let (before, count) = random.pick(&LAST_RANGES);
+            return (some_end(random, process).wrapping_sub(before), count);
+        }
+        _ => {}
     }
     let count = some_count(random);
     (some_first(random, process, count), count)
+}
+
+/// The end of the process's memory; at times of its slot, and of the feed process.
+fn some_end(random: &mut Random, process: &Process) -> u16 {
+    match random.below(8) {
+        0 => LARGEST,
+        1 => 1536,
+        _ => process.size,
+    }
 }
 
 /// As many bytes as the count says; of a count over 257, no more than a message
@@ -185,12 +200,12 @@ fn some_count(random: &mut Random) -> u16 {
 }
 
 /// The first byte of a range: near a breakpoint, or so that the range ends
-/// near the end of memory, or any.
+/// near the end of the process, or any.
 fn some_first(random: &mut Random, process: &Process, count: u16) -> u16 {
     match random.below(4) {
         0 => {
-            let end = random.pick(&[4095u16, 4096, 4096, 4097]);
-            end.wrapping_sub(count)
+            let end = some_end(random, process).wrapping_sub(count);
+            end.wrapping_add(random.pick(&[u16::MAX, 0, 0, 1, 2]))
         }
         1 => {
             let inside = random.below(usize::from(count) + 1) as u16;
@@ -242,10 +257,19 @@ pub fn used_address(random: &mut Random, process: &Process) -> u16 {
     random.pick(&used)
 }
 
+/// An edge that every process has, or one at the end of this one.
+fn some_edge(random: &mut Random, process: &Process) -> u16 {
+    if random.one_in(2) {
+        return random.pick(&EDGES);
+    }
+    let end = some_end(random, process);
+    (end + 2).wrapping_sub(random.pick(&[0, 1, 2, 3, 4, 4, 5, 6]))
+}
+
 /// An address at or beside a breakpoint, in a small range, or at an edge.
 fn some_address(random: &mut Random, process: &Process) -> u16 {
     match random.below(8) {
-        0 => random.pick(&EDGES),
+        0 => some_edge(random, process),
         1 => random.free_word(),
         2..=4 => {
             let address = used_address(random, process);
@@ -261,9 +285,10 @@ fn some_address(random: &mut Random, process: &Process) -> u16 {
 pub fn breakpoint_address(random: &mut Random, process: &Process) -> u16 {
     match random.below(8) {
         0 => used_address(random, process),
-        1 => random.pick(&EDGES),
+        1 => some_edge(random, process),
         2 => random.free_word(),
-        3 => 2 * random.below(SPACE / 2) as u16,
+        3 if random.one_in(2) => 2 * random.below(SPACE / 2) as u16,
+        3 => 2 * random.below(usize::from(process.size) / 2 + 2) as u16,
         _ => 2 * random.below(24) as u16,
     }
 }

@@ -2,7 +2,13 @@
 //! the measurement use this too.
 
 extern "C" {
-    pub fn palustrode_fresh_start(there: u64, state: *mut u8, state_len: usize) -> i64;
+    pub fn palustrode_fresh_start(
+        there: u64,
+        sizes: *const u16,
+        sizes_count: usize,
+        state: *mut u8,
+        state_len: usize,
+    ) -> i64;
     pub fn palustrode_request(
         state: *mut u8,
         state_len: usize,

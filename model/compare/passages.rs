@@ -35,7 +35,7 @@ const PASSAGES: &[Passage] = &[
     refused(OUTSIDE, "EXAMINE at 65535 of 2", |a| a.asks(EXAMINE, 65535, 2)),
     granted("EXAMINE of 256", |a| a.is(EXAMINE) && a.count == 256),
     refused(OUTSIDE, "EXAMINE of 257, inside memory", |a| {
-        a.is(EXAMINE) && a.count == 257 && a.end() <= SPACE
+        a.is(EXAMINE) && a.count == 257 && a.end() <= a.size()
     }),
     granted("DEPOSIT at 4092 of 4", |a| a.asks(DEPOSIT, 4092, 4)),
     refused(OUTSIDE, "DEPOSIT at 4093 of 4", |a| a.asks(DEPOSIT, 4093, 4)),
@@ -51,6 +51,51 @@ const PASSAGES: &[Passage] = &[
     refused(OUTSIDE, "BREAK at 4095", |a| a.is(BREAK) && a.first == 4095),
     refused(OUTSIDE, "BREAK at 4096", |a| a.is(BREAK) && a.first == 4096),
     refused(NO_BREAKPOINT, "UNBREAK at an odd address", |a| a.is(UNBREAK) && a.first % 2 == 1),
+    // the edges of a smaller process, and of the feed process in numbers
+    granted("EXAMINE to the size", |a| a.small_asks(EXAMINE, 0) && a.count > 0),
+    refused(OUTSIDE, "EXAMINE to 1 past the size", |a| a.small_asks(EXAMINE, 1)),
+    granted("EXAMINE of 0 at the size", |a| a.small_asks(EXAMINE, 0) && a.count == 0),
+    refused(OUTSIDE, "EXAMINE of 0 after the size", |a| a.small_asks(EXAMINE, 1) && a.count == 0),
+    refused(OUTSIDE, "EXAMINE past the size, inside 4,096", |a| {
+        a.small(EXAMINE) && a.first >= a.size() && a.end() <= SPACE
+    }),
+    granted("EXAMINE of 256 in a smaller process", |a| a.small(EXAMINE) && a.count == 256),
+    granted("EXAMINE at 1532 of 4, of 1,536", |a| a.feed() && a.asks(EXAMINE, 1532, 4)),
+    refused(OUTSIDE, "EXAMINE at 1533 of 4, of 1,536", |a| a.feed() && a.asks(EXAMINE, 1533, 4)),
+    granted("DEPOSIT to the size", |a| a.small_asks(DEPOSIT, 0) && a.count > 0),
+    refused(OUTSIDE, "DEPOSIT to 1 past the size", |a| a.small_asks(DEPOSIT, 1)),
+    granted("DEPOSIT of 0 at the size", |a| a.small_asks(DEPOSIT, 0) && a.count == 0),
+    refused(OUTSIDE, "DEPOSIT of 0 after the size", |a| a.small_asks(DEPOSIT, 1) && a.count == 0),
+    refused(OUTSIDE, "DEPOSIT past the size, inside 4,096", |a| {
+        a.small(DEPOSIT) && a.first >= a.size() && a.end() <= SPACE
+    }),
+    granted("BREAK at size - 2", |a| a.small(BREAK) && a.first + 2 == a.size()),
+    refused(OUTSIDE, "BREAK at size - 1", |a| a.small(BREAK) && a.first + 1 == a.size()),
+    refused(OUTSIDE, "BREAK at the size", |a| a.small(BREAK) && a.first == a.size()),
+    refused(OUTSIDE, "BREAK past the size, inside 4,096", |a| {
+        a.small(BREAK) && a.first > a.size() && a.first < SPACE && a.first % 2 == 0
+    }),
+    refused(OUTSIDE, "BREAK past the size with eight set", |a| {
+        a.small(BREAK) && a.first >= a.size() && a.used() == 8
+    }),
+    refused(NO_BREAKPOINT, "UNBREAK at the size", |a| a.small(UNBREAK) && a.first == a.size()),
+    refused(NO_RIGHT, "stranger past the size", |a| a.small(EXAMINE) && a.end() > a.size()),
+    granted("BPT with PC past the size", |a| {
+        a.bpt() && usize::from(a.pc) >= a.size() && usize::from(a.pc) < SPACE
+    }),
+    granted("BPT passed at size - 2", |a| a.passes() && usize::from(a.pc) + 2 == a.size()),
+    granted("EXAMINE of a whole process of 2 bytes", |a| {
+        a.is(EXAMINE) && a.size() == 2 && a.count == 2
+    }),
+    granted("EXAMINE of a whole process of 4 bytes", |a| {
+        a.is(EXAMINE) && a.size() == 4 && a.count == 4
+    }),
+    granted("EXAMINE at 4090 of 4, of 4,094", |a| a.asks(EXAMINE, 4090, 4) && a.size() == 4094),
+    granted("END DEBUG of a smaller process", |a| a.small(END_DEBUG)),
+    granted("DESTROY of a smaller process", |a| a.small(DESTROY_PROCESS)),
+    damaged("CREATE over a record with another size", |a| {
+        a.is(CREATE_PROCESS) && a.created().is_some_and(|p| a.state.processes[p].size != LARGEST)
+    }),
     // setting and removing breakpoints
     granted("BREAK plants", |a| a.is(BREAK) && !a.known()),
     granted("BREAK plants the eighth", |a| a.is(BREAK) && !a.known() && a.used() == 7),
@@ -187,6 +232,24 @@ impl<'a> About<'a> {
 
     fn end(&self) -> usize {
         self.first + self.count
+    }
+
+    fn size(&self) -> usize {
+        self.process.size.into()
+    }
+
+    /// Whether this is asked of a process of fewer than 4,096 bytes.
+    fn small(&self, cmd: u8) -> bool {
+        self.is(cmd) && self.size() < SPACE
+    }
+
+    /// Whether the range asked of such a process ends so far past its size.
+    fn small_asks(&self, cmd: u8, past: usize) -> bool {
+        self.small(cmd) && self.end() == self.size() + past
+    }
+
+    fn feed(&self) -> bool {
+        self.size() == 1536
     }
 
     fn some(&self, test: impl Fn(&Breakpoint) -> bool) -> bool {

@@ -13,7 +13,7 @@ use crate::desk::make_desk_call;
 use crate::passages::{self, open, Open, Passages};
 use crate::random::Random;
 use crate::sides::{describe, is_sound, Call, Lent, Pair, Side, GUARD};
-use crate::states::{damage_state, some_sound_state};
+use crate::states::{damage_state, some_size, some_sound_state, wrong_size, STATE_LENGTHS};
 use crate::sweeps::Sweep;
 use crate::table::{DeskTable, Table};
 use crate::values::Values;
@@ -25,11 +25,13 @@ struct Met {
     passages: Passages,
     /// Stores by the machine into a planted word.
     stores: u64,
+    /// Those into a slot, past the size of its process.
+    stores_past: u64,
 }
 
 impl Met {
     fn new(damaged: bool) -> Met {
-        Met { table: Table::new(damaged), passages: Passages::new(), stores: 0 }
+        Met { table: Table::new(damaged), passages: Passages::new(), stores: 0, stores_past: 0 }
     }
 }
 
@@ -102,24 +104,17 @@ impl Comparison {
         Ok(())
     }
 
-    /// A fresh start into a buffer with random bytes in it, at times after one
-    /// that is refused.
+    /// A fresh start into a buffer with random bytes in it, at times after some
+    /// that are refused.
     fn start(&mut self) -> Result<(), String> {
         let there = match self.random.below(6) {
             0 => 0,
             1 => 255,
-            _ => u64::from(self.random.byte()),
+            _ => self.random.byte(),
         };
-        if self.random.one_in(4) {
-            let length = self.random.length(&[0, 1, 85, 679, 681, 1360], 2000);
-            self.fresh_start(there, length)?;
-        }
-        if self.random.one_in(4) {
-            let wide = [self.random.beyond(8, there), self.random.free(64)];
-            let wide = self.random.pick(&wide);
-            self.fresh_start(wide, STATE_BYTES)?;
-        }
-        self.fresh_start(there, STATE_BYTES)?;
+        let sizes = self.sizes(there);
+        self.refused_starts(there, &sizes)?;
+        self.fresh_start(there.into(), &sizes, STATE_BYTES)?;
         let mut memory = vec![0; MEMORY];
         if !self.random.one_in(4) {
             self.random.fill(&mut memory);
@@ -130,10 +125,48 @@ impl Comparison {
         Ok(())
     }
 
-    fn fresh_start(&mut self, there: u64, length: usize) -> Result<(), String> {
+    /// Sizes for a fresh start that is granted: right ones of the processes that are
+    /// there, and often wrong ones of the others.
+    fn sizes(&mut self, there: u8) -> Vec<u16> {
+        let random = &mut self.random;
+        (0..PROCESSES)
+            .map(|p| match there >> p & 1 {
+                0 if random.one_in(2) => wrong_size(random),
+                _ => some_size(random),
+            })
+            .collect()
+    }
+
+    /// Fresh starts like this one, each with an error or two.
+    fn refused_starts(&mut self, there: u8, sizes: &[u16]) -> Result<(), String> {
+        while self.random.one_in(2) {
+            let (mut there, mut sizes, mut length) = (there.into(), sizes.to_vec(), STATE_BYTES);
+            for _ in 0..=self.random.below(2) {
+                match self.random.below(6) {
+                    0 => length = self.random.length(&STATE_LENGTHS, 2000),
+                    1 => sizes.resize(self.random.length(&[0, 1, 7, 9, 16], 40), 4096),
+                    2 => there = self.random.beyond(8, there),
+                    3 => there = self.random.free(64),
+                    _ => self.spoil_size(there, &mut sizes),
+                }
+            }
+            self.fresh_start(there, &sizes, length)?;
+        }
+        Ok(())
+    }
+
+    /// Makes the size of a process wrong, of one that is there if any is.
+    fn spoil_size(&mut self, there: u64, sizes: &mut [u16]) {
+        let set: Vec<usize> = (0..sizes.len()).filter(|&p| there >> p.min(63) & 1 == 1).collect();
+        if !set.is_empty() {
+            sizes[self.random.pick(&set)] = wrong_size(&mut self.random);
+        }
+    }
+
+    fn fresh_start(&mut self, there: u64, sizes: &[u16], length: usize) -> Result<(), String> {
         let state = self.random.bytes(length);
         self.lend_state(&state);
-        self.compare(&Call::FreshStart { there }, None)
+        self.compare(&Call::FreshStart { there, sizes: sizes.to_vec() }, None)
     }
 
     /// Where a buffer is to lie.
@@ -177,7 +210,9 @@ impl Comparison {
         let byte = self.random.byte();
         self.pair.change(|side| side.memory.change()[SPACE * p + a] = byte);
         let planted = |b: &Breakpoint| b.planted() && usize::from(b.address) == a & !1;
-        self.met().stores += u64::from(process.breakpoints.iter().any(planted));
+        let met = self.met();
+        met.stores += u64::from(process.breakpoints.iter().any(planted));
+        met.stores_past += u64::from(process.there && a >= usize::from(process.size));
     }
 
     fn call(&mut self, mood: &Mood) -> Result<(), String> {
@@ -229,7 +264,7 @@ impl Comparison {
             return self.call(mood);
         }
         let near = decode(&state).or_else(|| decode(&before));
-        let call = make_call(&mut self.random, &near.unwrap_or_else(|| fresh_start(0)), mood);
+        let call = make_call(&mut self.random, &near.unwrap_or(NONE_THERE), mood);
         self.lend_output();
         self.compare(&call, None)?;
         self.lend_state(&before);
@@ -288,7 +323,9 @@ impl Comparison {
         if self.print_each {
             println!("{} {}", self.calls, describe(call, &self.pair.model));
         }
-        let offset = self.offset();
+        // the sizes are words
+        let odd = usize::from(!matches!(call, Call::FreshStart { .. }));
+        let offset = self.offset() & (!1 | odd);
         self.pair.change(|side| side.input = Lent::new(&[], offset));
         let answer = self.pair.call(call)?;
         self.desk.count(call, answer);
@@ -312,11 +349,16 @@ impl Comparison {
         println!("\n   fresh  damaged");
         passages::print(&fresh.passages, &damaged.passages);
         println!("{:>8} {:>8}  store into a planted word", fresh.stores, damaged.stores);
+        let past = [fresh.stores_past, damaged.stores_past];
+        println!("{:>8} {:>8}  store past the size of a process", past[0], past[1]);
         self.desk.print();
         self.values.print();
         let mut wrong = passages::wrong(&fresh.passages, &damaged.passages);
         if fresh.stores == 0 || damaged.stores == 0 {
             wrong.push("store into a planted word".to_string());
+        }
+        if past.contains(&0) {
+            wrong.push("store past the size of a process".to_string());
         }
         [fresh.table.wrong(), damaged.table.wrong(), self.desk.wrong(), self.values.wrong(), wrong]
             .concat()

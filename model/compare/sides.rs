@@ -4,9 +4,10 @@
 use crate::library::*;
 use crate::stack::on_painted;
 use model::*;
+use std::borrow::Cow;
 
 pub enum Call {
-    FreshStart { there: u64 },
+    FreshStart { there: u64, sizes: Vec<u16> },
     Request { message: Vec<u8> },
     Report { process: u64, kind: u64, reason: u64, words: Vec<u8> },
     Write { fields: [u64; FIELDS], string: Vec<u8> },
@@ -14,13 +15,16 @@ pub enum Call {
 }
 
 impl Call {
-    /// The message, the words or the string.
-    pub fn input(&self) -> &[u8] {
+    /// The message, the nine words, the string, or the sizes as the processor keeps
+    /// them.
+    pub fn input(&self) -> Cow<'_, [u8]> {
         match self {
-            Call::FreshStart { .. } => &[],
-            Call::Request { message } | Call::Read { message } => message,
-            Call::Report { words, .. } => words,
-            Call::Write { string, .. } => string,
+            Call::FreshStart { sizes, .. } => {
+                sizes.iter().flat_map(|size| size.to_ne_bytes()).collect()
+            }
+            Call::Request { message } | Call::Read { message } => message.into(),
+            Call::Report { words, .. } => words.into(),
+            Call::Write { string, .. } => string.into(),
         }
     }
 }
@@ -80,8 +84,8 @@ impl Lent {
     }
 }
 
-/// The buffers lent to one of the two; `input` is the message, the words or the
-/// string, `output` the reply, the notice or the request, or the fields that are
+/// The buffers lent to one of the two; `input` is the message, the words, the string
+/// or the sizes, `output` the reply, the notice or the request, or the fields that are
 /// read, two bytes each.
 #[derive(Clone)]
 pub struct Side {
@@ -102,7 +106,7 @@ impl Side {
         let (s, m, i, o) =
             (self.state.change(), self.memory.change(), self.input.bytes(), self.output.change());
         match *call {
-            Call::FreshStart { there } => fresh_start_bytes(there, s),
+            Call::FreshStart { there, .. } => fresh_start_bytes(there, &words_of(i), s),
             Call::Request { .. } => request_bytes(s, m, i, o),
             Call::Report { process, kind, reason, .. } => {
                 report_bytes(s, m, process, kind, reason, i, o)
@@ -111,9 +115,7 @@ impl Side {
                 write_request(host, cmd, pid, arg1, arg2, i, o)
             }
             Call::Read { .. } => {
-                let pairs = o.chunks_exact(2);
-                let mut fields: Vec<u16> =
-                    pairs.map(|pair| u16::from_ne_bytes([pair[0], pair[1]])).collect();
+                let mut fields = words_of(o);
                 let answer = read_answer(i, &mut fields);
                 for (pair, field) in o.chunks_exact_mut(2).zip(fields) {
                     pair.copy_from_slice(&field.to_ne_bytes());
@@ -136,7 +138,10 @@ impl Side {
         let (s_len, m_len, i_len, o_len) = (s.len(), m.len(), i.len(), o.len());
         let (s, m, i, o) = (s.as_mut_ptr(), m.as_mut_ptr(), i.as_mut_ptr(), o.as_mut_ptr());
         match *call {
-            Call::FreshStart { there } => unsafe { palustrode_fresh_start(there, s, s_len) },
+            Call::FreshStart { there, .. } => unsafe {
+                assert!(i as usize % 2 == 0 && i_len % 2 == 0, "sizes are words");
+                palustrode_fresh_start(there, i.cast(), i_len / 2, s, s_len)
+            },
             Call::Request { .. } => unsafe {
                 palustrode_request(s, s_len, m, m_len, i, i_len, o, o_len)
             },
@@ -152,6 +157,11 @@ impl Side {
             },
         }
     }
+}
+
+/// The words of a buffer, as the processor keeps them.
+fn words_of(bytes: &[u8]) -> Vec<u16> {
+    bytes.chunks_exact(2).map(|pair| u16::from_ne_bytes([pair[0], pair[1]])).collect()
 }
 
 // ---------------------------------------------------------------- the model and the library
@@ -174,7 +184,7 @@ impl Pair {
         change(&mut self.library);
     }
 
-    /// The message, the words or the string, where the one before it was.
+    /// The message, the words, the string or the sizes, where the one before was.
     fn lend_input(&mut self, bytes: &[u8]) {
         self.change(|side| side.input = Lent::new(bytes, side.input.offset()));
     }
@@ -182,7 +192,7 @@ impl Pair {
     /// Makes a call on both sides and compares the results and all bytes of all
     /// buffers, those around them included: the answer, or what is wrong.
     pub fn call(&mut self, call: &Call) -> Result<i64, String> {
-        self.lend_input(call.input());
+        self.lend_input(&call.input());
         let before = self.model.clone();
         let answers = [self.model.by_model(call), self.library.by_library(call)];
         let wrong = self
@@ -198,7 +208,9 @@ impl Pair {
         let (model, library) = (&self.model, &self.library);
         let byte = first_difference("state", &model.state, &library.state)
             .or_else(|| first_difference("memory", &model.memory, &library.memory))
-            .or_else(|| first_difference("message, words or string", &model.input, &library.input))
+            .or_else(|| {
+                first_difference("message, words, string or sizes", &model.input, &library.input)
+            })
             .or_else(|| first_difference("output", &model.output, &library.output));
         if a == b && byte.is_none() {
             return None;
@@ -266,9 +278,11 @@ fn decimal(bytes: &[u8]) -> String {
 }
 
 pub fn describe(call: &Call, side: &Side) -> String {
-    let input = decimal(call.input());
+    let input = decimal(&call.input());
     let call = match call {
-        Call::FreshStart { there } => format!("fresh start, processes {there:#b}"),
+        Call::FreshStart { there, sizes } => {
+            format!("fresh start, processes {there:#b}, sizes {sizes:?}")
+        }
         Call::Request { .. } => format!("request, message of {input}"),
         Call::Report { process, kind, reason, .. } => {
             format!("report, process {process}, kind {kind}, reason {reason}, words of {input}")

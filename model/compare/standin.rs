@@ -9,10 +9,16 @@ use std::slice::{from_raw_parts, from_raw_parts_mut};
 #[no_mangle]
 pub unsafe extern "C" fn palustrode_fresh_start(
     there: u64,
+    sizes: *const u16,
+    sizes_count: usize,
     state: *mut u8,
     state_len: usize,
 ) -> i64 {
-    answer(Made::Start { there, state: from_raw_parts_mut(state, state_len) })
+    answer(Made::Start {
+        there,
+        sizes: from_raw_parts(sizes, sizes_count),
+        state: from_raw_parts_mut(state, state_len),
+    })
 }
 
 #[no_mangle]

@@ -13,9 +13,13 @@ pub struct Sweep<'a> {
     made: &'a mut dyn FnMut(&Call, &Side, i64),
 }
 
-/// The host that debugs process 2; processes 0 to 6 are there.
+/// The host that debugs processes 2 and 3; processes 0 to 6 are there.
 const OWNER: u8 = 77;
 const P: u8 = 2;
+
+/// The feed process, and the sizes of all: those of 4 to 7 are at the edges.
+const FEED: u8 = 3;
+const SIZES: [u16; PROCESSES] = [4096, 4096, 4096, 1536, 2, 4, 4094, 4096];
 
 fn message(host: u8, cmd: u8, pid: u8, arg1: u16, arg2: u16, string: usize) -> Vec<u8> {
     let [a, b] = arg1.to_be_bytes();
@@ -27,6 +31,14 @@ fn message(host: u8, cmd: u8, pid: u8, arg1: u16, arg2: u16, string: usize) -> V
 
 fn to(cmd: u8, arg1: u16, arg2: u16, string: usize) -> Call {
     Call::Request { message: message(OWNER, cmd, P, arg1, arg2, string) }
+}
+
+fn to_feed(cmd: u8, arg1: u16, arg2: u16, string: usize) -> Call {
+    Call::Request { message: message(OWNER, cmd, FEED, arg1, arg2, string) }
+}
+
+fn start(there: u64, sizes: &[u16]) -> Call {
+    Call::FreshStart { there, sizes: sizes.to_vec() }
 }
 
 fn report(process: u64, kind: u64, reason: u64) -> Call {
@@ -43,11 +55,16 @@ impl Sweep<'_> {
         let memory: Vec<u8> = (0..MEMORY).map(|i| (i % 251) as u8).collect();
         let base = Pair::new(Side::new(&[1; STATE_BYTES], &memory, &[0xee; LONGEST]));
         let mut sweep = Sweep { pair: base.clone(), base, made };
-        sweep.make(&Call::FreshStart { there: 0x7f })?;
-        sweep.make(&to(DEBUG, 0, 0, 0))?;
-        sweep.make(&to(BREAK, 256, 0, 0))?;
+        sweep.make(&start(0x7f, &SIZES))?;
+        for call in [to(DEBUG, 0, 0, 0), to_feed(DEBUG, 0, 0, 0)] {
+            sweep.make(&call)?;
+        }
+        for call in [to(BREAK, 256, 0, 0), to_feed(BREAK, 256, 0, 0)] {
+            sweep.make(&call)?;
+        }
         sweep.base = sweep.pair.clone();
         sweep.requests()?;
+        sweep.sizes()?;
         sweep.hosts()?;
         sweep.reports()?;
         sweep.lengths()?;
@@ -93,6 +110,33 @@ impl Sweep<'_> {
             self.apart(to(BREAK, 254, n, 0))?;
             self.apart(to(UNBREAK, n, 0, 0))?;
             self.apart(to(DEPOSIT_STATE_VECTOR, n, 2, 2))?;
+        }
+        Ok(())
+    }
+
+    /// Each address and count in the feed process, each size of a process in a fresh
+    /// start and in a state's bytes, there and absent, and each number of sizes.
+    fn sizes(&mut self) -> Result<(), String> {
+        for n in 0..=u16::MAX {
+            self.apart(to_feed(EXAMINE, n, 2, 0))?;
+            self.apart(to_feed(EXAMINE, 1400, n, 0))?;
+            self.apart(to_feed(DEPOSIT, n, 2, 2))?;
+            self.apart(to_feed(BREAK, n, 1, 0))?;
+            self.apart(to_feed(UNBREAK, n, 0, 0))?;
+            let mut sizes = SIZES;
+            sizes[usize::from(P)] = n;
+            self.apart(start(1 << P, &sizes))?;
+            self.apart(start(1 << FEED, &sizes))?;
+            for p in [P, FEED, 7] {
+                let at = RECORD_BYTES * usize::from(p) + SIZE_AT;
+                self.pair.change(|side| {
+                    side.state.change()[at..at + 2].copy_from_slice(&n.to_le_bytes())
+                });
+                self.apart(to(EXAMINE, 1534, 2, 0))?;
+            }
+        }
+        for count in 0..600 {
+            self.apart(start(0x7f, &vec![2; count]))?;
         }
         Ok(())
     }
@@ -143,7 +187,7 @@ impl Sweep<'_> {
             self.make(&write([5, 0, 0, 0, 0], 0))?;
             self.back();
             self.pair.change(|side| side.state = side.state.resized(length));
-            for call in [to(EXAMINE, 0, 4, 0), report(9, 9, 9), Call::FreshStart { there: 7 }] {
+            for call in [to(EXAMINE, 0, 4, 0), report(9, 9, 9), start(7, &SIZES)] {
                 self.make(&call)?;
             }
             self.back();
@@ -159,7 +203,7 @@ impl Sweep<'_> {
 
     fn starts(&mut self) -> Result<(), String> {
         for there in (0..1024).chain((8..64).map(|bit| 4 | 1 << bit)) {
-            self.apart(Call::FreshStart { there })?;
+            self.apart(start(there, &SIZES))?;
         }
         Ok(())
     }

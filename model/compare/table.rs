@@ -158,7 +158,7 @@ impl Table {
 // ---------------------------------------------------------------- the desk's end, and fresh starts
 
 /// Columns: granted, and the refusals that these calls can meet.
-const DESK_COLUMNS: [i64; 7] = [0, 1, 3, 4, 5, 6, 7];
+const DESK_COLUMNS: [i64; 8] = [0, 1, 2, 3, 4, 5, 6, 7];
 
 /// Rows: writing each op code and any other CMD; reading each reply, CAN'T, notice
 /// and any other CMD; and a fresh start.
@@ -211,12 +211,13 @@ impl DeskTable {
     }
 
     /// Every op code and answer can be granted, and refused by 1, 3, 4 and 6; any
-    /// other CMD by 1, 3, 4 and 5; a fresh start by 1 and 7.
+    /// other CMD by 1, 3, 4 and 5; a fresh start by 1, 2 and 7.
     fn feasible(row: usize, column: usize) -> bool {
         let unknown = row == WRITES + 14 || row == READS + NO_ANSWER;
         match DESK_COLUMNS[column] {
             0 => !unknown,
             1 => true,
+            2 => row == START,
             3 | 4 => row != START,
             5 => unknown,
             6 => !unknown && row != START,

@@ -3,6 +3,7 @@
 
 use crate::calls::{EDGES, HOSTS};
 use crate::sides::{Call, Lent, Side};
+use crate::states::{SIZES, STATE_LENGTHS};
 use model::*;
 
 /// A value of one kind, met in a call that got this answer: 0 for granted, or the
@@ -74,8 +75,64 @@ const VALUES: &[Value] = &[
     value(
         ABSENT,
         "fresh start with a process over 7",
-        |c, _| matches!(c, Call::FreshStart { there } if *there > 255),
+        |c, _| matches!(c, Call::FreshStart { there, .. } if *there > 255),
     ),
+    // sizes in a fresh start
+    value(0, "fresh start of a process of 2 bytes", |c, _| starts(c, |size| size == 2)),
+    value(0, "fresh start of a process of 1,536 bytes", |c, _| starts(c, |size| size == 1536)),
+    value(0, "fresh start of a process of 4,094 bytes", |c, _| starts(c, |size| size == 4094)),
+    value(0, "fresh start of a process of a size in no list", |c, _| {
+        starts(c, |size| !SIZES.contains(&size))
+    }),
+    value(NOT_SOUND, "fresh start, size 0", |c, _| starts(c, |size| size == 0)),
+    value(NOT_SOUND, "fresh start, an odd size", |c, _| starts(c, |size| odd(size))),
+    value(NOT_SOUND, "fresh start, size 4,098", |c, _| starts(c, |size| size == 4098)),
+    value(NOT_SOUND, "fresh start, size 65,535", |c, _| starts(c, |size| size == 65_535)),
+    value(
+        NOT_SOUND,
+        "fresh start, a wrong size and a process over 7",
+        |c, _| matches!(c, Call::FreshStart { there, .. } if *there > 255),
+    ),
+    value(0, "fresh start, a wrong size of an absent process", |c, _| wrong_absent(c)),
+    value(ABSENT, "fresh start, a process over 7, a wrong size of an absent one", |c, _| {
+        wrong_absent(c)
+    }),
+    value(
+        WRONG_BUFFER,
+        "fresh start, seven sizes alone wrong",
+        |c, s| matches!(c, Call::FreshStart { sizes, .. } if sizes.len() == 7 && whole(s)),
+    ),
+    value(
+        WRONG_BUFFER,
+        "fresh start, any other number of sizes alone wrong",
+        |c, s| matches!(c, Call::FreshStart { sizes, .. } if ![0, 1, 7, 8, 9, 16].contains(&sizes.len()) && whole(s)),
+    ),
+    // sizes in a state, each being all that is not sound
+    value(NOT_SOUND, "state, size 0", |c, s| sized(c, s, |p| p.there && p.size == 0)),
+    value(NOT_SOUND, "state, an odd size", |c, s| sized(c, s, |p| p.there && odd(p.size))),
+    value(NOT_SOUND, "state, size 4,098", |c, s| sized(c, s, |p| p.there && p.size == 4098)),
+    value(NOT_SOUND, "state, size 65,535", |c, s| sized(c, s, |p| p.there && p.size == 65_535)),
+    value(NOT_SOUND, "state, size 0 of an absent process", |c, s| {
+        sized(c, s, |p| !p.there && p.size == 0)
+    }),
+    value(NOT_SOUND, "state, an odd size of an absent process", |c, s| {
+        sized(c, s, |p| !p.there && odd(p.size))
+    }),
+    value(NOT_SOUND, "state, size over 4,096 of an absent process", |c, s| {
+        sized(c, s, |p| !p.there && p.size > 4096)
+    }),
+    value(NOT_SOUND, "state, a breakpoint at the size", |c, s| {
+        sized(c, s, |p| right_size(p.size) && last_word(p) == Some(p.size))
+    }),
+    value(NOT_SOUND, "state, a breakpoint past the size", |c, s| {
+        sized(c, s, |p| right_size(p.size) && last_word(p) > Some(p.size))
+    }),
+    value(0, "state, a breakpoint at size - 2", |c, s| {
+        on_state(c) && processes(s).iter().any(|p| last_word(p) == Some(p.size - 2))
+    }),
+    value(0, "state, an absent process of another size", |c, s| {
+        on_state(c) && processes(s).iter().any(|p| !p.there && p.size != LARGEST)
+    }),
     // lengths
     value(WRONG_BUFFER, "memory of any shorter length", |c, s| {
         on_state(c) && s.memory.bytes().len() % 4096 > 1 && s.memory.bytes().len() < 32_767
@@ -90,12 +147,9 @@ const VALUES: &[Value] = &[
         on_state(c) && (700..4000).contains(&s.output.bytes().len())
     }),
     value(0, "output over 8,192 bytes", |c, s| on_state(c) && s.output.bytes().len() > 8192),
-    value(NOT_SOUND, "state of any other length", |c, s| {
-        on_state(c) && ![0, 1, 85, 679, 680, 681, 1360].contains(&s.state.bytes().len())
-    }),
+    value(NOT_SOUND, "state of any other length", |c, s| on_state(c) && other_length(s)),
     value(WRONG_BUFFER, "fresh start, state of any other length", |c, s| {
-        matches!(c, Call::FreshStart { .. })
-            && ![0, 1, 85, 679, 680, 681, 1360].contains(&s.state.bytes().len())
+        matches!(c, Call::FreshStart { .. }) && other_length(s)
     }),
     value(
         WRONG_BUFFER,
@@ -134,6 +188,53 @@ const VALUES: &[Value] = &[
         matches!(c, Call::Read { .. }) && s.output.bytes().len() > 20
     }),
 ];
+
+fn odd(size: u16) -> bool {
+    size % 2 == 1
+}
+
+/// Whether a process then there has such a size.
+fn starts(call: &Call, test: impl Fn(u16) -> bool) -> bool {
+    let Call::FreshStart { there, sizes } = call else { return false };
+    sizes.iter().take(PROCESSES).enumerate().any(|(p, &size)| there >> p & 1 == 1 && test(size))
+}
+
+/// Whether a process that is then not there has a wrong size.
+fn wrong_absent(call: &Call) -> bool {
+    let Call::FreshStart { there, sizes } = call else { return false };
+    let absent = |p: usize| there >> p & 1 == 0;
+    sizes.iter().take(PROCESSES).enumerate().any(|(p, &size)| absent(p) && !right_size(size))
+}
+
+/// Whether the state has its length.
+fn whole(side: &Side) -> bool {
+    side.state.bytes().len() == STATE_BYTES
+}
+
+/// The processes of the state after a call; none where its bytes are no state.
+fn processes(side: &Side) -> Vec<Process> {
+    decode(side.state.bytes()).map_or_else(Vec::new, |state| state.processes.to_vec())
+}
+
+/// Whether there is such a process in a state of which nothing but its size is not
+/// sound.
+fn sized(call: &Call, side: &Side, test: impl Fn(&Process) -> bool) -> bool {
+    let Some(mut state) = decode(side.state.bytes()) else { return false };
+    let Some(p) = state.processes.iter().position(test) else { return false };
+    state.processes[p].size = LARGEST;
+    on_state(call) && sound(&state)
+}
+
+/// The highest address of a process's breakpoints.
+fn last_word(process: &Process) -> Option<u16> {
+    process.breakpoints.iter().filter(|b| b.used).map(|b| b.address).max()
+}
+
+/// Whether the state has a wrong length that is in no list.
+fn other_length(side: &Side) -> bool {
+    let length = side.state.bytes().len();
+    length != STATE_BYTES && !STATE_LENGTHS.contains(&length)
+}
 
 fn other_host(host: u8) -> bool {
     !HOSTS.contains(&host) && ![0, 1, 4, 8, 254, 255].contains(&host)
@@ -184,7 +285,13 @@ pub struct Values {
     offsets: [[u64; 8]; BUFFERS.len()],
 }
 
-const BUFFERS: [&str; 5] = ["state", "memory", "message, words or string", "output", "fields"];
+const BUFFERS: [&str; 6] =
+    ["state", "memory", "message, words or string", "output", "fields", "sizes"];
+
+/// Whether a buffer is one of words, which are never at an odd address.
+fn of_words(buffer: &str) -> bool {
+    matches!(buffer, "fields" | "sizes")
+}
 
 impl Values {
     pub fn new() -> Values {
@@ -199,7 +306,10 @@ impl Values {
         }
         let mut at = |buffer: usize, lent: &Lent| self.offsets[buffer][lent.offset() % 8] += 1;
         match call {
-            Call::FreshStart { .. } => at(0, &side.state),
+            Call::FreshStart { .. } => {
+                at(0, &side.state);
+                at(5, &side.input);
+            }
             Call::Read { .. } => at(4, &side.output),
             Call::Write { .. } => at(3, &side.output),
             _ => {
@@ -230,12 +340,12 @@ impl Values {
         }
     }
 
-    /// The values never met. Fields are never at an odd address.
+    /// The values never met.
     pub fn wrong(&self) -> Vec<String> {
         let values = VALUES.iter().zip(&self.counts).filter(|(_, &n)| n == 0);
         let mut wrong: Vec<String> = values.map(|(value, _)| value.name.to_string()).collect();
         for (name, row) in BUFFERS.iter().zip(&self.offsets) {
-            let every = if *name == "fields" { 2 } else { 1 };
+            let every = if of_words(name) { 2 } else { 1 };
             if row.iter().step_by(every).any(|&n| n == 0) {
                 wrong.push(format!("{name} at every address"));
             }

@@ -2,6 +2,7 @@
 //! one of them.
 
 use crate::run::Comparison;
+use crate::wrong_sizes::WRONG_SIZES;
 use model::*;
 use std::sync::atomic::{AtomicUsize, Ordering};
 
@@ -9,6 +10,7 @@ use std::sync::atomic::{AtomicUsize, Ordering};
 pub enum Made<'a> {
     Start {
         there: u64,
+        sizes: &'a [u16],
         state: &'a mut [u8],
     },
     Request {
@@ -37,9 +39,9 @@ pub enum Made<'a> {
 
 impl Made<'_> {
     /// The model's answer.
-    fn right(&mut self) -> i64 {
+    pub fn right(&mut self) -> i64 {
         match self {
-            Made::Start { there, state } => fresh_start_bytes(*there, state),
+            Made::Start { there, sizes, state } => fresh_start_bytes(*there, sizes, state),
             Made::Request { state, memory, message, reply } => {
                 request_bytes(state, memory, message, reply)
             }
@@ -70,8 +72,32 @@ impl Made<'_> {
         }
     }
 
+    /// The bytes of the state.
+    fn state(&mut self) -> Option<&mut [u8]> {
+        match self {
+            Made::Start { state, .. }
+            | Made::Request { state, .. }
+            | Made::Report { state, .. } => Some(state),
+            _ => None,
+        }
+    }
+
+    /// The records of a request's or a report's state, if its bytes are a state's.
+    pub fn records(&mut self) -> Option<State> {
+        if matches!(self, Made::Start { .. }) {
+            return None;
+        }
+        decode(self.state()?)
+    }
+
+    pub fn put(&mut self, records: &State) {
+        if let Some(state) = self.state() {
+            state.copy_from_slice(&encode(records));
+        }
+    }
+
     /// A byte of the request's header.
-    fn byte(&self, at: usize) -> Option<u8> {
+    pub fn byte(&self, at: usize) -> Option<u8> {
         match self {
             Made::Request { message, .. } if message.len() >= HEAD => Some(message[at]),
             _ => None,
@@ -79,12 +105,12 @@ impl Made<'_> {
     }
 
     /// ARG1 or ARG2 of the request.
-    fn word(&self, at: usize) -> Option<u16> {
+    pub fn word(&self, at: usize) -> Option<u16> {
         Some(u16::from_be_bytes([self.byte(at)?, self.byte(at + 1)?]))
     }
 
     /// The model's answer, but for this number in place of that one.
-    fn instead(&mut self, right: i64, wrong: i64) -> i64 {
+    pub fn instead(&mut self, right: i64, wrong: i64) -> i64 {
         match self.right() {
             answer if answer == right => wrong,
             answer => answer,
@@ -114,7 +140,7 @@ fn with_lengths(made: Made, memory_length: usize, output_length: usize) -> i64 {
 }
 
 /// The lengths of memory and output buffer.
-fn lengths(made: &Made) -> Option<(usize, usize)> {
+pub fn lengths(made: &Made) -> Option<(usize, usize)> {
     match made {
         Made::Request { memory, reply: output, .. }
         | Made::Report { memory, notice: output, .. } => Some((memory.len(), output.len())),
@@ -122,9 +148,14 @@ fn lengths(made: &Made) -> Option<(usize, usize)> {
     }
 }
 
-struct Wrong {
-    name: &'static str,
-    answer: fn(Made) -> i64,
+pub struct Wrong {
+    pub name: &'static str,
+    pub answer: fn(Made) -> i64,
+}
+
+/// Every wrong library.
+fn every() -> impl Iterator<Item = &'static Wrong> {
+    WRONG.iter().chain(WRONG_SIZES)
 }
 
 /// Each is the model's answer, but for one error.
@@ -207,7 +238,7 @@ const WRONG: &[Wrong] = &[
     Wrong {
         name: "a fresh start passes over bits above the eighth",
         answer: |mut made| match &mut made {
-            Made::Start { there, state } => fresh_start_bytes(*there % 256, state),
+            Made::Start { there, sizes, state } => fresh_start_bytes(*there % 256, sizes, state),
             made => made.right(),
         },
     },
@@ -322,7 +353,7 @@ const WRONG: &[Wrong] = &[
             let answer = made.right();
             if let Made::Report { state, numbers: [p, ..], words, .. } = made {
                 if answer == -9 {
-                    let at = RECORD_BYTES * p as usize + 3;
+                    let at = RECORD_BYTES * p as usize + VECTOR_AT;
                     state[at..at + VECTOR].copy_from_slice(words);
                 }
             }
@@ -377,7 +408,7 @@ fn written(made: Made, change: impl Fn(&mut [u64; FIELDS])) -> i64 {
 static AT_HAND: AtomicUsize = AtomicUsize::new(usize::MAX);
 
 pub fn answer(mut made: Made) -> i64 {
-    match WRONG.get(AT_HAND.load(Ordering::Relaxed)) {
+    match every().nth(AT_HAND.load(Ordering::Relaxed)) {
         Some(wrong) => (wrong.answer)(made),
         None => made.right(),
     }
@@ -387,7 +418,7 @@ pub fn answer(mut made: Made) -> i64 {
 /// seen.
 pub fn all_seen(limit: u64, seed: u64) -> bool {
     let mut seen = 0;
-    for (i, wrong) in WRONG.iter().enumerate() {
+    for (i, wrong) in every().enumerate() {
         AT_HAND.store(i, Ordering::Relaxed);
         let mut comparison = Comparison::new(seed, false);
         match comparison.run(limit) {
@@ -398,6 +429,6 @@ pub fn all_seen(limit: u64, seed: u64) -> bool {
             Ok(()) => println!("NOT SEEN  {}", wrong.name),
         }
     }
-    println!("{seen} of {} wrong libraries seen, each at the call named", WRONG.len());
-    seen == WRONG.len()
+    println!("{seen} of {} wrong libraries seen, each at the call named", every().count());
+    seen == every().count()
 }

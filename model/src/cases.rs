@@ -1,4 +1,5 @@
-//! The paper's cases P1 to P12, its other cases and its list of easy errors.
+//! The paper's cases P1 to P12, its other cases and its list of easy errors; and the
+//! edges of the sizes that K2 gives to processes.
 
 use super::*;
 
@@ -12,10 +13,20 @@ struct Gateway {
 /// A byte that no case writes, to see which bytes are touched.
 const UNTOUCHED: u8 = 0xa5;
 
+/// Sizes of eight processes as large as there are.
+const FULL: [u16; PROCESSES] = [LARGEST; PROCESSES];
+
+/// K2: "The cheap gateway's feed process has 1,536 bytes"
+const FEED: u16 = 1536;
+
 impl Gateway {
     fn new(there: u8) -> Gateway {
+        Gateway::with_sizes(there, &FULL)
+    }
+
+    fn with_sizes(there: u8, sizes: &[u16; PROCESSES]) -> Gateway {
         Gateway {
-            state: fresh_start(there),
+            state: fresh_start(there, sizes).unwrap(),
             memory: vec![0; MEMORY],
             output: vec![UNTOUCHED; LONGEST],
         }
@@ -24,6 +35,15 @@ impl Gateway {
     /// Process 2 alone, debugged by host 5.
     fn debugged() -> Gateway {
         let mut gateway = Gateway::new(1 << 2);
+        assert_eq!(gateway.ask(5, DEBUG, 2, 0, 0, &[]), 10);
+        gateway
+    }
+
+    /// The feed process alone, as process 2, debugged by host 5. No byte of its slot
+    /// is zero.
+    fn feed() -> Gateway {
+        let mut gateway = Gateway::with_sizes(1 << 2, &[FEED; PROCESSES]);
+        gateway.memory.fill(77);
         assert_eq!(gateway.ask(5, DEBUG, 2, 0, 0, &[]), 10);
         gateway
     }
@@ -322,11 +342,11 @@ fn numbers_that_no_field_holds() {
     assert_eq!(g.report(1 << 32, HALT, 0, 0), -7);
     g.written(0);
     let mut state = [9; STATE_BYTES];
-    assert_eq!(fresh_start_bytes(256, &mut state), -7);
-    assert_eq!(fresh_start_bytes(1 << 63, &mut state), -7);
+    assert_eq!(fresh_start_bytes(256, &FULL, &mut state), -7);
+    assert_eq!(fresh_start_bytes(1 << 63, &FULL, &mut state), -7);
     assert_eq!(state, [9; STATE_BYTES]);
-    assert_eq!(fresh_start_bytes(256, &mut state[1..]), -1);
-    assert_eq!(fresh_start_bytes(255, &mut state), 0);
+    assert_eq!(fresh_start_bytes(256, &FULL, &mut state[1..]), -1);
+    assert_eq!(fresh_start_bytes(255, &FULL, &mut state), 0);
 }
 
 #[test]
@@ -361,7 +381,7 @@ fn the_order_of_a_requests_tests() {
 
 #[test]
 fn sound_states() {
-    let mut state = fresh_start(3);
+    let mut state = fresh_start(3, &FULL).unwrap();
     assert!(sound(&state));
     let entry =
         Breakpoint { used: true, lifted: false, address: 4094, remaining: 0, saved: [0, 0] };
@@ -398,26 +418,30 @@ fn sound_states() {
 #[test]
 fn the_byte_form() {
     let mut bytes = [9; STATE_BYTES];
-    assert_eq!(STATE_BYTES, 680);
-    assert_eq!(fresh_start_bytes(0b100, &mut bytes), 0);
-    assert_eq!(bytes.iter().position(|&b| b != 0), Some(170));
-    assert_eq!(fresh_start_bytes(0, &mut bytes[1..]), -1);
+    assert_eq!((STATE_BYTES, RECORD_BYTES), (696, 87));
+    assert_eq!(fresh_start_bytes(0b100, &[FEED; PROCESSES], &mut bytes), 0);
+    for (p, record) in bytes.chunks_exact(RECORD_BYTES).enumerate() {
+        let head = if p == 2 { [1, 0, 0, 0, 6] } else { [0, 0, 0, 0, 16] };
+        assert_eq!(record[..5], head);
+        assert!(record[5..].iter().all(|&b| b == 0));
+    }
+    assert_eq!(fresh_start_bytes(0, &FULL, &mut bytes[1..]), -1);
     let mut memory = vec![0; MEMORY];
     let mut output = vec![0; LONGEST];
     memory[2 * SPACE + 256..][..2].copy_from_slice(&[18, 52]);
     for m in [message(5, DEBUG, 2, 0, 0, &[]), message(5, BREAK, 2, 256, 515, &[])] {
         assert_eq!(request_bytes(&mut bytes, &mut memory, &m, &mut output), 10);
     }
-    assert_eq!(bytes[170..173], [1, 5, 0]);
-    assert_eq!(bytes[191..199], [1, 0, 0, 1, 3, 2, 18, 52]);
+    assert_eq!(bytes[174..179], [1, 5, 0, 0, 6]);
+    assert_eq!(bytes[197..205], [1, 0, 0, 1, 3, 2, 18, 52]);
     let words = vector_bytes(&words_with(256));
     let (b, m, o) = (&mut bytes, &mut memory, &mut output);
     assert_eq!(report_bytes(b, m, 2, BPT.into(), 0, &words[1..], o), -1);
     assert_eq!(report_bytes(b, m, 2, BPT.into(), 0, &words, o), 0);
-    assert_eq!(b[173..191], words);
-    assert_eq!(b[191..199], [1, 1, 0, 1, 2, 2, 18, 52]);
+    assert_eq!(b[179..197], words);
+    assert_eq!(b[197..205], [1, 1, 0, 1, 2, 2, 18, 52]);
     assert_eq!(encode(&decode(b).unwrap()), *b);
-    for (at, byte) in [(0, 2), (170, 255), (2, 5), (191, 2), (192, 2), (679 - 7, 2)] {
+    for (at, byte) in [(0, 2), (174, 255), (2, 5), (197, 2), (198, 2), (695 - 7, 2)] {
         let mut damaged = *b;
         damaged[at] = byte;
         assert_eq!(decode(&damaged), None);
@@ -498,4 +522,130 @@ fn the_desk_reads() {
     assert_eq!(read_answer(&contents[..9], &mut fields), -3);
     assert_eq!(read_answer(&contents[..9], &mut fields[1..]), -1);
     assert_eq!(read_answer(&[0; 267], &mut fields), -3);
+}
+
+// ---------------------------------------------------------------- K2: smaller processes
+
+#[test]
+fn k2_examine_and_deposit_end_at_the_size() {
+    let mut g = Gateway::feed();
+    g.store(1534, [7, 8]);
+    assert_eq!(g.ask(5, EXAMINE, 2, 1532, 4, &[]), 14);
+    assert_eq!(g.written(14), [0, 5, 255, 0, 6, 2, 5, 252, 0, 4, 77, 77, 7, 8]);
+    assert_eq!(g.ask(5, EXAMINE, 2, 1533, 4, &[]), -10);
+    assert_eq!(g.written(10), [0, 5, 255, 0, 134, 2, 5, 253, 0, 4]);
+    assert_eq!(g.ask(5, EXAMINE, 2, 1536, 0, &[]), 10);
+    assert_eq!(g.ask(5, EXAMINE, 2, 1537, 0, &[]), -10);
+    assert_eq!(g.ask(5, EXAMINE, 2, 1536, 1, &[]), -10);
+    assert_eq!(g.ask(5, EXAMINE, 2, 1280, 256, &[]), 266);
+    assert_eq!(g.ask(5, EXAMINE, 2, 1281, 256, &[]), -10);
+    assert_eq!(g.ask(5, EXAMINE, 2, 0, 257, &[]), -10);
+    assert_eq!(g.ask(5, DEPOSIT, 2, 1535, 1, &[9]), 10);
+    assert_eq!(g.ask(5, DEPOSIT, 2, 1535, 2, &[9, 9]), -10);
+    assert_eq!(g.ask(5, DEPOSIT, 2, 1536, 0, &[]), 10);
+    assert_eq!(g.ask(5, DEPOSIT, 2, 1536, 1, &[9]), -10);
+    assert_eq!(g.ask(5, DEPOSIT, 2, 65535, 2, &[9, 9]), -10);
+    assert_eq!((g.held(1534), g.held(1536)), ([7, 9], [77, 77]));
+    assert_eq!(g.ask(6, EXAMINE, 2, 1536, 1, &[]), -8);
+}
+
+#[test]
+fn k2_break_at_most_size_less_2() {
+    let mut g = Gateway::feed();
+    assert_eq!(g.ask(5, BREAK, 2, 1533, 0, &[]), -10);
+    assert_eq!(g.ask(5, BREAK, 2, 1534, 0, &[]), 10);
+    assert_eq!(g.held(1534), [3, 0]);
+    for address in [1535, 1536, 1538, 4094, 65534] {
+        assert_eq!(g.ask(5, BREAK, 2, address, 0, &[]), -10);
+        assert_eq!(g.ask(5, UNBREAK, 2, address, 0, &[]), -12);
+    }
+    assert_eq!(g.held(1536), [77, 77]);
+    // A PC past the size is not tested: no breakpoint is there.
+    assert_eq!(g.report(2, BPT, 0, 1536), 28);
+    assert_eq!(g.ask(5, PROCEED_BPT, 2, 0, 0, &[]), 10);
+    assert_eq!((g.held(1534), g.held(1536)), ([3, 0], [77, 77]));
+}
+
+#[test]
+fn k2_a_process_of_two_bytes() {
+    let mut g = Gateway::with_sizes(1 << 2, &[2; PROCESSES]);
+    g.ask(5, DEBUG, 2, 0, 0, &[]);
+    assert_eq!(g.ask(5, EXAMINE, 2, 0, 2, &[]), 12);
+    assert_eq!(g.ask(5, EXAMINE, 2, 0, 3, &[]), -10);
+    assert_eq!(g.ask(5, BREAK, 2, 0, 0, &[]), 10);
+    assert_eq!(g.ask(5, BREAK, 2, 2, 0, &[]), -10);
+}
+
+#[test]
+fn k2_create_and_a_cleared_record_give_4096() {
+    let mut g = Gateway::feed();
+    assert_eq!(g.ask(5, DESTROY_PROCESS, 2, 0, 0, &[]), 10);
+    assert_eq!(*g.process(), CLEARED);
+    assert_eq!(CLEARED.size, 4096);
+    // An absent record of another size is sound, and CREATE looks at none of it.
+    g.state.processes[0].size = FEED;
+    assert_eq!(g.ask(5, CREATE_PROCESS, 0, 0, 0, &[]), 10);
+    assert_eq!(g.state.processes[0].size, 4096);
+    assert!(g.memory[..SPACE].iter().all(|&b| b == 0));
+    assert_eq!(g.memory[SPACE], 77);
+    assert_eq!(g.ask(5, EXAMINE, 0, 4092, 4, &[]), 14);
+}
+
+#[test]
+fn k2_sound_covers_the_size_of_every_record() {
+    let state = fresh_start(1, &FULL).unwrap();
+    for p in [0, 7] {
+        for (size, right) in [(2, true), (4, true), (1536, true), (4094, true), (4096, true)]
+            .into_iter()
+            .chain([0, 1, 3, 1535, 4095, 4097, 4098, 65534, 65535].map(|size| (size, false)))
+        {
+            let mut state = state.clone();
+            state.processes[p].size = size;
+            assert_eq!(sound(&state), right, "process {p} of {size}");
+        }
+    }
+    let mut g = Gateway::feed();
+    g.ask(5, BREAK, 2, 1000, 0, &[]);
+    g.process().size = 1002;
+    assert!(sound(&g.state));
+    g.process().size = 1000;
+    assert!(!sound(&g.state), "a breakpoint past the size");
+    assert_eq!(g.ask(5, NOP, 0, 0, 0, &[]), -2);
+    assert_eq!(g.report(2, HALT, 0, 0), -2);
+    g.written(0);
+}
+
+#[test]
+fn k2_a_fresh_start_with_bad_sizes() {
+    let sizes = |p: usize, size: u16| {
+        let mut sizes = FULL;
+        sizes[p] = size;
+        sizes
+    };
+    for bad in [0, 1, 3, 1537, 4095, 4097, 4098, 65535] {
+        let mut state = [9; STATE_BYTES];
+        assert_eq!(fresh_start_bytes(0b100, &sizes(2, bad), &mut state), -2);
+        // "The lowest-numbered test that fails gives the answer"
+        assert_eq!(fresh_start_bytes(0b1_0000_0100, &sizes(2, bad), &mut state), -2);
+        assert_eq!(fresh_start_bytes(0b100, &sizes(2, bad), &mut state[1..]), -1);
+        assert_eq!(fresh_start_bytes(0b100, &sizes(2, bad)[1..], &mut state), -1);
+        assert_eq!(fresh_start_bytes(0b1_0000_0000, &sizes(2, bad), &mut state), -7);
+        assert_eq!(state, [9; STATE_BYTES]);
+        // A process that is not there then has a cleared record.
+        assert_eq!(fresh_start_bytes(0b11, &sizes(2, bad), &mut state), 0);
+        assert_eq!(state, encode(&fresh_start(0b11, &FULL).unwrap()));
+    }
+    let mut state = [9; STATE_BYTES];
+    assert_eq!(fresh_start_bytes(0, &[], &mut state), -1);
+    assert_eq!(fresh_start_bytes(256, &[2; 9], &mut state), -1);
+}
+
+/// "Slots stay 4,096 bytes apart."
+#[test]
+fn k2_slots_stay_apart() {
+    let mut g = Gateway::with_sizes(0b111, &[2, 4, FEED, 2, 2, 2, 2, 2]);
+    g.store(0, [1, 2]);
+    g.ask(5, DEBUG, 2, 0, 0, &[]);
+    assert_eq!(g.ask(5, EXAMINE, 2, 0, 2, &[]), 12);
+    assert_eq!(g.written(12)[10..], [1, 2]);
 }

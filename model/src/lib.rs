@@ -1,7 +1,8 @@
 //! A model of the gateway end and the desk end, written from document 01 ("the
-//! paper") alone.
+//! paper") and the change requests of document 02 alone.
 //!
-//! Each rule stands under the sentence of the paper that gives it, in quotes.
+//! Each rule stands under the sentence of the paper that gives it, in quotes; one
+//! of a change request stands after its number, as in K2: "Each process gets a size".
 //! Everything is done in place: the state, the memory and the output buffer
 //! are changed where they lie, and only once no test is left that could fail.
 
@@ -17,8 +18,12 @@ pub use desk::{read_answer, write_request, FIELDS};
 
 /// "processes 0 to 7, each there or not"
 pub const PROCESSES: usize = 8;
-/// "4,096 bytes each"
+/// "4,096 bytes each"; K2: "Slots stay 4,096 bytes apart."
 pub const SPACE: usize = 4096;
+/// K2: "CREATE and a cleared record give 4,096."
+pub const LARGEST: u16 = 4096;
+/// K2: "a size, even, 2 to 4,096"
+pub const SMALLEST: u16 = 2;
 /// "lent as one buffer of 32,768 bytes"
 pub const MEMORY: usize = 32_768;
 /// "8 breakpoints a process"
@@ -42,8 +47,8 @@ pub const LONGEST: usize = HEAD + LONGEST_STRING;
 pub const NOTICE: usize = HEAD + VECTOR;
 /// "stores 3, 0 (PDP-11 BPT)"
 pub const BPT_WORD: [u8; 2] = [3, 0];
-/// "even and at most 4,094"
-pub const LAST_WORD: u16 = 4094;
+/// The bytes of the word under a breakpoint.
+const WORD: u16 = 2;
 
 // ---------------------------------------------------------------- op codes
 
@@ -112,7 +117,8 @@ pub type Refusal = i64;
 
 /// 1: "memory not 32,768 bytes, or reply or notice buffer under 266"
 pub const WRONG_BUFFER: Refusal = 1;
-/// 2: "state not sound"
+/// 2: "state not sound"; K2: "2 covers a bad size (at fresh start too, of a
+/// process then there) or a breakpoint past it"
 pub const NOT_SOUND: Refusal = 2;
 /// 3: "message under 10 or over 266 bytes"
 pub const WRONG_LENGTH: Refusal = 3;
@@ -129,7 +135,7 @@ pub const NO_RIGHT: Refusal = 8;
 /// 9: "wrong run state"
 pub const WRONG_RUN: Refusal = 9;
 /// 10: "outside memory or vector, EXAMINE over 256, or BREAK address odd or
-/// over 4,094"
+/// over 4,094"; K2: "10 reads against the size; BREAK at most size − 2"
 pub const OUTSIDE: Refusal = 10;
 /// 11: "eight breakpoints and a ninth asked"
 pub const NINTH: Refusal = 11;
@@ -177,12 +183,13 @@ pub struct Breakpoint {
 }
 
 /// "A process record holds: there or not; host debugging it; run state [..];
-/// vector; up to 8 breakpoints"
+/// vector; up to 8 breakpoints". K2: "Each process gets a size"
 #[derive(Clone, Copy, PartialEq, Eq, Debug)]
 pub struct Process {
     pub there: bool,
     pub host: u8,
     pub run: Run,
+    pub size: u16,
     pub vector: [u16; WORDS],
     pub breakpoints: [Breakpoint; BREAKPOINTS],
 }
@@ -197,23 +204,36 @@ pub struct State {
 const FREE: Breakpoint =
     Breakpoint { used: false, lifted: false, address: 0, remaining: 0, saved: [0, 0] };
 
-/// "cleared (absent, running, all else zero)"
+/// "cleared (absent, running, all else zero)"; K2: "CREATE and a cleared record
+/// give 4,096."
 const CLEARED: Process = Process {
     there: false,
     host: NOBODY,
     run: Run::Running,
+    size: LARGEST,
     vector: [0; WORDS],
     breakpoints: [FREE; BREAKPOINTS],
 };
 
+/// A state in which no process is there.
+pub const NONE_THERE: State = State { processes: [CLEARED; PROCESSES] };
+
 /// "At a fresh start a given set of processes is there, running, with no host
-/// and zero vectors; every other record is cleared"
-pub fn fresh_start(there: u8) -> State {
-    let mut state = State { processes: [CLEARED; PROCESSES] };
+/// and zero vectors; every other record is cleared". K2: "Each process gets a
+/// size [..] set at fresh start"; "2 covers a bad size (at fresh start too, of a
+/// process then there)".
+pub fn fresh_start(there: u8, sizes: &[u16; PROCESSES]) -> Result<State, Refusal> {
+    let mut state = NONE_THERE;
     for (p, process) in state.processes.iter_mut().enumerate() {
-        process.there = there >> p & 1 == 1;
+        if there >> p & 1 == 0 {
+            continue;
+        }
+        if !right_size(sizes[p]) {
+            return Err(NOT_SOUND);
+        }
+        *process = Process { there: true, size: sizes[p], ..CLEARED };
     }
-    state
+    Ok(state)
 }
 
 // ---------------------------------------------------------------- soundness
@@ -225,6 +245,10 @@ pub fn sound(state: &State) -> bool {
 
 impl Process {
     fn sound(&self) -> bool {
+        // K2: "2 covers a bad size", there or not: "Each process gets a size"
+        if !right_size(self.size) {
+            return false;
+        }
         // "an absent process has no host"
         if !self.there && self.host != NOBODY {
             return false;
@@ -236,12 +260,13 @@ impl Process {
         self.addresses_sound() && self.lifting_sound()
     }
 
-    /// "addresses within a process are different, even and at most 4,094"
+    /// "addresses within a process are different, even"; K2: "or a breakpoint past
+    /// it", the size
     fn addresses_sound(&self) -> bool {
         self.breakpoints.iter().enumerate().all(|(i, b)| {
             let earlier = &self.breakpoints[..i];
             !b.used
-                || takes_breakpoint(b.address)
+                || self.takes_breakpoint(b.address)
                     && !earlier.iter().any(|e| e.used && e.address == b.address)
         })
     }
@@ -254,16 +279,22 @@ impl Process {
             _ => false,
         }
     }
+
+    /// "BREAK address odd"; K2: "BREAK at most size − 2"
+    fn takes_breakpoint(&self, address: u16) -> bool {
+        address & 1 == 0 && within(address, WORD, self.size.into())
+    }
 }
 
-/// "even and at most 4,094"
-fn takes_breakpoint(address: u16) -> bool {
-    address & 1 == 0 && address <= LAST_WORD
+/// K2: "a size, even, 2 to 4,096"
+pub fn right_size(size: u16) -> bool {
+    size & 1 == 0 && (SMALLEST..=LARGEST).contains(&size)
 }
 
 // ---------------------------------------------------------------- memory
 
-/// "process p from byte 4,096 × p"
+/// "process p from byte 4,096 × p", whatever its size is. K2: "Slots stay 4,096
+/// bytes apart."
 fn space(memory: &mut [u8], p: usize) -> &mut [u8] {
     &mut memory[SPACE * p..SPACE * (p + 1)]
 }
@@ -271,7 +302,7 @@ fn space(memory: &mut [u8], p: usize) -> &mut [u8] {
 /// The two bytes of a process's memory under a breakpoint.
 fn word(space: &mut [u8], address: u16) -> &mut [u8] {
     let a = usize::from(address);
-    &mut space[a..a + 2]
+    &mut space[a..a + usize::from(WORD)]
 }
 
 /// "outside memory or vector": added in more than 16 bits, since "Adding ARG1
@@ -499,7 +530,8 @@ fn run_state_fits(process: &Process, cmd: u8) -> Result<(), Refusal> {
 }
 
 /// "CREATE: the lowest absent number; all 4,096 bytes of its memory are zero,
-/// vector zero, stopped, debugged by the asker."
+/// vector zero, stopped, debugged by the asker." K2: "CREATE and a cleared record
+/// give 4,096."
 fn create(state: &mut State, memory: &mut [u8], host: u8) -> Result<Done, Refusal> {
     // 13: "all eight processes are there"
     let Some(p) = state.processes.iter().position(|process| !process.there) else {
@@ -564,9 +596,10 @@ impl Process {
     }
 
     /// "DEPOSIT, EXAMINE: seen bytes from ARG1; ARG1 + ARG2 at most 4,096. A
-    /// byte under a planted breakpoint goes to the saved word."
+    /// byte under a planted breakpoint goes to the saved word." K2: "10 reads
+    /// against the size"
     fn deposit(&mut self, space: &mut [u8], asked: &Asked) -> Result<(), Refusal> {
-        if !within(asked.arg1, asked.arg2, SPACE) {
+        if !within(asked.arg1, asked.arg2, self.size.into()) {
             return Err(OUTSIDE);
         }
         let first = usize::from(asked.arg1);
@@ -584,7 +617,7 @@ impl Process {
         string: &mut [u8],
     ) -> Result<usize, Refusal> {
         let count = usize::from(asked.arg2);
-        if !within(asked.arg1, asked.arg2, SPACE) || count > LONGEST_STRING {
+        if !within(asked.arg1, asked.arg2, self.size.into()) || count > LONGEST_STRING {
             return Err(OUTSIDE);
         }
         let first = usize::from(asked.arg1);
@@ -609,8 +642,8 @@ impl Process {
 
     /// "BREAK: count ARG2; at an existing address only the count changes."
     fn set_breakpoint(&mut self, space: &mut [u8], asked: &Asked) -> Result<(), Refusal> {
-        // 10: "BREAK address odd or over 4,094"
-        if !takes_breakpoint(asked.arg1) {
+        // 10: "BREAK address odd"; K2: "BREAK at most size − 2"
+        if !self.takes_breakpoint(asked.arg1) {
             return Err(OUTSIDE);
         }
         if let Some(breakpoint) = self.at(asked.arg1) {
@@ -749,12 +782,16 @@ impl Process {
 
 // ---------------------------------------------------------------- byte form
 
-/// Bytes of a process record: there, host, run state, nine words, 8 entries.
-pub const RECORD_BYTES: usize = 3 + VECTOR + BREAKPOINTS * ENTRY_BYTES;
+/// Bytes of a process record: there, host, run state, size, nine words, 8 entries.
+pub const RECORD_BYTES: usize = ENTRIES_AT + BREAKPOINTS * ENTRY_BYTES;
 /// Bytes of a breakpoint entry: used, lifted, address, count, saved word.
 pub const ENTRY_BYTES: usize = 8;
+/// Where the size, low byte first, stands in a record.
+pub const SIZE_AT: usize = 3;
+/// Where the nine words begin in a record.
+pub const VECTOR_AT: usize = SIZE_AT + 2;
 /// Where the entries begin in a record.
-pub const ENTRIES_AT: usize = 3 + VECTOR;
+pub const ENTRIES_AT: usize = VECTOR_AT + VECTOR;
 /// Bytes of a state.
 pub const STATE_BYTES: usize = PROCESSES * RECORD_BYTES;
 
@@ -795,18 +832,19 @@ fn run_from(byte: u8) -> Option<Run> {
     }
 }
 
-/// The state of 680 bytes; nothing where the length, a flag or a run state is
+/// The state of 696 bytes; nothing where the length, a flag or a run state is
 /// none that `encode` gives.
 pub fn decode(bytes: &[u8]) -> Option<State> {
     if bytes.len() != STATE_BYTES {
         return None;
     }
-    let mut state = fresh_start(0);
+    let mut state = NONE_THERE;
     for (process, record) in state.processes.iter_mut().zip(bytes.chunks_exact(RECORD_BYTES)) {
         process.there = flag(record[0])?;
         process.host = record[1];
         process.run = run_from(record[2])?;
-        process.vector = vector_from(&record[3..ENTRIES_AT]);
+        process.size = u16::from_le_bytes([record[SIZE_AT], record[SIZE_AT + 1]]);
+        process.vector = vector_from(&record[VECTOR_AT..ENTRIES_AT]);
         let entries = record[ENTRIES_AT..].chunks_exact(ENTRY_BYTES);
         for (breakpoint, entry) in process.breakpoints.iter_mut().zip(entries) {
             *breakpoint = Breakpoint {
@@ -821,14 +859,15 @@ pub fn decode(bytes: &[u8]) -> Option<State> {
     Some(state)
 }
 
-/// The 680 bytes of a state.
+/// The 696 bytes of a state.
 pub fn encode(state: &State) -> [u8; STATE_BYTES] {
     let mut bytes = [0; STATE_BYTES];
     for (record, process) in bytes.chunks_exact_mut(RECORD_BYTES).zip(&state.processes) {
         record[0] = u8::from(process.there);
         record[1] = process.host;
         record[2] = process.run as u8;
-        record[3..ENTRIES_AT].copy_from_slice(&vector_bytes(&process.vector));
+        record[SIZE_AT..VECTOR_AT].copy_from_slice(&process.size.to_le_bytes());
+        record[VECTOR_AT..ENTRIES_AT].copy_from_slice(&vector_bytes(&process.vector));
         let entries = record[ENTRIES_AT..].chunks_exact_mut(ENTRY_BYTES);
         for (entry, b) in entries.zip(&process.breakpoints) {
             let [address_low, address_high] = b.address.to_le_bytes();
@@ -893,15 +932,24 @@ fn write_back(records: &State, answer: i64, state: &mut [u8]) {
     }
 }
 
-/// `fresh_start` into 680 bytes: 0, or minus 1 where the buffer has not 680, or
-/// minus 7 where a bit over the eighth is set: "number over 7".
-pub fn fresh_start_bytes(there: u64, state: &mut [u8]) -> i64 {
+/// `fresh_start` into 696 bytes: 0, or minus 1 where the buffer has not 696 or the
+/// sizes are not eight, or minus 2 where a process then there has a bad size, or
+/// minus 7 where a bit above the eighth is set: "number over 7". "The
+/// lowest-numbered test that fails gives the answer"
+pub fn fresh_start_bytes(there: u64, sizes: &[u16], state: &mut [u8]) -> i64 {
+    let Ok(sizes) = sizes.try_into() else {
+        return -WRONG_BUFFER;
+    };
     if state.len() != STATE_BYTES {
         return -WRONG_BUFFER;
     }
-    let Ok(there) = u8::try_from(there) else {
-        return -ABSENT;
+    let started = match fresh_start(there as u8, sizes) {
+        Ok(started) => started,
+        Err(number) => return -number,
     };
-    state.copy_from_slice(&encode(&fresh_start(there)));
+    if there > u64::from(u8::MAX) {
+        return -ABSENT;
+    }
+    state.copy_from_slice(&encode(&started));
     0
 }
