@@ -5,7 +5,7 @@ extern "C" {
     pub fn palustrode_fresh_start(
         there: u64,
         sizes: *const u16,
-        sizes_count: usize,
+        sizes_len: usize,
         state: *mut u8,
         state_len: usize,
     ) -> i64;

@@ -12,8 +12,8 @@
 //! The library is given to the linker (`-L DIR -l static=palustrode`); with the
 //! feature `standin` the model itself takes its place, and with the word `wrong` in
 //! place of `each` there is a comparison for each wrong library of `wrong.rs` and
-//! `wrong_sizes.rs`: the program ends with 0 if each of them was seen. If the library was built by another compiler, or has a
-//! panic handler of its own, the linker needs
+//! `wrong_sizes.rs`: the program ends with 0 if each of them was seen. If the library
+//! was built by another compiler, or has a panic handler of its own, the linker needs
 //! `-C link-arg=-Wl,--allow-multiple-definition` besides.
 
 mod calls;

@@ -10,13 +10,13 @@ use std::slice::{from_raw_parts, from_raw_parts_mut};
 pub unsafe extern "C" fn palustrode_fresh_start(
     there: u64,
     sizes: *const u16,
-    sizes_count: usize,
+    sizes_len: usize,
     state: *mut u8,
     state_len: usize,
 ) -> i64 {
     answer(Made::Start {
         there,
-        sizes: from_raw_parts(sizes, sizes_count),
+        sizes: from_raw_parts(sizes, sizes_len),
         state: from_raw_parts_mut(state, state_len),
     })
 }

@@ -97,16 +97,12 @@ const VALUES: &[Value] = &[
     value(ABSENT, "fresh start, a process over 7, a wrong size of an absent one", |c, _| {
         wrong_absent(c)
     }),
-    value(
-        WRONG_BUFFER,
-        "fresh start, seven sizes alone wrong",
-        |c, s| matches!(c, Call::FreshStart { sizes, .. } if sizes.len() == 7 && whole(s)),
-    ),
-    value(
-        WRONG_BUFFER,
-        "fresh start, any other number of sizes alone wrong",
-        |c, s| matches!(c, Call::FreshStart { sizes, .. } if ![0, 1, 7, 8, 9, 16].contains(&sizes.len()) && whole(s)),
-    ),
+    value(WRONG_BUFFER, "fresh start, seven sizes and all else right", |c, s| {
+        sizes_alone(c, s, |count| count == 7)
+    }),
+    value(WRONG_BUFFER, "fresh start, any other number of sizes and all else right", |c, s| {
+        sizes_alone(c, s, |count| ![0, 1, 7, 9, 16].contains(&count))
+    }),
     // sizes in a state, each being all that is not sound
     value(NOT_SOUND, "state, size 0", |c, s| sized(c, s, |p| p.there && p.size == 0)),
     value(NOT_SOUND, "state, an odd size", |c, s| sized(c, s, |p| p.there && odd(p.size))),
@@ -206,9 +202,11 @@ fn wrong_absent(call: &Call) -> bool {
     sizes.iter().take(PROCESSES).enumerate().any(|(p, &size)| absent(p) && !right_size(size))
 }
 
-/// Whether the state has its length.
-fn whole(side: &Side) -> bool {
-    side.state.bytes().len() == STATE_BYTES
+/// Whether there are so many sizes in a fresh start in which that alone is wrong.
+fn sizes_alone(call: &Call, side: &Side, test: impl Fn(usize) -> bool) -> bool {
+    let Call::FreshStart { there, sizes } = call else { return false };
+    let right = side.state.bytes().len() == STATE_BYTES && *there < 256;
+    right && !starts(call, |size| !right_size(size)) && test(sizes.len())
 }
 
 /// The processes of the state after a call; none where its bytes are no state.
