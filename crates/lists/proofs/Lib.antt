@@ -9,3 +9,4 @@ pub mod MapStep
 pub mod Part
 pub mod Short
 pub mod Word
+pub mod Zeros
