@@ -101,11 +101,18 @@ fits-shown s t shown p h u f =
       room = λ e. rw (← used-shown s t shown) (f .room (there ∙ e));
     }
 
+-- a process that keeps its public part has its place
+pub fits-kept : (s : State) → Ready s → (p : ℕ) → Fits s p (publicOf s p)
+fits-kept s r p = record {
+  kept = λ e i. refl;
+  room = λ e. rw e (let all = layout-of s r .fits in omega arith);
+}
+
 pair : {x y : Process} {bs cs : List ℕ} → x ≡ y → bs ≡ cs → local x bs ≡ local y cs
 pair e q = ap₂ (λ (x : Process) (bs : List ℕ). local x bs) e q
 
 -- no bytes
-none-of : (bs : List ℕ) → length bs ≡ 0 → bs ≡ []
+pub none-of : (bs : List ℕ) → length bs ≡ 0 → bs ≡ []
 none-of [] e = refl
 none-of (b ∷ bs) e = absurd (omega (arith, e))
 
