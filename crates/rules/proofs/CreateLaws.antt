@@ -34,7 +34,7 @@ use Rattle.rules.specs.Ready.{Ready}
 use Rattle.rules.specs.Isolation.{isGranted}
 use Rattle.rules.specs.OneMemory.{Creating, AllTaken, TooFewFree, numberGiven, createdIn, CreateRule}
 use Rattle.rules.proofs.ProperLaws.{new-proper, create-size}
-use Rattle.rules.proofs.StateLaws.{Changed, Fits, put-is, put-changed}
+use Rattle.rules.proofs.StateLaws.{layout-of, Changed, Fits, put-is, put-changed}
 use Rattle.rules.proofs.NumberLaws.{first-append, layout-sent}
 use Rattle.rules.proofs.RequestLaws.{asked-right, createdThen, lowest-absent, has-place, fits-created}
 
@@ -163,7 +163,7 @@ module _ (s : State) (r : Ready s) (m buffer : List ℕ) (c : Creating s m buffe
 
     taken : used (requestStep m buffer s .after .records) ≡ used (s .records) + sizeAsked (headerOf m)
     unfolding putLast
-    taken = rw last-is (used-last (s .records) (r .processes) p low (new .process) (lowest-absent s r low) new-there ∙ ap (λ (n : ℕ). used (s .records) + n) size-is)
+    taken = rw last-is (used-last (s .records) (r .processes) (r .starts) (layout-of s r) p low (new .process) (lowest-absent s r low) ∙ ap (λ (n : ℕ). used (s .records) + n) size-is)
 
     changed : Changed s (put p new s) p new
     unfolding public created fresh

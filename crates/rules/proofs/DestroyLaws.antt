@@ -109,7 +109,7 @@ module _ (s : State) (r : Ready s) (p : ℕ) (m buffer : List ℕ) (d : Destroyi
   above : (q : ℕ) → q < 8 → recordOf s q .there ≡ true → startOf (s .records) p < startOf (s .records) q
       → startOf (requestStep m buffer s .after .records) q + extentAt (s .records) p ≡ startOf (s .records) q
   unfolding takenOut
-  above q i t over = rw out-is (omega (arith, start-above (s .records) p q i t over, room q i t over))
+  above q i t over = rw out-is (omega (arith, start-above (s .records) p q i (λ e. omega (arith, ap (startOf (s .records)) e, over)) t over, room q i t over))
     where
       room : (k : ℕ) → k < 8 → recordOf s k .there ≡ true → startOf (s .records) p < startOf (s .records) k → startOf (s .records) p + extentAt (s .records) p ≤ startOf (s .records) k
       room k j b more = apart (starts-apart (s .records) (layout-of s r) p k low j (λ e. omega (arith, ap (startOf (s .records)) e, more)) there b)
@@ -122,13 +122,13 @@ module _ (s : State) (r : Ready s) (p : ℕ) (m buffer : List ℕ) (d : Destroyi
   under : (q : ℕ) → q < 8 → recordOf s q .there ≡ true → startOf (s .records) q < startOf (s .records) p
       → startOf (requestStep m buffer s .after .records) q ≡ startOf (s .records) q
   unfolding takenOut
-  under q i t less = rw out-is (start-under (s .records) p q i (λ e. omega (arith, ap (startOf (s .records)) e, less)) (omega (arith, less)))
+  under q i t less = rw out-is (start-under (s .records) p q i (λ e. omega (arith, ap (startOf (s .records)) e, less)) t (omega (arith, less)))
 
   -- ---- what is freed
 
   added : used (requestStep m buffer s .after .records) + extentAt (s .records) p ≡ used (s .records)
   unfolding takenOut
-  added = rw out-is (used-without (s .records) (r .processes) p low there cleared gone-absent)
+  added = rw out-is (used-without (s .records) (r .processes) (layout-of s r) p low there cleared gone-absent)
 
   zeroes : slot (used (requestStep m buffer s .after .records)) (extentAt (s .records) p) (requestStep m buffer s .after .memory) ≡ replicate (extentAt (s .records) p) 0
   unfolding takenOut
