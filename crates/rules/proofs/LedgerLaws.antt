@@ -97,12 +97,11 @@ module _ (ts : List Bool) (ns : List ℕ) (long : length ts ≡ 8) (right : size
   }
 
   fresh-shown : (memory : List ℕ) (p : ℕ) → p < 8 → freshPublic ts ns p ≡ publicOf (lent (freshStart ts ns) memory) p
-  unfolding freshPublic public
+  unfolding freshPublic public freshProcess fresh cleared
   fresh-shown memory p h = sym (ap public (fresh-record p h) ∙ go (getD ts p false))
     where
       go : (t : Bool) → public (freshProcess t (getD ns p 0))
           ≡ cond t (record { there = true; host = 0; size = getD ns p 0 }) (record { there = false; host = 0; size = 4096 })
-      unfolding freshProcess fresh cleared public
       go true = refl
       go false = refl
 
