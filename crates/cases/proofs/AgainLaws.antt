@@ -2,7 +2,7 @@
 use mathlib.Core.Path.{_≡_, refl, sym, ap, _∙_}
 use mathlib.Core.Bool.{Bool, true, false, not, _&&_, _||_, true≢false}
 use mathlib.Core.List.{List, [], _∷_}
-use Prim.Native.Nat.{ℕ, zero, suc, _<_}
+use Prim.Native.Nat.{ℕ, _<_}
 use native.Mathlib.Omega.{arith}
 use borrow.Author.Tests.{eqb-true, not-true}
 use lib.ListN.{replicate}
@@ -47,22 +47,10 @@ use Rattle.rules.specs.Total.{oneOf}
 use Rattle.rules.specs.Isolation.{Processes, namesOne, asker, subject, event, passedOver, fieldsOf, isOne, isGranted, noticed, sentTo, part, heard, struck, withoutData, publicOf, NoneDebugs, theirs}
 use Rattle.rules.specs.Outsider.{only}
 use Rattle.rules.specs.Together.{createdFor, hiddenAfter, Away, strikeRun, AlikeRuns, withoutTheirs, callsOf}
-use Rattle.cases.proofs.PairLaws.{eight, firstByte}
+use Rattle.cases.proofs.PairLaws.{each, eight, firstByte}
 use Rattle.cases.specs.Again.{laptops, sellers, one, other, oneCalls, otherCalls, oneRest, received, CreatedAgain}
 
 -- ---- tests that can be computed, and what they say
-
--- what holds of 0 to 7
-each : (F : ℕ → Type 0) → F 0 → F 1 → F 2 → F 3 → F 4 → F 5 → F 6 → F 7 → (p : ℕ) → p < 8 → F p
-each F a b c d e f g h zero l = a
-each F a b c d e f g h (suc zero) l = b
-each F a b c d e f g h (suc (suc zero)) l = c
-each F a b c d e f g h (suc (suc (suc zero))) l = d
-each F a b c d e f g h (suc (suc (suc (suc zero)))) l = e
-each F a b c d e f g h (suc (suc (suc (suc (suc zero))))) l = f
-each F a b c d e f g h (suc (suc (suc (suc (suc (suc zero)))))) l = g
-each F a b c d e f g h (suc (suc (suc (suc (suc (suc (suc zero))))))) l = h
-each F a b c d e f g h (suc (suc (suc (suc (suc (suc (suc (suc p)))))))) l = absurd (omega arith)
 
 one-of : (f : ℕ → Bool) (ks : List ℕ) (n : ℕ) → oneOf ks n ≡ true → every f ks ≡ true → f n ≡ true
 one-of f [] n e i = absurd (true≢false (sym e))
