@@ -12,8 +12,10 @@ pub const SIZE_AT: usize = 3;
 pub const VECTOR_AT: usize = SIZE_AT + 2;
 /// Where the entries begin in a record.
 pub const ENTRIES_AT: usize = VECTOR_AT + VECTOR;
+/// Where the eight begins stand in a state, two bytes each, low byte first.
+pub const BEGINS_AT: usize = PROCESSES * RECORD_BYTES;
 /// Bytes of a state.
-pub const STATE_BYTES: usize = PROCESSES * RECORD_BYTES;
+pub const STATE_BYTES: usize = BEGINS_AT + PROCESSES * 2;
 
 /// "the nine words [..], 18 bytes, low byte first"
 pub fn vector_bytes(words: &[u16; WORDS]) -> [u8; VECTOR] {
@@ -52,14 +54,18 @@ fn run_from(byte: u8) -> Option<Run> {
     }
 }
 
-/// The state of 696 bytes; nothing where the length, a flag or a run state is
+/// The state of 712 bytes; nothing where the length, a flag or a run state is
 /// none that `encode` gives.
 pub fn decode(bytes: &[u8]) -> Option<State> {
     if bytes.len() != STATE_BYTES {
         return None;
     }
     let mut state = NONE_THERE;
-    for (process, record) in state.processes.iter_mut().zip(bytes.chunks_exact(RECORD_BYTES)) {
+    let (records, begins) = bytes.split_at(BEGINS_AT);
+    for (process, begin) in state.processes.iter_mut().zip(begins.chunks_exact(2)) {
+        process.begin = u16::from_le_bytes([begin[0], begin[1]]);
+    }
+    for (process, record) in state.processes.iter_mut().zip(records.chunks_exact(RECORD_BYTES)) {
         process.there = flag(record[0])?;
         process.host = record[1];
         process.run = run_from(record[2])?;
@@ -79,10 +85,14 @@ pub fn decode(bytes: &[u8]) -> Option<State> {
     Some(state)
 }
 
-/// The 696 bytes of a state.
+/// The 712 bytes of a state.
 pub fn encode(state: &State) -> [u8; STATE_BYTES] {
     let mut bytes = [0; STATE_BYTES];
-    for (record, process) in bytes.chunks_exact_mut(RECORD_BYTES).zip(&state.processes) {
+    let (records, begins) = bytes.split_at_mut(BEGINS_AT);
+    for (begin, process) in begins.chunks_exact_mut(2).zip(&state.processes) {
+        begin.copy_from_slice(&process.begin.to_le_bytes());
+    }
+    for (record, process) in records.chunks_exact_mut(RECORD_BYTES).zip(&state.processes) {
         record[0] = u8::from(process.there);
         record[1] = process.host;
         record[2] = process.run as u8;
@@ -152,9 +162,9 @@ fn write_back(records: &State, answer: i64, state: &mut [u8]) {
     }
 }
 
-/// `fresh_start` into 696 bytes: 0, or minus 1 where the buffer has not 696 or the
-/// sizes are not eight, or minus 2 where a process then there has a bad size, or
-/// minus 7 where a bit above the eighth is set: "number over 7". "The
+/// `fresh_start` into 712 bytes: 0, or minus 1 where the buffer has not 712 or the
+/// sizes are not eight, or minus 2 where a process then there has a bad size or they
+/// are more than the memory, or minus 7 where a bit above the eighth is set: "number over 7". "The
 /// lowest-numbered test that fails gives the answer"
 pub fn fresh_start_bytes(there: u64, sizes: &[u16], state: &mut [u8]) -> i64 {
     let Ok(sizes) = sizes.try_into() else {

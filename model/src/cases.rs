@@ -3,6 +3,7 @@
 
 mod desk;
 mod gateway;
+mod layout;
 mod sizes;
 
 use super::*;
@@ -88,15 +89,19 @@ fn p10_count_of_two() {
 
 #[test]
 fn p11_create() {
-    let mut g = Gateway::new(0b1011);
-    g.memory.fill(77);
-    assert_eq!(g.ask(5, CREATE_PROCESS, 0, 0, 0, &[]), 10);
-    assert_eq!(g.written(10), [0, 5, 255, 0, 12, 2, 0, 0, 0, 0]);
-    assert_eq!(*g.process(), Process { there: true, host: 5, run: Run::Stopped, ..CLEARED });
-    assert!(g.memory[2 * SPACE..3 * SPACE].iter().all(|&b| b == 0));
-    assert!(g.memory[..2 * SPACE].iter().all(|&b| b == 77));
-    assert!(g.memory[3 * SPACE..].iter().all(|&b| b == 77));
-    let mut g = Gateway::new(255);
+    for sizes in [EIGHT, FULL] {
+        let mut g = Gateway::with_sizes(0b1011, &sizes);
+        g.memory.fill(77);
+        assert_eq!(g.ask(5, CREATE_PROCESS, 0, 0, 0, &[]), 10);
+        assert_eq!(g.written(10), [0, 5, 255, 0, 12, 2, 0, 0, 0, 0]);
+        // K9: "a new one last, zeroed to its size"
+        let begin = 3 * sizes[0];
+        let created = Process { there: true, host: 5, run: Run::Stopped, begin, ..CLEARED };
+        assert_eq!(*g.process(), created);
+        let new = usize::from(begin)..usize::from(begin) + 4096;
+        assert!((0..MEMORY).all(|at| g.memory[at] == if new.contains(&at) { 0 } else { 77 }));
+    }
+    let mut g = Gateway::with_sizes(255, &EIGHT);
     assert_eq!(g.ask(5, CREATE_PROCESS, 0, 0, 0, &[]), -13);
     assert_eq!(g.written(10), [0, 5, 255, 0, 140, 0, 0, 0, 0, 0]);
 }
@@ -162,7 +167,7 @@ fn end_debug_and_create_leave_eight_entries_of_zeros() {
     assert_eq!(*g.process(), Process { there: true, ..CLEARED });
     g.state.processes[0] = Process { vector: [1; WORDS], breakpoints: [OLD; 8], ..CLEARED };
     assert_eq!(g.ask(5, CREATE_PROCESS, 0, 0, 0, &[]), 10);
-    let created = Process { there: true, host: 5, run: Run::Stopped, ..CLEARED };
+    let created = Process { there: true, host: 5, run: Run::Stopped, begin: 4096, ..CLEARED };
     assert_eq!(g.state.processes[0], created);
 }
 
@@ -176,18 +181,19 @@ fn end_debug_leaves_ended_as_it_is() {
 }
 
 #[test]
-fn destroy_leaves_the_memory_and_create_clears_it() {
+fn create_hands_over_no_bytes_of_a_destroyed_process() {
     let mut g = Gateway::debugged();
     g.store(10, [1, 2]);
     g.ask(5, BREAK, 2, 10, 0, &[]);
     assert_eq!(g.ask(5, DESTROY_PROCESS, 2, 0, 0, &[]), 10);
     assert_eq!(*g.process(), CLEARED);
-    assert_eq!(g.held(10), [3, 0]);
+    assert!(g.memory.iter().all(|&b| b == 0));
     for p in 0..3 {
+        g.memory[used_bytes(&g.state)..].fill(77);
         assert_eq!(g.ask(6, CREATE_PROCESS, 0, 0, 0, &[]), 10);
         assert_eq!(g.written(10)[5], p);
+        assert!(g.memory[..used_bytes(&g.state)].iter().all(|&b| b == 0));
     }
-    assert_eq!(g.held(10), [0, 0]);
 }
 
 #[test]
@@ -257,7 +263,7 @@ fn numbers_that_no_field_holds() {
     assert_eq!(fresh_start_bytes(1 << 63, &FULL, &mut state), -7);
     assert_eq!(state, [9; STATE_BYTES]);
     assert_eq!(fresh_start_bytes(256, &FULL, &mut state[1..]), -1);
-    assert_eq!(fresh_start_bytes(255, &FULL, &mut state), 0);
+    assert_eq!(fresh_start_bytes(255, &EIGHT, &mut state), 0);
 }
 
 #[test]
@@ -329,9 +335,10 @@ fn sound_states() {
 #[test]
 fn the_byte_form() {
     let mut bytes = [9; STATE_BYTES];
-    assert_eq!((STATE_BYTES, RECORD_BYTES), (696, 87));
+    assert_eq!((STATE_BYTES, RECORD_BYTES, BEGINS_AT), (712, 87, 696));
     assert_eq!(fresh_start_bytes(0b100, &[FEED; PROCESSES], &mut bytes), 0);
-    for (p, record) in bytes.chunks_exact(RECORD_BYTES).enumerate() {
+    assert_eq!(bytes[BEGINS_AT..], [0; 16]);
+    for (p, record) in bytes[..BEGINS_AT].chunks_exact(RECORD_BYTES).enumerate() {
         let head = if p == 2 { [1, 0, 0, 0, 6] } else { [0, 0, 0, 0, 16] };
         assert_eq!(record[..5], head);
         assert!(record[5..].iter().all(|&b| b == 0));
@@ -339,7 +346,7 @@ fn the_byte_form() {
     assert_eq!(fresh_start_bytes(0, &FULL, &mut bytes[1..]), -1);
     let mut memory = vec![0; MEMORY];
     let mut output = vec![0; LONGEST];
-    memory[2 * SPACE + 256..][..2].copy_from_slice(&[18, 52]);
+    memory[256..][..2].copy_from_slice(&[18, 52]);
     for m in [message(5, DEBUG, 2, 0, 0, &[]), message(5, BREAK, 2, 256, 515, &[])] {
         assert_eq!(request_bytes(&mut bytes, &mut memory, &m, &mut output), 10);
     }

@@ -12,29 +12,30 @@ mod bytes;
 #[cfg(test)]
 mod cases;
 mod desk;
+mod layout;
 mod reports;
 mod requests;
 
 pub use bytes::*;
 pub use desk::{read_answer, write_request, FIELDS};
+pub use layout::{asked_size, free_bytes, used_bytes};
 pub use reports::report;
 pub use requests::request;
 
 use bytes::vector_from;
+use layout::{create, destroy, layout_sound, size_fits};
 use requests::{fields_fit, named, Asked};
 
 // ---------------------------------------------------------------- sizes
 
 /// "processes 0 to 7, each there or not"
 pub const PROCESSES: usize = 8;
-/// "4,096 bytes each"; K2: "Slots stay 4,096 bytes apart."
-pub const SPACE: usize = 4096;
-/// K2: "CREATE and a cleared record give 4,096."
+/// K2: "a cleared record give[s] 4,096"; K9: "up to 4,096, 0 meaning 4,096"
 pub const LARGEST: u16 = 4096;
 /// K2: "a size, even, 2 to 4,096"
 pub const SMALLEST: u16 = 2;
-/// "lent as one buffer of 32,768 bytes"
-pub const MEMORY: usize = 32_768;
+/// K9: "The small gateway, the only one from now on, has 16,384 bytes."
+pub const MEMORY: usize = 16_384;
 /// "8 breakpoints a process"
 pub const BREAKPOINTS: usize = 8;
 /// "hosts 1 to 255, 0 meaning nobody"
@@ -91,6 +92,7 @@ const fn uses(pid: bool, arg1: bool, arg2: bool, string: bool) -> Uses {
 
 /// "Used fields: all but 0 and 12 use PID, and only those name a process;
 /// 4, 6, 7, 8 use ARG1 and ARG2; 9 uses ARG1." "Only 4 and 7 carry a string"
+/// K9: "CREATE takes an even size in ARG1"
 const USES: [Uses; 14] = [
     uses(false, false, false, false), // 0 NOP
     uses(true, false, false, false),  // 1 DEBUG
@@ -104,7 +106,7 @@ const USES: [Uses; 14] = [
     uses(true, true, false, false),   // 9 UNBREAK
     uses(true, false, false, false),  // 10 SINGLE STEP
     uses(true, false, false, false),  // 11 PROCEED BPT
-    uses(false, false, false, false), // 12 CREATE PROCESS
+    uses(false, true, false, false),  // 12 CREATE PROCESS
     uses(true, false, false, false),  // 13 DESTROY PROCESS
 ];
 
@@ -124,10 +126,11 @@ const NOTICE_CMD: u8 = 64;
 /// The number of a refusal, as in the paper's table.
 pub type Refusal = i64;
 
-/// 1: "memory not 32,768 bytes, or reply or notice buffer under 266"
+/// 1: "reply or notice buffer under 266"; K9: "1 asks 16,384 here", of the memory
 pub const WRONG_BUFFER: Refusal = 1;
 /// 2: "state not sound"; K2: "2 covers a bad size (at fresh start too, of a
-/// process then there) or a breakpoint past it"
+/// process then there) or a breakpoint past it"; K9: "2 also more than that at fresh
+/// start", the 16,384 bytes
 pub const NOT_SOUND: Refusal = 2;
 /// 3: "message under 10 or over 266 bytes"
 pub const WRONG_LENGTH: Refusal = 3;
@@ -135,7 +138,8 @@ pub const WRONG_LENGTH: Refusal = 3;
 pub const WRONG_HEAD: Refusal = 4;
 /// 5: "CMD not a known op code"
 pub const UNKNOWN_CMD: Refusal = 5;
-/// 6: "unused field not zero, or string of wrong length"
+/// 6: "unused field not zero, or string of wrong length"; K9: "6, at the desk too, an
+/// odd or greater size"
 pub const WRONG_FIELDS: Refusal = 6;
 /// 7: "named process absent, or number over 7"
 pub const ABSENT: Refusal = 7;
@@ -150,8 +154,8 @@ pub const OUTSIDE: Refusal = 10;
 pub const NINTH: Refusal = 11;
 /// 12: "no breakpoint at that address"
 pub const NO_BREAKPOINT: Refusal = 12;
-/// 13: "all eight processes are there"
-pub const ALL_THERE: Refusal = 13;
+/// 13, K9: "exactly when all numbers are taken or free bytes are fewer than the size"
+pub const NO_ROOM: Refusal = 13;
 /// 14: "report of kind over 3, or a reason not 0 with a kind that isn't TRAP"
 pub const WRONG_REPORT: Refusal = 14;
 
@@ -192,13 +196,15 @@ pub struct Breakpoint {
 }
 
 /// "A process record holds: there or not; host debugging it; run state [..];
-/// vector; up to 8 breakpoints". K2: "Each process gets a size"
+/// vector; up to 8 breakpoints". K2: "Each process gets a size". K9: "Starts and sizes
+/// are public": where it begins in memory is kept too.
 #[derive(Clone, Copy, PartialEq, Eq, Debug)]
 pub struct Process {
     pub there: bool,
     pub host: u8,
     pub run: Run,
     pub size: u16,
+    pub begin: u16,
     pub vector: [u16; WORDS],
     pub breakpoints: [Breakpoint; BREAKPOINTS],
 }
@@ -214,12 +220,13 @@ const FREE: Breakpoint =
     Breakpoint { used: false, lifted: false, address: 0, remaining: 0, saved: [0, 0] };
 
 /// "cleared (absent, running, all else zero)"; K2: "CREATE and a cleared record
-/// give 4,096."
+/// give 4,096." It has no bytes in memory all the same.
 const CLEARED: Process = Process {
     there: false,
     host: NOBODY,
     run: Run::Running,
     size: LARGEST,
+    begin: 0,
     vector: [0; WORDS],
     breakpoints: [FREE; BREAKPOINTS],
 };
@@ -230,9 +237,11 @@ pub const NONE_THERE: State = State { processes: [CLEARED; PROCESSES] };
 /// "At a fresh start a given set of processes is there, running, with no host
 /// and zero vectors; every other record is cleared". K2: "Each process gets a
 /// size [..] set at fresh start"; "2 covers a bad size (at fresh start too, of a
-/// process then there)".
+/// process then there)". K9: "Processes lie without gaps, at fresh start in number
+/// order"; "2 also more than that at fresh start".
 pub fn fresh_start(there: u8, sizes: &[u16; PROCESSES]) -> Result<State, Refusal> {
     let mut state = NONE_THERE;
+    let mut end = 0;
     for (p, process) in state.processes.iter_mut().enumerate() {
         if there >> p & 1 == 0 {
             continue;
@@ -240,16 +249,21 @@ pub fn fresh_start(there: u8, sizes: &[u16; PROCESSES]) -> Result<State, Refusal
         if !right_size(sizes[p]) {
             return Err(NOT_SOUND);
         }
-        *process = Process { there: true, size: sizes[p], ..CLEARED };
+        *process = Process { there: true, size: sizes[p], begin: end, ..CLEARED };
+        end += sizes[p];
+    }
+    if used_bytes(&state) > MEMORY {
+        return Err(NOT_SOUND);
     }
     Ok(state)
 }
 
 // ---------------------------------------------------------------- soundness
 
-/// "A state is sound when: [..]" each of its eight records is.
+/// "A state is sound when: [..]" each of its eight records is; K9: "sound includes the
+/// layout".
 pub fn sound(state: &State) -> bool {
-    state.processes.iter().all(Process::sound)
+    state.processes.iter().all(Process::sound) && layout_sound(state)
 }
 
 impl Process {
@@ -302,11 +316,7 @@ pub fn right_size(size: u16) -> bool {
 
 // ---------------------------------------------------------------- memory
 
-/// "process p from byte 4,096 × p", whatever its size is. K2: "Slots stay 4,096
-/// bytes apart."
-fn space(memory: &mut [u8], p: usize) -> &mut [u8] {
-    &mut memory[SPACE * p..SPACE * (p + 1)]
-}
+// `space` is the process's own bytes of the memory throughout.
 
 /// The two bytes of a process's memory under a breakpoint.
 fn word(space: &mut [u8], address: u16) -> &mut [u8] {
@@ -386,7 +396,7 @@ impl Process {
 
 // ---------------------------------------------------------------- buffers and messages
 
-/// 1: "memory not 32,768 bytes, or reply or notice buffer under 266"
+/// 1: "reply or notice buffer under 266"; K9: "1 asks 16,384 here"
 fn lent(memory: &[u8], output: &[u8]) -> Result<(), Refusal> {
     if memory.len() != MEMORY || output.len() < LONGEST {
         return Err(WRONG_BUFFER);

@@ -34,7 +34,7 @@ pub fn report(
     if !record.accepts(kind) {
         return -WRONG_RUN;
     }
-    if !record.take(space(memory, usize::from(process)), kind, words) {
+    if !record.take(&mut memory[record.place()], kind, words) {
         return 0;
     }
     // "a notice of 28 bytes goes to the host debugging it"; "(reason in

@@ -75,13 +75,14 @@ fn read(message: &[u8]) -> Result<Asked<'_>, Refusal> {
 }
 
 /// "Unused fields are zero. Only 4 and 7 carry a string, of exactly ARG2
-/// bytes."
+/// bytes." K9: "6, at the desk too, an odd or greater size"
 pub(super) fn fields_fit(asked: &Asked, uses: &Uses) -> bool {
     let string = if uses.string { usize::from(asked.arg2) } else { 0 };
     (uses.pid || asked.pid == 0)
         && (uses.arg1 || asked.arg1 == 0)
         && (uses.arg2 || asked.arg2 == 0)
         && asked.string.len() == string
+        && size_fits(asked.cmd, asked.arg1)
 }
 
 /// Tests 7 to 13, and what the request does.
@@ -94,13 +95,21 @@ fn obey(
     match asked.cmd {
         // RFC 643: "It has no effect on any process"
         NOP => Ok(Done { pid: 0, string: 0 }),
-        CREATE_PROCESS => create(state, memory, asked.host),
+        CREATE_PROCESS => {
+            // test 6 has passed its size
+            let size = asked_size(asked.arg1).ok_or(WRONG_FIELDS)?;
+            // "CREATED carries the new number in PID."
+            Ok(Done { pid: create(state, memory, asked.host, size)?, string: 0 })
+        }
         _ => {
             let process = named(state, asked.pid)?;
             debugged_by(process, asked)?;
             run_state_fits(process, asked.cmd)?;
-            let space = space(memory, usize::from(asked.pid));
-            let string = process.obey(space, asked, string)?;
+            if asked.cmd == DESTROY_PROCESS {
+                destroy(state, memory, usize::from(asked.pid));
+                return Ok(Done { pid: asked.pid, string: 0 });
+            }
+            let string = process.obey(&mut memory[process.place()], asked, string)?;
             Ok(Done { pid: asked.pid, string })
         }
     }
@@ -138,20 +147,6 @@ fn run_state_fits(process: &Process, cmd: u8) -> Result<(), Refusal> {
     Err(WRONG_RUN)
 }
 
-/// "CREATE: the lowest absent number; all 4,096 bytes of its memory are zero,
-/// vector zero, stopped, debugged by the asker." K2: "CREATE and a cleared record
-/// give 4,096."
-fn create(state: &mut State, memory: &mut [u8], host: u8) -> Result<Done, Refusal> {
-    // 13: "all eight processes are there"
-    let Some(p) = state.processes.iter().position(|process| !process.there) else {
-        return Err(ALL_THERE);
-    };
-    space(memory, p).fill(0);
-    state.processes[p] = Process { there: true, host, run: Run::Stopped, ..CLEARED };
-    // "CREATED carries the new number in PID."
-    Ok(Done { pid: p as u8, string: 0 })
-}
-
 impl Process {
     /// What a request to this process does once tests 7, 8 and 9 are passed;
     /// the length of the reply's string.
@@ -174,10 +169,8 @@ impl Process {
             BREAK => self.set_breakpoint(space, asked)?,
             UNBREAK => self.clear_breakpoint(space, asked)?,
             SINGLE_STEP => self.single_step(space),
-            PROCEED_BPT => self.proceed(space),
-            // "DESTROY: the process is absent, its record cleared; memory bytes
-            // stay."
-            _ => *self = CLEARED,
+            // 11 PROCEED BPT, the last of those that change one process alone
+            _ => self.proceed(space),
         }
         Ok(0)
     }

@@ -12,8 +12,11 @@ pub struct Gateway {
 /// A byte that no case writes, to see which bytes are touched.
 pub const UNTOUCHED: u8 = 0xa5;
 
-/// Sizes of eight processes as large as there are.
+/// Sizes of processes as large as there are: four of them have room.
 pub const FULL: [u16; PROCESSES] = [LARGEST; PROCESSES];
+
+/// K9: "P11's eight have 2,048 bytes each."
+pub const EIGHT: [u16; PROCESSES] = [2048; PROCESSES];
 
 /// K2: "The cheap gateway's feed process has 1,536 bytes"
 pub const FEED: u16 = 1536;
@@ -38,7 +41,7 @@ impl Gateway {
         gateway
     }
 
-    /// The feed process alone, as process 2, debugged by host 5. No byte of its slot
+    /// The feed process alone, as process 2, debugged by host 5. No byte of the memory
     /// is zero.
     pub fn feed() -> Gateway {
         let mut gateway = Gateway::with_sizes(1 << 2, &[FEED; PROCESSES]);
@@ -75,12 +78,12 @@ impl Gateway {
 
     /// The two bytes that memory holds at an address of process 2.
     pub fn held(&self, address: usize) -> [u8; 2] {
-        let at = 2 * SPACE + address;
+        let at = self.state.processes[2].place().start + address;
         [self.memory[at], self.memory[at + 1]]
     }
 
     pub fn store(&mut self, address: usize, bytes: [u8; 2]) {
-        let at = 2 * SPACE + address;
+        let at = self.state.processes[2].place().start + address;
         self.memory[at..at + 2].copy_from_slice(&bytes);
     }
 }

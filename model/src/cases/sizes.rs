@@ -53,7 +53,7 @@ fn k2_a_process_of_two_bytes() {
 }
 
 #[test]
-fn k2_create_and_a_cleared_record_give_4096() {
+fn k2_a_cleared_record_gives_4096() {
     let mut g = Gateway::feed();
     assert_eq!(g.ask(5, DESTROY_PROCESS, 2, 0, 0, &[]), 10);
     assert_eq!(*g.process(), CLEARED);
@@ -62,8 +62,8 @@ fn k2_create_and_a_cleared_record_give_4096() {
     g.state.processes[0].size = FEED;
     assert_eq!(g.ask(5, CREATE_PROCESS, 0, 0, 0, &[]), 10);
     assert_eq!(g.state.processes[0].size, 4096);
-    assert!(g.memory[..SPACE].iter().all(|&b| b == 0));
-    assert_eq!(g.memory[SPACE], 77);
+    assert!(g.memory[..4096].iter().all(|&b| b == 0));
+    assert_eq!(g.memory[4096], 77);
     assert_eq!(g.ask(5, EXAMINE, 0, 4092, 4, &[]), 14);
 }
 
@@ -114,14 +114,4 @@ fn k2_a_fresh_start_with_bad_sizes() {
     let mut state = [9; STATE_BYTES];
     assert_eq!(fresh_start_bytes(0, &[], &mut state), -1);
     assert_eq!(fresh_start_bytes(256, &[2; 9], &mut state), -1);
-}
-
-/// "Slots stay 4,096 bytes apart."
-#[test]
-fn k2_slots_stay_apart() {
-    let mut g = Gateway::with_sizes(0b111, &[2, 4, FEED, 2, 2, 2, 2, 2]);
-    g.store(0, [1, 2]);
-    g.ask(5, DEBUG, 2, 0, 0, &[]);
-    assert_eq!(g.ask(5, EXAMINE, 2, 0, 2, &[]), 12);
-    assert_eq!(g.written(12)[10..], [1, 2]);
 }
