@@ -93,10 +93,24 @@ fn changed(call: &Call, after: &Side) -> Option<usize> {
     }
 }
 
-/// What K9 says of every granted request and report, should both sides break it.
+/// What K9 says of every granted call on a state, should both sides break it.
 pub fn broken_layout(call: &Call, before: &Side, after: &Side) -> Option<&'static str> {
-    let (Call::Request { .. } | Call::Report { .. }) = call else { return None };
-    let (old, new) = (decode(before.state.bytes())?, decode(after.state.bytes())?);
+    let new = decode(after.state.bytes())?;
+    match call {
+        Call::FreshStart { .. } => broken_start(&new),
+        Call::Request { .. } | Call::Report { .. } => broken_call(call, before, after, &new),
+        _ => None,
+    }
+}
+
+/// "at fresh start in number order"; an absent one begins at 0.
+fn broken_start(new: &State) -> Option<&'static str> {
+    let begun = new.processes.iter().any(|process| !process.there && process.begin != 0);
+    (begun || out_of_order(new)).then_some("both: a fresh start does not lie in number order")
+}
+
+fn broken_call(call: &Call, before: &Side, after: &Side, new: &State) -> Option<&'static str> {
+    let old = decode(before.state.bytes())?;
     let (old_memory, new_memory) = (before.memory.bytes(), after.memory.bytes());
     let changed = changed(call, after);
     for p in (0..PROCESSES).filter(|&p| Some(p) != changed) {
@@ -109,7 +123,7 @@ pub fn broken_layout(call: &Call, before: &Side, after: &Side) -> Option<&'stati
             return Some("both: another process's bytes are changed");
         }
     }
-    let (was_used, is_used) = (used_bytes(&old), used_bytes(&new));
+    let (was_used, is_used) = (used_bytes(&old), used_bytes(new));
     if is_used != expected(call, &old, was_used) {
         return Some("both: free bytes and sizes do not make 16,384");
     }

@@ -236,7 +236,7 @@ impl Sweep<'_> {
 
     /// Each length of each buffer.
     fn lengths(&mut self) -> Result<(), String> {
-        for length in 0..=MEMORY + 16_384 {
+        for length in 0..=MEMORY + 32_768 {
             self.pair.change(|side| side.memory = side.memory.resized(length));
             self.make(&to(EXAMINE, 0, 4, 0))?;
             self.back();

@@ -117,6 +117,30 @@ pub const WRONG_LAYOUT: &[Wrong] = &[
         name: "an absent process has to begin inside the memory",
         answer: |made| unsound_too(made, |state| absent(state, |begin| begin > 16_384)),
     },
+    // begins that are not used
+    Wrong {
+        name: "the begin of process 7 is not written",
+        answer: |mut made| match made.byte(4) {
+            Some(cmd @ (CREATE_PROCESS | DESTROY_PROCESS)) => {
+                after(made, cmd, |c| c.new.processes[7].begin = c.old.processes[7].begin)
+            }
+            _ => made.right(),
+        },
+    },
+    Wrong {
+        name: "EXAMINE looks from 4,096 x p on",
+        answer: |mut made| {
+            let answer = made.right();
+            if let (Made::Request { memory, message, reply, .. }, 11..) = (made, answer) {
+                let p = usize::from(message[5]);
+                let first = 4096 * p + usize::from(u16::from_be_bytes([message[6], message[7]]));
+                let bytes = memory.get(first..).unwrap_or(&[]);
+                let count = (answer as usize - HEAD).min(bytes.len());
+                reply[HEAD..HEAD + count].copy_from_slice(&bytes[..count]);
+            }
+            answer
+        },
+    },
     // what a DESTROY does to memory
     Wrong {
         name: "DESTROY zeroes nothing",
