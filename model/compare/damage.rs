@@ -36,8 +36,8 @@ const DAMAGES: [(usize, Damage); 22] = [
     (1, one_more_breakpoint),
 ];
 
-/// Of these, the first so many touch the layout, and it is left as they leave it.
-const OF_THE_LAYOUT: usize = 8;
+/// The first so many of these touch the layout, and it is left as they leave it.
+const LAYOUT_DAMAGES: usize = 8;
 
 /// Wrong lengths of a state's bytes. Without the begins there would be 696.
 pub const STATE_LENGTHS: [usize; 8] = [0, 1, 87, 680, 696, 711, 713, 1424];
@@ -50,7 +50,7 @@ pub fn damage_state(random: &mut Random, state: &mut Vec<u8>) {
     }
     let kind = random.weighted(&DAMAGES.map(|(weight, _)| weight));
     DAMAGES[kind].1(random, state);
-    if kind >= OF_THE_LAYOUT && !random.one_in(8) {
+    if kind >= LAYOUT_DAMAGES && !random.one_in(8) {
         change(state, close_gaps);
     }
 }

@@ -80,6 +80,13 @@ pub fn last_word(process: &Process) -> Option<u16> {
 
 // ---------------------------------------------------------------- what calls may change
 
+/// Whether a call on a state came past test 2 though the layout is not sound.
+pub fn accepted_fault(call: &Call, answer: i64, before: &Side) -> bool {
+    let on_state = matches!(call, Call::Request { .. } | Call::Report { .. });
+    let tested = on_state && !matches!(-answer, WRONG_BUFFER | NOT_SOUND);
+    tested && decode(before.state.bytes()).is_some_and(|state| fault(&state).is_some())
+}
+
 /// The process that a granted call changes, if any.
 fn changed(call: &Call, after: &Side) -> Option<usize> {
     match call {

@@ -2,7 +2,7 @@
 //! call took each of them.
 
 use crate::about::{has_bytes, old, About};
-use crate::passages_layout::OF_THE_LAYOUT;
+use crate::passages_layout::LAYOUT_PASSAGES;
 use crate::sides::Call;
 use model::*;
 
@@ -177,7 +177,7 @@ const PASSAGES: &[Passage] = &[
 
 /// Every passage, in the order in which they are counted.
 fn every() -> impl Iterator<Item = &'static Passage> {
-    PASSAGES.iter().chain(OF_THE_LAYOUT)
+    PASSAGES.iter().chain(LAYOUT_PASSAGES)
 }
 
 /// The passages whose test holds before a call.

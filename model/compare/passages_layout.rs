@@ -2,16 +2,17 @@
 
 use crate::layout::out_of_order;
 use crate::passages::{damaged, granted, refused, Passage};
+use crate::sizes::SIZES;
 use model::*;
 
-pub const OF_THE_LAYOUT: &[Passage] = &[
+pub const LAYOUT_PASSAGES: &[Passage] = &[
     // the sizes of CREATE
     granted("CREATE of 0", |a| a.is(CREATE_PROCESS) && a.first == 0),
     granted("CREATE of 2", |a| a.is(CREATE_PROCESS) && a.first == 2),
     granted("CREATE of 4,094", |a| a.is(CREATE_PROCESS) && a.first == 4094),
     granted("CREATE of 4,096", |a| a.is(CREATE_PROCESS) && a.first == 4096),
-    granted("CREATE of a size between", |a| {
-        a.is(CREATE_PROCESS) && (600..4000).contains(&a.first) && a.first / 2 != 767
+    granted("CREATE of a size over 1,024 that is in no list", |a| {
+        a.is(CREATE_PROCESS) && a.first > 1024 && !SIZES.contains(&(a.first as u16))
     }),
     refused(WRONG_FIELDS, "CREATE of an odd size", |a| {
         a.is(CREATE_PROCESS) && a.first % 2 == 1 && a.first < 4096 && a.rest_is_right()

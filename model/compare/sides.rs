@@ -1,7 +1,7 @@
 //! A call made by the model and by the library, each on buffers of its own, and
 //! the comparison of all that they leave. The fuzzer uses this too.
 
-use crate::layout::broken_layout;
+use crate::layout::{accepted_fault, broken_layout};
 use crate::library::*;
 use crate::stack::on_painted;
 use model::*;
@@ -284,6 +284,9 @@ fn broken_rule(call: &Call, answer: i64, before: &Side, after: &Side) -> Option<
     let on_state = !matches!(call, Call::Write { .. } | Call::Read { .. });
     if !refused && on_state && !is_sound(after.state.bytes()) {
         return Some("both: the state is not sound after a granted call");
+    }
+    if accepted_fault(call, answer, before) {
+        return Some("both: a layout that is not sound is accepted");
     }
     if refused {
         return None;

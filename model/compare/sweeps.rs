@@ -179,11 +179,11 @@ impl Sweep<'_> {
         Ok(())
     }
 
-    /// Each begin of a process that lies first, between others and last, and of an absent
-    /// one; before a call that looks, one that moves it and one that gives it another.
+    /// Each begin of each process that is there, before a call that looks; and of the
+    /// absent one, before that, a DESTROY, which leaves it, and a CREATE.
     fn begins(&mut self) -> Result<(), String> {
         for n in 0..=u16::MAX {
-            for p in [0, P, 6] {
+            for p in 0..7 {
                 self.put_begin(p, n);
                 self.apart(to(EXAMINE, 0, 2, 0))?;
             }

@@ -6,7 +6,7 @@ use crate::damage::STATE_LENGTHS;
 use crate::layout::last_word;
 use crate::sides::{Call, Lent, Side};
 use crate::sizes::SIZES;
-use crate::values_layout::OF_THE_LAYOUT;
+use crate::values_layout::LAYOUT_VALUES;
 use model::*;
 
 /// A value of one kind, met in a call that got this answer: 0 for granted, or the
@@ -278,7 +278,7 @@ fn wide(call: &Call, field: usize) -> bool {
 
 /// Every value, in the order in which they are counted.
 fn every() -> impl Iterator<Item = &'static Value> {
-    VALUES.iter().chain(OF_THE_LAYOUT)
+    VALUES.iter().chain(LAYOUT_VALUES)
 }
 
 /// How often each value was met, and each buffer at each offset modulo 8.

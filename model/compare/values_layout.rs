@@ -5,7 +5,7 @@ use crate::sides::{Call, Side};
 use crate::values::{on_state, starts, value, Value};
 use model::*;
 
-pub const OF_THE_LAYOUT: &[Value] = &[
+pub const LAYOUT_VALUES: &[Value] = &[
     // the layout of a state, being all that is not sound
     value(NOT_SOUND, "state, the lowest process not at byte 0", |c, s| {
         unsound(c, s, Fault::NotAtZero)

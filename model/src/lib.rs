@@ -30,7 +30,7 @@ use requests::{fields_fit, named, Asked};
 
 /// "processes 0 to 7, each there or not"
 pub const PROCESSES: usize = 8;
-/// K2: "a cleared record give[s] 4,096"; K9: "up to 4,096, 0 meaning 4,096"
+/// K2: "a size, even, 2 to 4,096"; K9: "up to 4,096, 0 meaning 4,096"
 pub const LARGEST: u16 = 4096;
 /// K2: "a size, even, 2 to 4,096"
 pub const SMALLEST: u16 = 2;
