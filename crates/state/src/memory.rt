@@ -1,8 +1,8 @@
 // The one memory that all processes lie in.
 ghost use mathlib.Core.Path.{_≡_};
-ghost use Prim.Native.Nat.{_+_, _-_, _≤_};
+ghost use Prim.Native.Nat.{_+_, _≤_};
 ghost use lib.ListN.{length, replicate};
-ghost use Rattle.state.specs.Layout.{slot, withSlot, closed};
+ghost use Rattle.state.specs.Layout.{lowered, closed};
 
 // How many bytes of memory are lent.
 pub const CAPACITY: usize = 16384;
@@ -19,7 +19,7 @@ pub fn close(memory: &mut [u8], start: usize, count: usize, end: usize)
 // Moves the bytes above a gap of `count` bytes, up to `end`, down over it, each once.
 fn move_down(memory: &mut [u8], start: usize, count: usize, end: usize)
     requires { ⌜ (start + count ≤ end) × (end ≤ length (now memory)) ⌝ }
-    ensures { λ _. ⌜ now (memory .exit) ≡ withSlot start (slot (start + count) (end - (start + count)) (now (memory .entry))) (now (memory .entry)) ⌝ }
+    ensures { λ _. ⌜ now (memory .exit) ≡ lowered start count end (now (memory .entry)) ⌝ }
 {
     let last = end - count;
     let mut i = start;

@@ -1,42 +1,38 @@
+-- `state::memory::close` meets its contract: the bytes above move down, and then the lent part before `end` is zeroed. Assumes nothing.
 use borrow.Author.Needs.{needs}
+use Rattle.state.proofs.MemoryLaws.{closed-part}
 use Rattle.state.proofs.memory.close.Statement.{statement}
 use Rattle.state.proofs.memory.close.Tie as tie
-use Rattle.state.proofs.memory.close.Reads as reads
-use Rattle.state.proofs.memory.close.Lts as lts
-use Rattle.state.proofs.memory.move_down.Reads as move-down-reads
-use Rattle.state.proofs.memory.zero.Reads as zero-reads
 
--- src/memory.rt:15:5
 move-down-requires : tie.Need-move-down-requires
 move-down-requires c κs = search needs
 
--- src/memory.rt:16:22
 sub-zero : tie.Need-sub-zero
 sub-zero c = search needs
 
--- src/memory.rt:16:10
 sub-zero-2 : tie.Need-sub-zero-2
 sub-zero-2 c = search needs
 
--- src/memory.rt:16:10
 part-zero-start : tie.Need-part-zero-start
 part-zero-start c = search needs
 
--- src/memory.rt:16:10
 part-zero-end : tie.Need-part-zero-end
 part-zero-end c = search needs
 
--- src/memory.rt:16:5
 zero-requires : tie.Need-zero-requires
 zero-requires c κs = search needs
 
--- src/memory.rt:11:1
 same-length : tie.Need-same-length
 same-length c = search needs
 
--- src/memory.rt:11:1
 returns : tie.Need-returns
-returns c = ?
+returns c =
+    let down = c .before .before .before .before .before .before in
+    let start = down .before .before .before in
+    let a = start .args in
+    closed-part (a .start) (a .count) (a .end) (a .memory .now) (start .pre .0) (start .pre .1) (down .move-down .last .0) (c .before .before .zero .last .0)
+    (down .move-down .ensures)
+    (c .before .before .zero .ensures)
 
 pub close-spec : {M : Type 1} → statement M
 close-spec =
