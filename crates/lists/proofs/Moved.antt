@@ -1,5 +1,5 @@
 -- Elements that a loop moves down over a gap, one after the other. Assumes nothing.
-use mathlib.Core.Path.{_≡_, refl, _∙_}
+use mathlib.Core.Path.{_≡_, refl, ap, _∙_}
 use mathlib.Core.List.{List}
 use mathlib.Core.Logic.{⊎-elim}
 use Prim.Native.Nat.{ℕ, _+_, _≤_, _<_}
@@ -18,13 +18,13 @@ pub record Moved (at n i : ℕ) (m k : List ℕ) : Type 0 where
 pub moved-none : (at n : ℕ) (m : List ℕ) → Moved at n at m m
 moved-none at n m = record { size = refl; low = λ j h. refl; down = λ j h i. absurd (omega (arith, h, i)); high = λ j h. refl }
 
--- a turn of the loop
-pub moved-more : (at n i : ℕ) (m k : List ℕ) → at ≤ i → i < length k → Moved at n i m k → Moved at n (i + 1) m (set k i (getD k (i + n) 0))
-moved-more at n i m k h l v = record {
-  size = length-set k i (getD k (i + n) 0) ∙ v .size;
+-- a turn of the loop, which reads at index f
+pub moved-more : (at n i f : ℕ) (m k : List ℕ) → f ≡ i + n → at ≤ i → i < length k → Moved at n i m k → Moved at n (i + 1) m (set k i (getD k f 0))
+moved-more at n i f m k from h l v = record {
+  size = length-set k i (getD k f 0) ∙ v .size;
   low = λ j g. getD-set-other k i j _ 0 (λ e. omega (arith, e, g, h)) ∙ v .low j g;
   down = λ j g b.
-      ⊎-elim (λ (e : j ≡ i). rw e (getD-set-same k i (getD k (i + n) 0) 0 l ∙ v .high (i + n) (omega arith)))
+      ⊎-elim (λ (e : j ≡ i). rw e (getD-set-same k i (getD k f 0) 0 l ∙ v .high f (omega arith) ∙ ap (λ (x : ℕ). getD m x 0) from))
       (λ (o : j ≡ i → ⊥). getD-set-other k i j _ 0 o ∙ v .down j g (omega arith))
       (same-or-other j i);
   high = λ j g. getD-set-other k i j _ 0 (λ e. omega (arith, e, g)) ∙ v .high j (omega (arith, g));

@@ -46,7 +46,7 @@ loop-again c =
       omega (arith, v .0),
       omega arith,
       length-set (l .loop .memory) (l .loop .i) _ ∙ v .2,
-      moved-more (a .start) (a .count) (l .loop .i) (a .memory .now) (l .loop .memory) (v .0) low (v .3),
+      moved-more (a .start) (a .count) (l .loop .i) _ (a .memory .now) (l .loop .memory) (omega arith) (v .0) low (v .3),
     )
 
 same-length : tie.Need-same-length Inv-loop μ-loop
