@@ -3,4 +3,5 @@ pub mod ChunkLaws
 pub mod EntryLaws
 pub mod NumberLaws
 pub mod ProcessLaws
+pub mod StartLaws
 pub mod StateLaws

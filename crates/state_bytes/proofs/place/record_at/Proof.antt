@@ -1,8 +1,8 @@
--- `state_bytes::place::process_start` meets its contract: byte p of the two tables is the low and the high byte of the start. Assumes nothing.
+-- `state_bytes::place::record_at` meets its contract: byte p of the two tables is the low and the high byte of the start. Assumes nothing.
 use borrow.Author.Needs.{needs}
 use Rattle.state_bytes.proofs.StateLaws.{start-at}
-use Rattle.state_bytes.proofs.place.process_start.Statement.{statement}
-use Rattle.state_bytes.proofs.place.process_start.Tie as tie
+use Rattle.state_bytes.proofs.place.record_at.Statement.{statement}
+use Rattle.state_bytes.proofs.place.record_at.Tie as tie
 
 array-read-word-of : tie.Need-array-read-word-of
 array-read-word-of c = search needs
@@ -19,5 +19,5 @@ cast-result c = search needs
 returns : tie.Need-returns
 returns c = start-at (c .before .args .p) (c .word-of .result) (c .before .pre) (c .word-of .ensures)
 
-pub process-start-spec : {M : Type 1} → statement M
-process-start-spec = tie.close (tie.spec array-read-word-of array-read-word-of-2 word-of-requires cast-result returns)
+pub record-at-spec : {M : Type 1} → statement M
+record-at-spec = tie.close (tie.spec array-read-word-of array-read-word-of-2 word-of-requires cast-result returns)
