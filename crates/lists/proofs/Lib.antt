@@ -8,5 +8,6 @@ pub mod Joined
 pub mod MapStep
 pub mod Part
 pub mod Short
+pub mod Sum
 pub mod Word
 pub mod Zeros
