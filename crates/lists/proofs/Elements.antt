@@ -37,3 +37,19 @@ elements-step f buffer i h =
     ap (λ (n : ℕ). set (overlay (elements f i) buffer) n (f i)) (sym at)
     ∙ overlay-snoc (elements f i) buffer (f i) (omega arith)
     ∙ ap (λ (xs : List ℕ). overlay xs buffer) (sym (elements-snoc f i) ∙ ap (elements f) (sym (add-one i)))
+
+-- another element in place of one
+pub set-elements : (f : ℕ → ℕ) (n p a : ℕ) → p < n → set (elements f n) p a ≡ elements (λ (k : ℕ). cond (eqb k p) a (f k)) n
+set-elements f n p a h =
+    let g : ℕ → ℕ = λ k. cond (eqb k p) a (f k) in
+    ext-getD 0 (set (elements f n) p a) (elements g n) (length-set (elements f n) p a ∙ length-elements f n ∙ sym (length-elements g n))
+    (λ k low. each k (omega (arith, low, length-set (elements f n) p a, length-elements f n)))
+  where
+    each : (k : ℕ) → k < n → getD (set (elements f n) p a) k 0 ≡ getD (elements (λ (i : ℕ). cond (eqb i p) a (f i)) n) k 0
+    each k low = ⊎-elim (here k low) (other k low) (same-or-other k p)
+      where
+        here : (k : ℕ) → k < n → k ≡ p → getD (set (elements f n) p a) k 0 ≡ getD (elements (λ (i : ℕ). cond (eqb i p) a (f i)) n) k 0
+        here k low e = rw (getD-elements (λ (i : ℕ). cond (eqb i p) a (f i)) n k low, eq-eqb k p e) (rw e (getD-set-same (elements f n) p a 0 (omega (arith, length-elements f n))))
+
+        other : (k : ℕ) → k < n → (k ≡ p → ⊥) → getD (set (elements f n) p a) k 0 ≡ getD (elements (λ (i : ℕ). cond (eqb i p) a (f i)) n) k 0
+        other k low o = rw (getD-elements (λ (i : ℕ). cond (eqb i p) a (f i)) n k low, ne-eqb k p o) (getD-set-other (elements f n) p k a 0 o ∙ getD-elements f n k low)

@@ -73,7 +73,7 @@ put-start-at m p start h long =
     let at = startsAt + p + p in
     let place : startsAt + startWidth * p ≡ at = omega arith in
     let both = sets-eq (u16LeBytes start) m at (omega (arith, long)) in
-    rw (place, add-one at, drop-drop startWidth at m) both
+    rw (place, add-one at, drop-drop startWidth at m) (both ∙ append-assoc (take at m) (u16LeBytes start) (drop (at + startWidth) m))
 
 -- ---- all starts
 

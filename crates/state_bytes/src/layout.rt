@@ -1,5 +1,6 @@
 // How the processes lie in memory, by their sizes and starts.
 use crate::place::is_there;
+use crate::place::read_extent_at;
 use crate::process_form::read_extent;
 use crate::starts::read_start;
 use crate::widths::PROCESS_BYTES;
@@ -11,6 +12,7 @@ ghost use Prim.Native.Nat.{_≤_, _<_};
 ghost use lib.ListN.{length};
 ghost use Rattle.lists.specs.Every.{below};
 ghost use Rattle.state.specs.Layout.{used, usedBefore, startIsUnique, placed, laidOut};
+ghost use Rattle.state_bytes.specs.Layout.{extentBefore, beginsAt};
 ghost use Rattle.state_bytes.specs.State.{stateOf};
 ghost use Rattle.state_bytes.specs.Widths.{processCount, stateWidth};
 
@@ -29,23 +31,42 @@ pub fn used_bytes(state: &[u8]) -> usize
     used
 }
 
+// The bytes of process q, if it begins before this index.
+fn extent_before(state: &[u8], start: u16, q: usize) -> u16
+    requires { ⌜ q < processCount ⌝ }
+    requires { ⌜ stateWidth ≤ length (now state) ⌝ }
+    ensures { λ r. ⌜ r ≡ extentBefore (stateOf (now (state .entry))) start q ⌝ }
+{
+    if read_start(state, q) < start {
+        return read_extent_at(state, q);
+    }
+    0
+}
+
 // The sizes of the processes that begin before this index, together.
 fn used_before(state: &[u8], start: u16) -> usize
     requires { ⌜ stateWidth ≤ length (now state) ⌝ }
     ensures { λ r. ⌜ r ≡ usedBefore start (stateOf (now (state .entry))) ⌝ }
 {
     let mut used = 0;
-    let mut at = 0;
     let mut q = 0;
     while q < PROCESS_COUNT {
-        let end = at + PROCESS_BYTES;
-        if read_start(state, q) < start {
-            used += read_extent(&state[at..end]) as usize;
-        }
-        at = end;
+        used += extent_before(state, start, q) as usize;
         q += 1;
     }
     used
+}
+
+// Process q is there and begins at this index.
+fn begins_at(state: &[u8], start: u16, q: usize) -> bool
+    requires { ⌜ q < processCount ⌝ }
+    requires { ⌜ stateWidth ≤ length (now state) ⌝ }
+    ensures { λ r. ⌜ r ≡ beginsAt (stateOf (now (state .entry))) start q ⌝ }
+{
+    if read_start(state, q) == start {
+        return is_there(state, q);
+    }
+    false
 }
 
 // No process with a lower number begins where p does.
@@ -57,7 +78,7 @@ fn start_is_unique(state: &[u8], p: usize) -> bool
     let start = read_start(state, p);
     let mut q = 0;
     while q < p {
-        if read_start(state, q) == start && is_there(state, q) {
+        if begins_at(state, start, q) {
             return false;
         }
         q += 1;

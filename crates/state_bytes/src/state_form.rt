@@ -7,7 +7,7 @@ use process::Process;
 use run_state::Run;
 use state::size_of;
 ghost use mathlib.Core.Path.{_≡_};
-ghost use mathlib.Core.Bool.{true};
+ghost use mathlib.Core.Bool.{true, cond};
 ghost use lib.ListN.{length};
 ghost use Rattle.lists.specs.Buffer.{overlay};
 ghost use Rattle.lists.specs.Joined.{joined};
@@ -41,6 +41,13 @@ fn put_fresh_processes(there: [bool; 8], sizes: [u16; 8], state: &mut [u8])
     }
 }
 
+// The start or the size of a process that is there, and 0 of an absent one.
+fn if_there(there: bool, number: u16) -> u16
+    ensures { λ r. ⌜ r ≡ cond there «number» 0 ⌝ }
+{
+    if there { number } else { 0 }
+}
+
 // Writes where each process begins at a fresh start: in number order, each where the one before it ends.
 fn put_fresh_starts(there: [bool; 8], sizes: [u16; 8], state: &mut [u8])
     requires { ⌜ sizesRight there sizes ≡ true ⌝ }
@@ -50,12 +57,8 @@ fn put_fresh_starts(there: [bool; 8], sizes: [u16; 8], state: &mut [u8])
     let mut p = 0;
     let mut start = 0;
     while p < PROCESS_COUNT {
-        if there[p] {
-            put_start(start, p, state);
-            start += size_of(sizes, p);
-        } else {
-            put_start(0, p, state);
-        }
+        put_start(if_there(there[p], start), p, state);
+        start += if_there(there[p], size_of(sizes, p));
         p += 1;
     }
 }
