@@ -1,6 +1,7 @@
 -- Laws on lists, bytes and words.
 pub mod Bool
 pub mod Buffer
+pub mod Cases
 pub mod Elements
 pub mod Every
 pub mod First

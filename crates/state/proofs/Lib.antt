@@ -1,1 +1,3 @@
 -- Laws that several proofs of this crate, and of the crates above, cite.
+pub mod RecordsLaws
+pub mod LayoutLaws
