@@ -1,6 +1,7 @@
 -- Laws that the proofs of this crate cite.
 pub mod ChunkLaws
 pub mod EntryLaws
+pub mod FreshLaws
 pub mod NumberLaws
 pub mod ProcessLaws
 pub mod StartLaws

@@ -1,21 +1,24 @@
 -- Laws of the starts in the bytes of a state: eight words after the processes. Assumes nothing.
 use mathlib.Core.Path.{_≡_, refl, sym, ap, _∙_}
-use mathlib.Core.Bool.{Bool, true}
+use mathlib.Core.Bool.{Bool, true, false, cond, _&&_}
 use mathlib.Core.List.{List, [], _∷_, _++_, append-assoc}
-use Prim.Native.Nat.{ℕ, _+_, _*_, _≤_, _<_}
+use Prim.Native.Nat.{ℕ, _+_, _-_, _*_, _≤_, _<_}
 use native.Mathlib.Numerals.{add-one}
 use native.Mathlib.Omega.{arith}
+use borrow.Author.Tests.{lt-ltb, le-ltb}
 use lib.ListN.{length, take, drop, getD, set, length-append, length-drop, take-append-drop}
-use lib.Seq.{take-at, drop-at, length-take-le, take-append-add, drop-append-add, getD-take, getD-drop, drop-drop, sets-eq}
+use lib.Seq.{drop-at, length-take-le, take-append-add, drop-append-add, getD-append-add, getD-take, getD-drop, drop-drop, sets-eq}
 use Rattle.lists.specs.Buffer.{Bytes, overlay}
 use Rattle.lists.specs.Elements.{elements}
 use Rattle.lists.specs.Joined.{joined}
 use Rattle.lists.specs.Word.{high, low, word}
-use Rattle.lists.proofs.Buffer.{length-overlay}
-use Rattle.lists.proofs.Elements.{length-elements, elements-step}
+use Rattle.lists.proofs.Buffer.{length-overlay, overlay-all}
+use Rattle.lists.proofs.Elements.{length-elements, elements-step, set-elements}
 use Rattle.lists.proofs.Word.{word-high-low, high-word, low-word}
-use Rattle.state.specs.Records.{Records, startOf}
+use Rattle.state.specs.Records.{Records, processAt, startOf}
+use Rattle.state.specs.Layout.{extentAt, startWithout, startsWithout}
 use Rattle.state_bytes.specs.Chunk.{chunks, everyChunk}
+use Rattle.state_bytes.specs.Layout.{startLowered}
 use Rattle.state_bytes.specs.Number.{u16Le, u16LeBytes}
 use Rattle.state_bytes.specs.Process.{processOf}
 use Rattle.state_bytes.specs.State.{startsBytes, startsOf, stateOf, withStartBytes, withStartsBytes}
@@ -127,3 +130,79 @@ module _ (f : ℕ → ℕ) (m : List ℕ) (long : length m ≡ stateWidth) where
   written-more k h =
       put-with-starts (overlay (elements f k) (stateOf m .starts)) (eight-written k (omega arith)) m long k (f k) h
       ∙ ap (λ (s : List ℕ). withStartsBytes s m) (elements-step f (stateOf m .starts) k (omega (arith, eight-starts m)))
+
+  -- meanwhile every process is read as before, and every start that is not written yet
+  pub unwritten : (k : ℕ) → k < processCount
+      → (processAt (stateOf (written k)) k ≡ processAt (stateOf m) k) × (startOf (stateOf (written k)) k ≡ startOf (stateOf m) k)
+  unfolding overlay
+  unwritten k h =
+      let read = read-with-starts (overlay (elements f k) (stateOf m .starts)) (eight-written k (omega arith)) m long in
+      let here : k ≡ length (elements f k) + 0 = omega (arith, length-elements f k) in
+      let rest : drop (length (elements f k)) (stateOf m .starts) ≡ drop k (stateOf m .starts) = rw (length-elements f k) in
+      (ap (λ (g : Records). processAt g k) read,
+      ap (λ (g : Records). startOf g k) read
+      ∙ ap (λ (n : ℕ). getD (elements f k ++ drop (length (elements f k)) (stateOf m .starts)) n 0) here
+      ∙ getD-append-add (elements f k) (drop (length (elements f k)) (stateOf m .starts)) 0 0
+      ∙ ap (λ (l : List ℕ). getD l 0 0) rest
+      ∙ getD-drop k (stateOf m .starts) 0 0
+      ∙ ap (λ (n : ℕ). getD (stateOf m .starts) n 0) (plus-zero k))
+    where
+      plus-zero : (k : ℕ) → k + 0 ≡ k
+      plus-zero k = omega arith
+
+  -- all are written
+  pub written-all : written processCount ≡ withStartsBytes (elements f processCount) m
+  written-all = ap (λ (s : List ℕ). withStartsBytes s m) (overlay-all (elements f processCount) (stateOf m .starts) (omega (arith, length-elements f processCount, eight-starts m)))
+
+-- ---- where a process begins once so many bytes are taken out at a start
+
+module _ (g : Records) (start count q own : ℕ) (e : own ≡ startOf g q) where
+  pub lowered-below : own ≤ start → own ≡ startLowered g start count q
+  unfolding startLowered
+  lowered-below h = rw (le-ltb start (startOf g q) (omega arith)) (go (processAt g q .there))
+    where
+      go : (t : Bool) → own ≡ cond (t && false) (startOf g q - count) (startOf g q)
+      go true = e
+      go false = e
+
+  pub lowered-absent : processAt g q .there ≡ false → own ≡ startLowered g start count q
+  unfolding startLowered
+  lowered-absent absent = rw absent e
+
+  pub lowered-above : processAt g q .there ≡ true → start < own → (r : ℕ) → r ≡ own - count → r ≡ startLowered g start count q
+  unfolding startLowered
+  lowered-above there h r i = rw (there, lt-ltb start (startOf g q) (omega arith)) (omega arith)
+
+-- ---- the starts once p is gone
+
+module _ (m : List ℕ) (long : length m ≡ stateWidth) (start count : ℕ) where
+  abbrev lowered : ℕ → ℕ
+  lowered q = startLowered (stateOf m) start count q
+
+  lowered-same : (k : ℕ) → k < processCount → startLowered (stateOf (written lowered m long k)) start count k ≡ lowered k
+  unfolding startLowered
+  lowered-same k h = let same = unwritten lowered m long k h in rw (same .0, same .1)
+
+  -- a turn of the loop
+  pub lowered-more : (k r : ℕ) (now last : List ℕ) → k < processCount → now ≡ written lowered m long k → r ≡ startLowered (stateOf now) start count k
+      → last ≡ withStartBytes k r now → last ≡ written lowered m long (k + 1)
+  lowered-more k r now last h e i l =
+      let one : r ≡ lowered k = (rw e at i) ∙ lowered-same k h in
+      l ∙ rw (one, e) (written-more lowered m long k h)
+
+  pub length-lowered : (k : ℕ) → k ≤ processCount → length (written lowered m long k) ≡ stateWidth
+  length-lowered k h = length-with-starts (overlay (elements lowered k) (stateOf m .starts)) (eight-written lowered m long k h) m long
+
+  -- once all are written
+  pub lowered-all : (p : ℕ) → p < processCount → start ≡ startOf (stateOf m) p → count ≡ extentAt (stateOf m) p
+      → withStartBytes p 0 (written lowered m long processCount) ≡ withStartsBytes (startsWithout p (stateOf m)) m
+  unfolding startsWithout startWithout startLowered
+  lowered-all p low e i =
+      ap (withStartBytes p 0) (written-all lowered m long)
+      ∙ put-with-starts (elements lowered processCount) (length-elements lowered processCount) m long p 0 low
+      ∙ ap (λ (s : List ℕ). withStartsBytes s m) (set-elements lowered processCount p 0 low)
+      ∙ rw (e, i)
+
+pub length-without : (m : List ℕ) → length m ≡ stateWidth → (p : ℕ) → length (withStartsBytes (startsWithout p (stateOf m)) m) ≡ stateWidth
+unfolding startsWithout
+length-without m long p = length-with-starts (elements (startWithout (stateOf m) p) processCount) (length-elements (startWithout (stateOf m) p) processCount) m long

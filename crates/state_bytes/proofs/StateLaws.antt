@@ -6,7 +6,7 @@ use Prim.Native.Nat.{ℕ, suc, _+_, _-_, _*_, _/_, _%_, _≤_, _<_}
 use native.Mathlib.Omega.{arith}
 use borrow.Author.Tests.{eqb-true, eq-eqb, ne-eqb}
 use lib.ListN.{length, take, drop, getD, set, length-append, length-drop, take-append-drop}
-use lib.Seq.{length-take-le, drop-at, take-append-le, drop-append-le, getD-take, getD-drop}
+use lib.Seq.{length-take-le, take-at, drop-at, take-append-le, drop-append-le, getD-take, getD-drop}
 use lib.Dec.{eqb}
 use Rattle.lists.specs.Buffer.{Bytes, overlay}
 use Rattle.lists.specs.Elements.{elements}
@@ -24,6 +24,7 @@ use Rattle.process.specs.Local.{extent}
 use Rattle.process.specs.Sound.{soundTest as soundProcess}
 use Rattle.state.specs.Records.{Records, nobody, processAt, withProcess, withStart}
 use Rattle.state.specs.Layout.{extentAt, laidOut}
+use Rattle.state.specs.Fresh.{freshProcesses, freshStarts, freshStart}
 use Rattle.state.specs.Sound.{recordsSound, soundTest}
 use Rattle.state_bytes.specs.Chunk.{chunks, everyChunk}
 use Rattle.state_bytes.specs.Number.{flagOf}
@@ -229,6 +230,14 @@ module _ (m : List ℕ) (b : Bytes m) (e : stateFormed m ≡ true) where
   state-new start p q h =
       state-both (set (stateOf m .starts) p start) p q h
       ∙ ap (withProcessBytes p q) (sym (put-with-starts (stateOf m .starts) (eight-starts m) m long p start h) ∙ ap (withStartBytes p start) (same-starts m b long))
+
+-- the records and then the starts, written at a fresh start
+pub fresh-bytes : (ts : List Bool) (ns m now : List ℕ) {last : List ℕ} → length (joined processBytes (freshProcesses ts ns)) ≡ startsAt
+    → now ≡ overlay (joined processBytes (freshProcesses ts ns)) m → last ≡ withStartsBytes (freshStarts 0 ts ns) now → last ≡ stateBytes (freshStart ts ns)
+unfolding withStartsBytes stateBytes freshStart overlay
+fresh-bytes ts ns m now size e l =
+    let records = joined processBytes (freshProcesses ts ns) in
+    l ∙ rw (e, take-at records (drop (length records) m) startsAt size)
 
 pub inverse : Inverse
 inverse = record {

@@ -1,51 +1,65 @@
+-- `state_bytes::layout::start_is_unique` meets its contract. The loop's invariant: none of the processes passed begins there. Assumes nothing.
+use mathlib.Core.Path.{_≡_, refl, sym, ap, _∙_}
+use mathlib.Core.Bool.{Bool, true, false, not}
+use Prim.Native.Nat.{ℕ, _-_, _≤_}
+use native.Mathlib.Omega.{arith}
+use borrow.Author.Needs.{needs}
+use Rattle.lists.specs.Every.{below}
+use Rattle.lists.proofs.Every.{below-more, below-fails}
+use Rattle.state.specs.Layout.{startIsUnique}
+use Rattle.state_bytes.specs.Layout.{beginsAt}
+use Rattle.state_bytes.specs.State.{stateOf}
 use Rattle.state_bytes.proofs.layout.start_is_unique.Statement.{statement}
 use Rattle.state_bytes.proofs.layout.start_is_unique.Tie as tie
-use Rattle.state_bytes.proofs.layout.start_is_unique.Reads as reads
-use Rattle.state_bytes.proofs.layout.start_is_unique.Lts as lts
-use Rattle.state_bytes.proofs.place.is_there.Reads as is-there-reads
-use Rattle.state_bytes.proofs.starts.read_start.Reads as read-start-reads
 
 abbrev Inv-loop : tie.InvT-loop
-Inv-loop state p start q₀ q = ?
+Inv-loop state p start q₀ q = (q ≤ p) × (below (λ (k : ℕ). not (beginsAt (stateOf state) start k)) q ≡ true)
 
 abbrev μ-loop : tie.MeasureT-loop
-μ-loop state p start q₀ q = ?
+μ-loop state p start q₀ q = p - q
 
--- src/layout.rt:57:9
 read-start-requires : tie.Need-read-start-requires Inv-loop μ-loop
-read-start-requires c κs = ?
+read-start-requires c κs = search needs
 
--- src/layout.rt:59:5
 loop-holds : tie.Need-loop-holds Inv-loop μ-loop
-loop-holds c = ?
+loop-holds c = (omega arith, refl)
 
--- src/layout.rt:60:12
-read-start-requires-2 : tie.Need-read-start-requires-2 Inv-loop μ-loop
-read-start-requires-2 c κs = ?
+begins-at-requires : tie.Need-begins-at-requires Inv-loop μ-loop
+begins-at-requires c κs = let s = c .before .before .before .before in (omega (arith, s .pre .0), s .pre .1)
 
--- src/layout.rt:60:45
-is-there-requires : tie.Need-is-there-requires Inv-loop μ-loop
-is-there-requires c κs = ?
-
--- src/layout.rt:61:13
 returns : tie.Need-returns Inv-loop μ-loop
-returns c = ?
+unfolding startIsUnique
+returns c =
+    let b = c .before in
+    let l = b .before .before in
+    let r = l .before in
+    let s = r .before .before in
+    let g = stateOf (s .args .state .now) in
+    let fails = below-fails (λ (k : ℕ). not (beginsAt g (r .read-start .result) k)) (s .args .p) (l .loop .q) (omega arith) (ap not (sym (b .begins-at .ensures) ∙ c .if1 .taken)) in
+    sym (rw (r .read-start .ensures) at fails)
 
--- src/layout.rt:63:9
 add-q : tie.Need-add-q Inv-loop μ-loop
-add-q c = ?
+add-q c = omega arith
 
--- src/layout.rt:59:5
 loop-less : tie.Need-loop-less Inv-loop μ-loop
-loop-less c = ?
+loop-less c = omega arith
 
--- src/layout.rt:59:5
 loop-again : tie.Need-loop-again Inv-loop μ-loop
-loop-again c = ?
+loop-again c =
+    let b = c .before in
+    let l = b .before .before in
+    let r = l .before in
+    let g = stateOf (r .before .before .args .state .now) in
+    (omega arith, below-more (λ (k : ℕ). not (beginsAt g (r .read-start .result) k)) (l .loop .q) (l .loop .inv .1) (ap not (sym (b .begins-at .ensures) ∙ c .if1 .left)))
 
--- src/layout.rt:52:1
 returns-2 : tie.Need-returns-2 Inv-loop μ-loop
-returns-2 c = ?
+unfolding startIsUnique
+returns-2 c =
+    let l = c .before in
+    let r = l .before in
+    let p = r .before .before .args .p in
+    let end : l .loop .q ≡ p = omega arith in
+    sym (rw (r .read-start .ensures) at (rw end at (l .loop .inv .1)))
 
 pub start-is-unique-spec : {M : Type 1} → statement M
 start-is-unique-spec =
@@ -55,8 +69,7 @@ start-is-unique-spec =
     μ-loop
     read-start-requires
     loop-holds
-    read-start-requires-2
-    is-there-requires
+    begins-at-requires
     returns
     add-q
     loop-less

@@ -1,67 +1,56 @@
+-- `state_bytes::layout::used_before` meets its contract. The loop's invariant: the sum over the processes passed. Assumes nothing.
+use mathlib.Core.Path.{_≡_, refl, sym, _∙_}
+use Prim.Native.Nat.{_+_, _-_, _*_, _≤_}
+use native.Mathlib.Numerals.{add-one}
+use native.Mathlib.Omega.{arith}
+use borrow.Author.Needs.{needs}
+use Rattle.lists.specs.Sum.{total}
+use Rattle.lists.proofs.Sum.{total-suc}
+use Rattle.state.specs.Layout.{usedBefore}
+use Rattle.state_bytes.specs.Layout.{extentBefore}
+use Rattle.state_bytes.specs.State.{stateOf}
+use Rattle.state_bytes.specs.Widths.{processCount}
 use Rattle.state_bytes.proofs.layout.used_before.Statement.{statement}
 use Rattle.state_bytes.proofs.layout.used_before.Tie as tie
-use Rattle.state_bytes.proofs.layout.used_before.Reads as reads
-use Rattle.state_bytes.proofs.layout.used_before.Lts as lts
-use Rattle.state_bytes.proofs.process_form.read_extent.Reads as read-extent-reads
-use Rattle.state_bytes.proofs.starts.read_start.Reads as read-start-reads
 
 abbrev Inv-loop : tie.InvT-loop
-Inv-loop state start used₀ at₀ q₀ used at q = ?
+Inv-loop state start used₀ q₀ used q = (q ≤ processCount) × (used ≡ total (extentBefore (stateOf state) start) q) × (used ≤ 65535 * q)
 
 abbrev μ-loop : tie.MeasureT-loop
-μ-loop state start used₀ at₀ q₀ used at q = ?
+μ-loop state start used₀ q₀ used q = processCount - q
 
--- src/layout.rt:40:5
 loop-holds : tie.Need-loop-holds Inv-loop μ-loop
-loop-holds c = ?
+unfolding total
+loop-holds c = (omega arith, refl, omega arith)
 
--- src/layout.rt:41:19
-add-end : tie.Need-add-end Inv-loop μ-loop
-add-end c = ?
+extent-before-requires : tie.Need-extent-before-requires Inv-loop μ-loop
+extent-before-requires c κs = (omega arith, c .before .before .before .pre)
 
--- src/layout.rt:42:12
-read-start-requires : tie.Need-read-start-requires Inv-loop μ-loop
-read-start-requires c κs = ?
-
--- src/layout.rt:43:33
-sub-read-extent : tie.Need-sub-read-extent Inv-loop μ-loop
-sub-read-extent c = ?
-
--- src/layout.rt:43:33
-part-read-extent-start : tie.Need-part-read-extent-start Inv-loop μ-loop
-part-read-extent-start c = ?
-
--- src/layout.rt:43:33
-part-read-extent-end : tie.Need-part-read-extent-end Inv-loop μ-loop
-part-read-extent-end c = ?
-
--- src/layout.rt:43:21
-read-extent-requires : tie.Need-read-extent-requires Inv-loop μ-loop
-read-extent-requires c κs = ?
-
--- src/layout.rt:43:21
 cast-used : tie.Need-cast-used Inv-loop μ-loop
-cast-used c = ?
+cast-used c = search needs
 
--- src/layout.rt:43:13
 add-used : tie.Need-add-used Inv-loop μ-loop
-add-used c = ?
+add-used c = omega arith
 
--- src/layout.rt:46:9
 add-q : tie.Need-add-q Inv-loop μ-loop
-add-q c = ?
+add-q c = omega arith
 
--- src/layout.rt:40:5
 loop-less : tie.Need-loop-less Inv-loop μ-loop
-loop-less c = ?
+loop-less c = omega arith
 
--- src/layout.rt:40:5
 loop-again : tie.Need-loop-again Inv-loop μ-loop
-loop-again c = ?
+loop-again c =
+    let l = c .before .before in
+    let a = l .before .before .args in
+    let q = l .loop .q in
+    (omega arith, rw (add-one q) (omega (arith, total-suc (extentBefore (stateOf (a .state .now)) (a .start)) q, c .extent-before .ensures, l .loop .inv .1)), omega arith)
 
--- src/layout.rt:33:1
 returns : tie.Need-returns Inv-loop μ-loop
-returns c = ?
+unfolding usedBefore
+returns c =
+    let l = c .before in
+    let end : l .loop .q ≡ processCount = omega arith in
+    rw end at (l .loop .inv .1)
 
 pub used-before-spec : {M : Type 1} → statement M
 used-before-spec =
@@ -70,12 +59,7 @@ used-before-spec =
     Inv-loop
     μ-loop
     loop-holds
-    add-end
-    read-start-requires
-    sub-read-extent
-    part-read-extent-start
-    part-read-extent-end
-    read-extent-requires
+    extent-before-requires
     cast-used
     add-used
     add-q

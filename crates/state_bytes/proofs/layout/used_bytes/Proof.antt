@@ -1,58 +1,72 @@
+-- `state_bytes::layout::used_bytes` meets its contract. The loop's invariant: the sum over the processes passed. Assumes nothing.
+use mathlib.Core.Path.{_≡_, refl, sym, ap, _∙_}
+use Prim.Native.Nat.{ℕ, suc, _+_, _-_, _*_, _/_, _≤_, _<_}
+use native.Mathlib.Omega.{arith}
+use borrow.Author.Needs.{needs}
+use Rattle.lists.specs.Sum.{total}
+use Rattle.lists.proofs.Sum.{total-suc}
+use Rattle.state.specs.Layout.{extentAt, used}
+use Rattle.state_bytes.specs.State.{stateOf}
+use Rattle.state_bytes.specs.Widths.{processCount, processWidth, startsAt}
+use Rattle.state_bytes.proofs.ChunkLaws.{length-piece}
+use Rattle.state_bytes.proofs.StateLaws.{extent-at}
 use Rattle.state_bytes.proofs.layout.used_bytes.Statement.{statement}
 use Rattle.state_bytes.proofs.layout.used_bytes.Tie as tie
-use Rattle.state_bytes.proofs.layout.used_bytes.Reads as reads
-use Rattle.state_bytes.proofs.layout.used_bytes.Lts as lts
-use Rattle.state_bytes.proofs.process_form.read_extent.Reads as read-extent-reads
 
 abbrev Inv-loop : tie.InvT-loop
-Inv-loop state used₀ at₀ used at = ?
+Inv-loop state used₀ at₀ used at =
+    (at ≡ processWidth * (at / processWidth)) × (at ≤ startsAt) × (used ≡ total (extentAt (stateOf state)) (at / processWidth)) × (used ≤ 65535 * (at / processWidth))
 
 abbrev μ-loop : tie.MeasureT-loop
-μ-loop state used₀ at₀ used at = ?
+μ-loop state used₀ at₀ used at = startsAt - at
 
--- src/layout.rt:24:5
 loop-holds : tie.Need-loop-holds Inv-loop μ-loop
-loop-holds c = ?
+unfolding total
+loop-holds c = (refl, omega arith, refl, omega arith)
 
--- src/layout.rt:25:19
 add-end : tie.Need-add-end Inv-loop μ-loop
-add-end c = ?
+add-end c = omega arith
 
--- src/layout.rt:26:29
 sub-read-extent : tie.Need-sub-read-extent Inv-loop μ-loop
-sub-read-extent c = ?
+sub-read-extent c = omega arith
 
--- src/layout.rt:26:29
 part-read-extent-start : tie.Need-part-read-extent-start Inv-loop μ-loop
-part-read-extent-start c = ?
+part-read-extent-start c = search needs
 
--- src/layout.rt:26:29
 part-read-extent-end : tie.Need-part-read-extent-end Inv-loop μ-loop
-part-read-extent-end c = ?
+part-read-extent-end c = let l = c .before in omega (arith, l .loop .inv .0, l .before .before .pre)
 
--- src/layout.rt:26:17
 read-extent-requires : tie.Need-read-extent-requires Inv-loop μ-loop
-read-extent-requires c κs = ?
+read-extent-requires c κs =
+    let l = c .before .before in
+    let s = l .before .before in
+    omega (arith, length-piece processWidth (l .loop .at) (s .args .state .now) (omega (arith, l .loop .inv .0, s .pre)))
 
--- src/layout.rt:26:17
 cast-used : tie.Need-cast-used Inv-loop μ-loop
-cast-used c = ?
+cast-used c = search needs
 
--- src/layout.rt:26:9
 add-used : tie.Need-add-used Inv-loop μ-loop
-add-used c = ?
+add-used c = let l = c .before .before .before in omega (arith, l .loop .inv .3)
 
--- src/layout.rt:24:5
 loop-less : tie.Need-loop-less Inv-loop μ-loop
-loop-less c = ?
+loop-less c = omega arith
 
--- src/layout.rt:24:5
 loop-again : tie.Need-loop-again Inv-loop μ-loop
-loop-again c = ?
+loop-again c =
+    let l = c .before .before .before in
+    let m = l .before .before .args .state .now in
+    let at = l .loop .at in
+    let k = at / processWidth in
+    let more : (at + processWidth) / processWidth ≡ suc k = omega arith in
+    let one = extent-at m k at (c .read-extent .result) (omega (arith, l .loop .inv .0)) (l .loop .inv .0) (c .read-extent .ensures) in
+    (omega (arith, more, l .loop .inv .0), omega (arith, l .loop .inv .0), rw more (omega (arith, total-suc (extentAt (stateOf m)) k, one, l .loop .inv .2)), omega (arith, more, l .loop .inv .3))
 
--- src/layout.rt:18:1
 returns : tie.Need-returns Inv-loop μ-loop
-returns c = ?
+unfolding used
+returns c =
+    let l = c .before in
+    let end : l .loop .at / processWidth ≡ processCount = omega (arith, l .loop .inv .0, l .loop .inv .1) in
+    rw end at (l .loop .inv .2)
 
 pub used-bytes-spec : {M : Type 1} → statement M
 used-bytes-spec =

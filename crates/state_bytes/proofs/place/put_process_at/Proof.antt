@@ -13,8 +13,8 @@ add-end c = search needs
 sub-put-process : tie.Need-sub-put-process
 sub-put-process c = search needs
 
-part-put-record-at : tie.Need-part-put-record-at
-part-put-record-at c = search needs
+part-put-process-start : tie.Need-part-put-process-start
+part-put-process-start c = search needs
 
 part-put-process-end : tie.Need-part-put-process-end
 part-put-process-end c = search needs
@@ -39,7 +39,7 @@ put-process-at-spec =
     record-at-requires
     add-end
     sub-put-process
-    part-put-record-at
+    part-put-process-start
     part-put-process-end
     put-process-requires
     same-length

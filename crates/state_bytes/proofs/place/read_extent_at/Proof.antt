@@ -1,46 +1,34 @@
+-- `state_bytes::place::read_extent_at` meets its contract: that of piece p. Assumes nothing.
+use borrow.Author.Needs.{needs}
+use Rattle.state_bytes.proofs.StateLaws.{extent-at}
 use Rattle.state_bytes.proofs.place.read_extent_at.Statement.{statement}
 use Rattle.state_bytes.proofs.place.read_extent_at.Tie as tie
-use Rattle.state_bytes.proofs.place.read_extent_at.Reads as reads
-use Rattle.state_bytes.proofs.place.read_extent_at.Lts as lts
-use Rattle.state_bytes.proofs.place.record_at.Reads as record-at-reads
-use Rattle.state_bytes.proofs.process_form.read_extent.Reads as read-extent-reads
 
--- src/place.rt:55:9
 record-at-requires : tie.Need-record-at-requires
-record-at-requires c κs = ?
+record-at-requires c κs = search needs
 
--- src/place.rt:56:15
 add-end : tie.Need-add-end
-add-end c = ?
+add-end c = search needs
 
--- src/place.rt:57:17
 sub-read-extent : tie.Need-sub-read-extent
-sub-read-extent c = ?
+sub-read-extent c = search needs
 
--- src/place.rt:57:17
 part-read-extent-start : tie.Need-part-read-extent-start
-part-read-extent-start c = ?
+part-read-extent-start c = search needs
 
--- src/place.rt:57:17
 part-read-extent-end : tie.Need-part-read-extent-end
-part-read-extent-end c = ?
+part-read-extent-end c = search needs
 
--- src/place.rt:57:5
 read-extent-requires : tie.Need-read-extent-requires
-read-extent-requires c κs = ?
+read-extent-requires c κs = search needs
 
--- src/place.rt:50:1
 returns : tie.Need-returns
-returns c = ?
+returns c =
+    let at = c .before .before in
+    let s = at .before .before in
+    extent-at (s .args .state .now) (s .args .p) (at .record-at .result) _ (s .pre .0) (at .record-at .ensures) (c .read-extent .ensures)
 
 pub read-extent-at-spec : {M : Type 1} → statement M
 read-extent-at-spec =
     tie.close
-    (tie.spec
-    record-at-requires
-    add-end
-    sub-read-extent
-    part-read-extent-start
-    part-read-extent-end
-    read-extent-requires
-    returns)
+    (tie.spec record-at-requires add-end sub-read-extent part-read-extent-start part-read-extent-end read-extent-requires returns)

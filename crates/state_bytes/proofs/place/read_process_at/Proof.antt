@@ -13,8 +13,8 @@ add-end c = search needs
 sub-read-process : tie.Need-sub-read-process
 sub-read-process c = search needs
 
-part-read-record-at : tie.Need-part-read-record-at
-part-read-record-at c = search needs
+part-read-process-start : tie.Need-part-read-process-start
+part-read-process-start c = search needs
 
 part-read-process-end : tie.Need-part-read-process-end
 part-read-process-end c = search needs
@@ -35,7 +35,7 @@ read-process-at-spec =
     record-at-requires
     add-end
     sub-read-process
-    part-read-record-at
+    part-read-process-start
     part-read-process-end
     read-process-requires
     returns)

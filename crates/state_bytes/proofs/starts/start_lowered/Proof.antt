@@ -1,33 +1,47 @@
+-- `state_bytes::starts::start_lowered` meets its contract, by its cases. Assumes nothing.
+use mathlib.Core.Path.{_≡_, sym, _∙_}
+use native.Mathlib.Omega.{arith}
+use borrow.Author.Needs.{needs}
+use borrow.Author.Tests.{not-true, not-false}
+use Rattle.state_bytes.specs.State.{stateOf}
+use Rattle.state_bytes.proofs.StartLaws.{lowered-below, lowered-absent, lowered-above}
 use Rattle.state_bytes.proofs.starts.start_lowered.Statement.{statement}
 use Rattle.state_bytes.proofs.starts.start_lowered.Tie as tie
-use Rattle.state_bytes.proofs.starts.start_lowered.Reads as reads
-use Rattle.state_bytes.proofs.starts.start_lowered.Lts as lts
-use Rattle.state_bytes.proofs.place.is_there.Reads as is-there-reads
-use Rattle.state_bytes.proofs.starts.read_start.Reads as read-start-reads
 
--- src/starts.rt:45:9
 read-start-requires : tie.Need-read-start-requires
-read-start-requires c κs = ?
+read-start-requires c κs = search needs
 
--- src/starts.rt:47:9
 returns : tie.Need-returns
-returns c = ?
+returns c =
+    let r = c .before in
+    let a = r .before .before .args in
+    lowered-below (stateOf (a .state .now)) (a .start) (a .count) (a .q) (r .read-start .result) (r .read-start .ensures) (omega arith)
 
--- src/starts.rt:49:9
 is-there-requires : tie.Need-is-there-requires
-is-there-requires c κs = ?
+is-there-requires c κs = search needs
 
--- src/starts.rt:50:9
 returns-2 : tie.Need-returns-2
-returns-2 c = ?
+returns-2 c =
+    let t = c .before in
+    let r = t .before .before in
+    let a = r .before .before .args in
+    lowered-absent (stateOf (a .state .now)) (a .start) (a .count) (a .q) (r .read-start .result) (r .read-start .ensures) (sym (t .is-there .ensures) ∙ not-true _ (c .if2 .taken))
 
--- src/starts.rt:53:9
 returns-3 : tie.Need-returns-3
-returns-3 c = ?
+returns-3 c =
+    let i = c .before in
+    let t = i .before in
+    let r = t .before .before in
+    let a = r .before .before .args in
+    lowered-above (stateOf (a .state .now)) (a .start) (a .count) (a .q) (r .read-start .result) (r .read-start .ensures) (sym (t .is-there .ensures) ∙ not-false _ (i .if2 .left)) (omega arith) 0 (omega arith)
 
--- src/starts.rt:40:1
 returns-4 : tie.Need-returns-4
-returns-4 c = ?
+returns-4 c =
+    let i = c .before in
+    let t = i .before in
+    let r = t .before .before in
+    let a = r .before .before .args in
+    lowered-above (stateOf (a .state .now)) (a .start) (a .count) (a .q) (r .read-start .result) (r .read-start .ensures) (sym (t .is-there .ensures) ∙ not-false _ (i .if2 .left)) (omega arith) _ (omega arith)
 
 pub start-lowered-spec : {M : Type 1} → statement M
 start-lowered-spec =

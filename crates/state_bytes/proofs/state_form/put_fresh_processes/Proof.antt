@@ -8,15 +8,14 @@ use lib.ListN.{length, take, drop, length-drop}
 use lib.Seq.{length-take-le, take-all}
 use Rattle.lists.specs.Buffer.{overlay}
 use Rattle.lists.specs.Joined.{joined}
-use Rattle.lists.proofs.Buffer.{length-overlay, overlay-all}
+use Rattle.lists.proofs.Buffer.{length-overlay}
 use Rattle.process.specs.declared.record.Process.{Process}
 use Rattle.state.specs.Fresh.{freshProcesses}
 use Rattle.state.specs.Records.{nobody}
 use Rattle.state_bytes.specs.Process.{processBytes}
-use Rattle.state_bytes.specs.State.{stateBytes}
-use Rattle.state_bytes.specs.Widths.{processCount, processWidth, stateWidth}
+use Rattle.state_bytes.specs.Widths.{processCount, processWidth, startsAt}
 use Rattle.state_bytes.proofs.ChunkLaws.{joined-step, length-joined-more}
-use Rattle.state.proofs.RecordsLaws.{length-freshProcesses, getD-freshProcesses}
+use Rattle.state_bytes.proofs.FreshLaws.{length-freshProcesses, getD-freshProcesses}
 use Rattle.state_bytes.proofs.state_form.put_fresh_processes.Statement.{statement}
 use Rattle.state_bytes.proofs.state_form.put_fresh_processes.Tie as tie
 
@@ -89,16 +88,13 @@ same-length : tie.Need-same-length Inv-loop μ-loop
 same-length c = c .before .loop .inv .2
 
 returns : tie.Need-returns Inv-loop μ-loop
-unfolding stateBytes freshStart
 returns c =
     let l = c .before in
-    let s = l .before .before in
-    let a = s .args in
+    let a = l .before .before .args in
     let processes = freshProcesses (a .t1) (a .sizes) in
-    let all = take-all (l .loop .p) processes (omega (arith, l .loop .inv .1, length-freshProcesses (a .t1) (a .sizes))) in
-    let end : l .loop .p ≡ processCount = omega arith in
-    let whole = overlay-all (joined processBytes (take (l .loop .p) processes)) (a .state .now) (omega (arith, l .loop .inv .4, s .pre)) in
-    l .loop .inv .5 ∙ whole ∙ ap (joined processBytes) all
+    let all : take (l .loop .p) processes ≡ processes = take-all (l .loop .p) processes (omega (arith, l .loop .inv .1, length-freshProcesses (a .t1) (a .sizes))) in
+    let end : l .loop .at ≡ startsAt = omega arith in
+    (rw (all, end) at (l .loop .inv .4), rw all at (l .loop .inv .5))
 
 pub put-fresh-processes-spec : {M : Type 1} → statement M
 put-fresh-processes-spec =
