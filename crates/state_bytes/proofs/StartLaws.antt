@@ -138,14 +138,15 @@ module _ (f : ℕ → ℕ) (m : List ℕ) (long : length m ≡ stateWidth) where
   unwritten k h =
       let read = read-with-starts (overlay (elements f k) (stateOf m .starts)) (eight-written k (omega arith)) m long in
       let here : k ≡ length (elements f k) + 0 = omega (arith, length-elements f k) in
-      let rest : drop (length (elements f k)) (stateOf m .starts) ≡ drop k (stateOf m .starts) = rw (length-elements f k) in
-      (ap (λ (g : Records). processAt g k) read,
-      ap (λ (g : Records). startOf g k) read
-      ∙ ap (λ (n : ℕ). getD (elements f k ++ drop (length (elements f k)) (stateOf m .starts)) n 0) here
-      ∙ getD-append-add (elements f k) (drop (length (elements f k)) (stateOf m .starts)) 0 0
-      ∙ ap (λ (l : List ℕ). getD l 0 0) rest
-      ∙ getD-drop k (stateOf m .starts) 0 0
-      ∙ ap (λ (n : ℕ). getD (stateOf m .starts) n 0) (plus-zero k))
+      let rest : drop (length (elements f k)) (stateOf m .starts) ≡ drop k (stateOf m .starts) = rw (length-elements f k) in (
+        ap (λ (g : Records). processAt g k) read,
+        ap (λ (g : Records). startOf g k) read
+            ∙ ap (λ (n : ℕ). getD (elements f k ++ drop (length (elements f k)) (stateOf m .starts)) n 0) here
+            ∙ getD-append-add (elements f k) (drop (length (elements f k)) (stateOf m .starts)) 0 0
+            ∙ ap (λ (l : List ℕ). getD l 0 0) rest
+            ∙ getD-drop k (stateOf m .starts) 0 0
+            ∙ ap (λ (n : ℕ). getD (stateOf m .starts) n 0) (plus-zero k),
+      )
     where
       plus-zero : (k : ℕ) → k + 0 ≡ k
       plus-zero k = omega arith
