@@ -5,18 +5,23 @@ use mathlib.Core.List.{List, [], _∷_, _++_, append-assoc}
 use Prim.Native.Nat.{ℕ, _+_, _-_, _*_, _≤_, _<_}
 use native.Mathlib.Numerals.{add-one}
 use native.Mathlib.Omega.{arith}
-use borrow.Author.Tests.{lt-ltb, le-ltb}
+use borrow.Author.Tests.{lt-ltb, le-ltb, leb-true}
 use lib.ListN.{length, take, drop, getD, set, length-append, length-drop, take-append-drop}
 use lib.Seq.{drop-at, length-take-le, take-append-add, drop-append-add, getD-append-add, getD-take, getD-drop, drop-drop, sets-eq}
+use lib.Dec.{leb}
 use Rattle.lists.specs.Buffer.{Bytes, overlay}
 use Rattle.lists.specs.Elements.{elements}
 use Rattle.lists.specs.Joined.{joined}
+use Rattle.lists.specs.Sum.{total}
 use Rattle.lists.specs.Word.{high, low, word}
+use Rattle.lists.proofs.Bool.{&&-right}
 use Rattle.lists.proofs.Buffer.{length-overlay, overlay-all}
 use Rattle.lists.proofs.Elements.{length-elements, elements-step, set-elements}
+use Rattle.lists.proofs.Sum.{total-front-at}
 use Rattle.lists.proofs.Word.{word-high-low, high-word, low-word}
 use Rattle.state.specs.Records.{Records, processAt, startOf}
-use Rattle.state.specs.Layout.{extentAt, startWithout, startsWithout}
+use Rattle.state.specs.Layout.{capacity, extentAt, startWithout, startsWithout}
+use Rattle.state.specs.Fresh.{needed, eachRight, sizesRight}
 use Rattle.state_bytes.specs.Chunk.{chunks, everyChunk}
 use Rattle.state_bytes.specs.Layout.{startLowered}
 use Rattle.state_bytes.specs.Number.{u16Le, u16LeBytes}
@@ -207,3 +212,17 @@ module _ (m : List ℕ) (long : length m ≡ stateWidth) (start count : ℕ) whe
 pub length-without : (m : List ℕ) → length m ≡ stateWidth → (p : ℕ) → length (withStartsBytes (startsWithout p (stateOf m)) m) ≡ stateWidth
 unfolding startsWithout
 length-without m long p = length-with-starts (elements (startWithout (stateOf m) p) processCount) (length-elements (startWithout (stateOf m) p) processCount) m long
+
+-- ---- the starts at a fresh start
+
+-- the size of process k if it is to be there
+abbrev pub sizeIf : List Bool → List ℕ → ℕ → ℕ
+sizeIf there sizes k = cond (getD there k false) (getD sizes k 0) 0
+
+-- with right sizes each ends within the memory
+pub fresh-fits : (there : List Bool) (sizes : List ℕ) → sizesRight there sizes ≡ true → (k : ℕ) → k < processCount
+    → total (sizeIf there sizes) k + sizeIf there sizes k ≤ capacity
+unfolding sizesRight needed
+fresh-fits there sizes e k h =
+    let all = total (sizeIf there sizes) processCount in
+    omega (arith, total-front-at (sizeIf there sizes) k processCount h, leb-true all capacity (&&-right (eachRight there sizes) (leb all capacity) e))

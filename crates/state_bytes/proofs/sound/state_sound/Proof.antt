@@ -10,7 +10,7 @@ use Rattle.state_bytes.specs.Process.{processSound}
 use Rattle.state_bytes.specs.State.{SoundBefore, stateFormed, stateSound}
 use Rattle.state_bytes.specs.Widths.{processCount, processWidth, startsAt}
 use Rattle.state_bytes.proofs.ChunkLaws.{length-piece, test-piece, every-fails}
-use Rattle.state_bytes.proofs.StateLaws.{each-sound, sound-next}
+use Rattle.state_bytes.proofs.StateLaws.{each-record, each-sound, sound-next}
 use Rattle.state_bytes.proofs.sound.state_sound.Statement.{statement}
 use Rattle.state_bytes.proofs.sound.state_sound.Tie as tie
 
@@ -70,7 +70,11 @@ loop-again c =
     sound-next start m (l .loop .inv) (omega arith) holds
 
 layout-sound-requires : tie.Need-layout-sound-requires Inv-loop μ-loop
-layout-sound-requires c κs = omega (arith, c .before .loop .inv .2)
+layout-sound-requires c κs =
+    let l = c .before in
+    let m = l .before .before .before .before .args .state .now in
+    let end : l .loop .start / processWidth ≡ processCount = omega (arith, l .loop .inv .0, l .loop .inv .1) in
+    (omega (arith, l .loop .inv .2), each-record m (rw end at (l .loop .inv .3)))
 
 returns-3 : tie.Need-returns-3 Inv-loop μ-loop
 returns-3 c =
