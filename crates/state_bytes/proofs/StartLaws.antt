@@ -60,28 +60,27 @@ pub eight-starts : (m : List ℕ) → length (stateOf m .starts) ≡ processCoun
 unfolding stateOf startsOf
 eight-starts m = length-chunks startWidth u16Le processCount (drop startsAt m)
 
--- it is read from its two bytes
-pub read-start-at : (m : List ℕ) (p : ℕ) → p < processCount → word (getD m (startsAt + p + p + 1) 0) (getD m (startsAt + p + p) 0) ≡ startOf (stateOf m) p
-unfolding stateOf startsOf
-read-start-at m p h =
-    sym (getD-chunks startWidth u16Le processCount p (drop startsAt m) 0 h ∙ rw (byte 1 (startsAt + p + p + 1) (omega arith) (omega arith), byte 0 (startsAt + p + p) (omega arith) (omega arith)))
-  where
-    byte : (i at : ℕ) → i < startWidth → startsAt + (startWidth * p + i) ≡ at → getD (take startWidth (drop (startWidth * p) (drop startsAt m))) i 0 ≡ getD m at 0
-    byte i at l e =
-        getD-take startWidth (drop (startWidth * p) (drop startsAt m)) i 0 l
-        ∙ getD-drop (startWidth * p) (drop startsAt m) i 0
-        ∙ getD-drop startsAt m (startWidth * p + i) 0
-        ∙ ap (λ (n : ℕ). getD m n 0) e
+module _ (m : List ℕ) (p at : ℕ) (h : p < processCount) (place : at ≡ startsAt + startWidth * p) where
+  byte : (i n : ℕ) → i < startWidth → n ≡ at + i → getD (take startWidth (drop (startWidth * p) (drop startsAt m))) i 0 ≡ getD m n 0
+  byte i n l e =
+      let there : startsAt + (startWidth * p + i) ≡ n = omega arith in
+      getD-take startWidth (drop (startWidth * p) (drop startsAt m)) i 0 l
+      ∙ getD-drop (startWidth * p) (drop startsAt m) i 0
+      ∙ getD-drop startsAt m (startWidth * p + i) 0
+      ∙ ap (λ (k : ℕ). getD m k 0) there
 
--- and written to them
-pub put-start-at : (m : List ℕ) (p start : ℕ) → p < processCount → length m ≡ stateWidth
-    → set (set m (startsAt + p + p) (low start)) (startsAt + p + p + 1) (high start) ≡ withStartBytes p start m
-unfolding withStartBytes
-put-start-at m p start h long =
-    let at = startsAt + p + p in
-    let place : startsAt + startWidth * p ≡ at = omega arith in
-    let both = sets-eq (u16LeBytes start) m at (omega (arith, long)) in
-    rw (place, add-one at, drop-drop startWidth at m) (both ∙ append-assoc (take at m) (u16LeBytes start) (drop (at + startWidth) m))
+  -- it is read from its two bytes
+  pub read-start-at : word (getD m (at + 1) 0) (getD m at 0) ≡ startOf (stateOf m) p
+  unfolding stateOf startsOf
+  read-start-at =
+      sym (getD-chunks startWidth u16Le processCount p (drop startsAt m) 0 h ∙ rw (byte 1 (at + 1) (omega arith) (omega arith), byte 0 at (omega arith) (omega arith)))
+
+  -- and written to them
+  pub put-start-at : (start : ℕ) → length m ≡ stateWidth → set (set m at (low start)) (at + 1) (high start) ≡ withStartBytes p start m
+  unfolding withStartBytes
+  put-start-at start long =
+      rw (← place, add-one at, drop-drop startWidth at m)
+      (sets-eq (u16LeBytes start) m at (omega (arith, long)) ∙ append-assoc (take at m) (u16LeBytes start) (drop (at + startWidth) m))
 
 -- ---- all starts
 
