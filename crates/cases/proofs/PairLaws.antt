@@ -16,7 +16,7 @@ use Rattle.lists.specs.Word.{lowFirst}
 use Rattle.format.specs.Answer.{cantOf, createdOf, noticeOf}
 use Rattle.format.specs.Layout.{written, headerOf, stringOf, fixedRight}
 use Rattle.format.specs.Outcome.{numberOf, lengthOf, firstFailing}
-use Rattle.format.specs.Refusal.{unusedZero, carriedLength, wrongLength, wrongHeader, misfits}
+use Rattle.format.specs.Refusal.{fieldsRight, carriedLength, wrongLength, wrongHeader, misfits}
 use Rattle.ops.specs.Table.{rowOf, requestForm}
 use Rattle.breakpoints.specs.EntryQuery.{matches}
 use Rattle.process.specs.Find.{find}
@@ -49,15 +49,15 @@ pub eight : (s : State) → eightTest s ≡ true → (p : ℕ) → p < 8 → len
 eight s e p h = eqb-true _ 8 (below-at (λ (q : ℕ). eqb (length (processAt (s .records) q .breaks)) 8) 8 p h e)
 
 one-ready : Ready one
-unfolding overlay lowFirst cantOf createdOf noticeOf written headerOf stringOf fixedRight numberOf firstFailing unusedZero carriedLength wrongLength wrongHeader misfits rowOf requestForm matches find plantedIn liftedIn removedFrom replanted liftedAt fresh accepts storeVectorAndReplant passes verdictOf recipientOf passed runAfter reported hasBreak hasRoom examined deposited vectorAfter breakSet breakRemoved created cleared restored seen savedFrom sheltered overlaySavedByte overlaySavedWord validBreakAddress absentHasNoHost liftSound usedSound entrySound soundTest validSize keepsRules freshProcess freshProcesses freshStart soundState startOf slot withSlot public ruleOf names run put grantedNamed grantedCreate granted refused requestStep noticeTo notified reportStep step lowestAbsent askedTests requestNumber reportNumber
+unfolding overlay lowFirst cantOf createdOf noticeOf written headerOf stringOf fixedRight numberOf firstFailing fieldsRight carriedLength wrongLength wrongHeader misfits rowOf requestForm matches find plantedIn liftedIn removedFrom replanted liftedAt fresh accepts storeVectorAndReplant passes verdictOf recipientOf passed runAfter reported hasBreak hasRoom examined deposited vectorAfter breakSet breakRemoved created cleared restored seen savedFrom sheltered overlaySavedByte overlaySavedWord validBreakAddress absentHasNoHost liftSound usedSound entrySound soundTest validSize keepsRules freshProcess freshProcesses freshStart soundState startOf slot withSlot public ruleOf names run put grantedNamed grantedCreate granted refused requestStep noticeTo notified reportStep step lowestAbsent askedTests requestNumber reportNumber
 one-ready = record { memory = refl; processes = refl; entries = eight one refl; sound = refl }
 
 other-ready : Ready other
-unfolding overlay lowFirst cantOf createdOf noticeOf written headerOf stringOf fixedRight numberOf firstFailing unusedZero carriedLength wrongLength wrongHeader misfits rowOf requestForm matches find plantedIn liftedIn removedFrom replanted liftedAt fresh accepts storeVectorAndReplant passes verdictOf recipientOf passed runAfter reported hasBreak hasRoom examined deposited vectorAfter breakSet breakRemoved created cleared restored seen savedFrom sheltered overlaySavedByte overlaySavedWord validBreakAddress absentHasNoHost liftSound usedSound entrySound soundTest validSize keepsRules freshProcess freshProcesses freshStart soundState startOf slot withSlot public ruleOf names run put grantedNamed grantedCreate granted refused requestStep noticeTo notified reportStep step lowestAbsent askedTests requestNumber reportNumber
+unfolding overlay lowFirst cantOf createdOf noticeOf written headerOf stringOf fixedRight numberOf firstFailing fieldsRight carriedLength wrongLength wrongHeader misfits rowOf requestForm matches find plantedIn liftedIn removedFrom replanted liftedAt fresh accepts storeVectorAndReplant passes verdictOf recipientOf passed runAfter reported hasBreak hasRoom examined deposited vectorAfter breakSet breakRemoved created cleared restored seen savedFrom sheltered overlaySavedByte overlaySavedWord validBreakAddress absentHasNoHost liftSound usedSound entrySound soundTest validSize keepsRules freshProcess freshProcesses freshStart soundState startOf slot withSlot public ruleOf names run put grantedNamed grantedCreate granted refused requestStep noticeTo notified reportStep step lowestAbsent askedTests requestNumber reportNumber
 other-ready = record { memory = refl; processes = refl; entries = eight other refl; sound = refl }
 
 others : (q : ℕ) → q < 8 → (q ≡ 2 → ⊥) → localOf one q ≡ localOf other q
-unfolding overlay lowFirst cantOf createdOf noticeOf written headerOf stringOf fixedRight numberOf firstFailing unusedZero carriedLength wrongLength wrongHeader misfits rowOf requestForm matches find plantedIn liftedIn removedFrom replanted liftedAt fresh accepts storeVectorAndReplant passes verdictOf recipientOf passed runAfter reported hasBreak hasRoom examined deposited vectorAfter breakSet breakRemoved created cleared restored seen savedFrom sheltered overlaySavedByte overlaySavedWord validBreakAddress absentHasNoHost liftSound usedSound entrySound soundTest validSize keepsRules freshProcess freshProcesses freshStart soundState startOf slot withSlot public ruleOf names run put grantedNamed grantedCreate granted refused requestStep noticeTo notified reportStep step lowestAbsent askedTests requestNumber reportNumber
+unfolding overlay lowFirst cantOf createdOf noticeOf written headerOf stringOf fixedRight numberOf firstFailing fieldsRight carriedLength wrongLength wrongHeader misfits rowOf requestForm matches find plantedIn liftedIn removedFrom replanted liftedAt fresh accepts storeVectorAndReplant passes verdictOf recipientOf passed runAfter reported hasBreak hasRoom examined deposited vectorAfter breakSet breakRemoved created cleared restored seen savedFrom sheltered overlaySavedByte overlaySavedWord validBreakAddress absentHasNoHost liftSound usedSound entrySound soundTest validSize keepsRules freshProcess freshProcesses freshStart soundState startOf slot withSlot public ruleOf names run put grantedNamed grantedCreate granted refused requestStep noticeTo notified reportStep step lowestAbsent askedTests requestNumber reportNumber
 others zero h n = refl
 others (suc zero) h n = refl
 others (suc (suc zero)) h n = absurd (n refl)
@@ -69,11 +69,11 @@ others (suc (suc (suc (suc (suc (suc (suc zero))))))) h n = refl
 others (suc (suc (suc (suc (suc (suc (suc (suc q)))))))) h n = absurd (omega arith)
 
 alike : Alike (only 5) (only 2) oneCalls otherCalls
-unfolding namesOne asker subject event passedOver isOne struck withoutData strike overlay lowFirst cantOf createdOf noticeOf written headerOf stringOf fixedRight numberOf firstFailing unusedZero carriedLength wrongLength wrongHeader misfits rowOf requestForm matches find plantedIn liftedIn removedFrom replanted liftedAt fresh accepts storeVectorAndReplant passes verdictOf recipientOf passed runAfter reported hasBreak hasRoom examined deposited vectorAfter breakSet breakRemoved created cleared restored seen savedFrom sheltered overlaySavedByte overlaySavedWord validBreakAddress absentHasNoHost liftSound usedSound entrySound soundTest validSize keepsRules freshProcess freshProcesses freshStart soundState startOf slot withSlot public ruleOf names run put grantedNamed grantedCreate granted refused requestStep noticeTo notified reportStep step lowestAbsent askedTests requestNumber reportNumber
+unfolding namesOne asker subject event passedOver isOne struck withoutData strike overlay lowFirst cantOf createdOf noticeOf written headerOf stringOf fixedRight numberOf firstFailing fieldsRight carriedLength wrongLength wrongHeader misfits rowOf requestForm matches find plantedIn liftedIn removedFrom replanted liftedAt fresh accepts storeVectorAndReplant passes verdictOf recipientOf passed runAfter reported hasBreak hasRoom examined deposited vectorAfter breakSet breakRemoved created cleared restored seen savedFrom sheltered overlaySavedByte overlaySavedWord validBreakAddress absentHasNoHost liftSound usedSound entrySound soundTest validSize keepsRules freshProcess freshProcesses freshStart soundState startOf slot withSlot public ruleOf names run put grantedNamed grantedCreate granted refused requestStep noticeTo notified reportStep step lowestAbsent askedTests requestNumber reportNumber
 alike = refl
 
 outside : Outside 5 2 one oneCalls
-unfolding namesOne fieldsOf insider isGranted publicThen toldOf Never stored overlay lowFirst cantOf createdOf noticeOf written headerOf stringOf fixedRight numberOf firstFailing unusedZero carriedLength wrongLength wrongHeader misfits rowOf requestForm matches find plantedIn liftedIn removedFrom replanted liftedAt fresh accepts storeVectorAndReplant passes verdictOf recipientOf passed runAfter reported hasBreak hasRoom examined deposited vectorAfter breakSet breakRemoved created cleared restored seen savedFrom sheltered overlaySavedByte overlaySavedWord validBreakAddress absentHasNoHost liftSound usedSound entrySound soundTest validSize keepsRules freshProcess freshProcesses freshStart soundState startOf slot withSlot public ruleOf names run put grantedNamed grantedCreate granted refused requestStep noticeTo notified reportStep step lowestAbsent askedTests requestNumber reportNumber
+unfolding namesOne fieldsOf insider isGranted publicThen toldOf Never stored overlay lowFirst cantOf createdOf noticeOf written headerOf stringOf fixedRight numberOf firstFailing fieldsRight carriedLength wrongLength wrongHeader misfits rowOf requestForm matches find plantedIn liftedIn removedFrom replanted liftedAt fresh accepts storeVectorAndReplant passes verdictOf recipientOf passed runAfter reported hasBreak hasRoom examined deposited vectorAfter breakSet breakRemoved created cleared restored seen savedFrom sheltered overlaySavedByte overlaySavedWord validBreakAddress absentHasNoHost liftSound usedSound entrySound soundTest validSize keepsRules freshProcess freshProcesses freshStart soundState startOf slot withSlot public ruleOf names run put grantedNamed grantedCreate granted refused requestStep noticeTo notified reportStep step lowestAbsent askedTests requestNumber reportNumber
 outside =
     (refl, (refl, (refl, (refl, (refl, (refl, (refl, (refl, (refl, refl)))))))))
 
@@ -83,11 +83,11 @@ firstByte [] = 0
 firstByte (a ∷ rest) = getD (a .buffer) 10 0
 
 unlike : heard (only 6) (run one oneCalls) ≡ heard (only 6) (run other otherCalls) → ⊥
-unfolding heard part asker sentTo noticed lengthOf stored overlay lowFirst cantOf createdOf noticeOf written headerOf stringOf fixedRight numberOf firstFailing unusedZero carriedLength wrongLength wrongHeader misfits rowOf requestForm matches find plantedIn liftedIn removedFrom replanted liftedAt fresh accepts storeVectorAndReplant passes verdictOf recipientOf passed runAfter reported hasBreak hasRoom examined deposited vectorAfter breakSet breakRemoved created cleared restored seen savedFrom sheltered overlaySavedByte overlaySavedWord validBreakAddress absentHasNoHost liftSound usedSound entrySound soundTest validSize keepsRules freshProcess freshProcesses freshStart soundState startOf slot withSlot public ruleOf names run put grantedNamed grantedCreate granted refused requestStep noticeTo notified reportStep step lowestAbsent askedTests requestNumber reportNumber
+unfolding heard part asker sentTo noticed lengthOf stored overlay lowFirst cantOf createdOf noticeOf written headerOf stringOf fixedRight numberOf firstFailing fieldsRight carriedLength wrongLength wrongHeader misfits rowOf requestForm matches find plantedIn liftedIn removedFrom replanted liftedAt fresh accepts storeVectorAndReplant passes verdictOf recipientOf passed runAfter reported hasBreak hasRoom examined deposited vectorAfter breakSet breakRemoved created cleared restored seen savedFrom sheltered overlaySavedByte overlaySavedWord validBreakAddress absentHasNoHost liftSound usedSound entrySound soundTest validSize keepsRules freshProcess freshProcesses freshStart soundState startOf slot withSlot public ruleOf names run put grantedNamed grantedCreate granted refused requestStep noticeTo notified reportStep step lowestAbsent askedTests requestNumber reportNumber
 unlike e = let z : _≡_ {A = ℕ} 0 7 = ap firstByte e in omega arith
 
 pub premises-met : PremisesMet
-unfolding overlay lowFirst cantOf createdOf noticeOf written headerOf stringOf fixedRight numberOf firstFailing unusedZero carriedLength wrongLength wrongHeader misfits rowOf requestForm matches find plantedIn liftedIn removedFrom replanted liftedAt fresh accepts storeVectorAndReplant passes verdictOf recipientOf passed runAfter reported hasBreak hasRoom examined deposited vectorAfter breakSet breakRemoved created cleared restored seen savedFrom sheltered overlaySavedByte overlaySavedWord validBreakAddress absentHasNoHost liftSound usedSound entrySound soundTest validSize keepsRules freshProcess freshProcesses freshStart soundState startOf slot withSlot public ruleOf names run put grantedNamed grantedCreate granted refused requestStep noticeTo notified reportStep step lowestAbsent askedTests requestNumber reportNumber
+unfolding overlay lowFirst cantOf createdOf noticeOf written headerOf stringOf fixedRight numberOf firstFailing fieldsRight carriedLength wrongLength wrongHeader misfits rowOf requestForm matches find plantedIn liftedIn removedFrom replanted liftedAt fresh accepts storeVectorAndReplant passes verdictOf recipientOf passed runAfter reported hasBreak hasRoom examined deposited vectorAfter breakSet breakRemoved created cleared restored seen savedFrom sheltered overlaySavedByte overlaySavedWord validBreakAddress absentHasNoHost liftSound usedSound entrySound soundTest validSize keepsRules freshProcess freshProcesses freshStart soundState startOf slot withSlot public ruleOf names run put grantedNamed grantedCreate granted refused requestStep noticeTo notified reportStep step lowestAbsent askedTests requestNumber reportNumber
 premises-met = record {
   one-ready = one-ready;
   other-ready = other-ready;

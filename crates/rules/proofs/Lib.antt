@@ -1,1 +1,22 @@
--- Laws
+-- Laws that the theorems about the rules rest on.
+pub mod ProperLaws
+pub mod RuleLaws
+pub mod StateLaws
+pub mod NumberLaws
+pub mod TurnLaws
+pub mod AccessLaws
+pub mod CallLaws
+pub mod RequestLaws
+pub mod ReportLaws
+pub mod LawfulLaws
+pub mod StepLaws
+pub mod DebuggerLaws
+pub mod RightsLaws
+pub mod TotalLaws
+pub mod IsolationLaws
+pub mod AgainLaws
+pub mod TraceLaws
+pub mod TogetherLaws
+pub mod ListLaws
+pub mod OutsiderLaws
+pub mod PastLaws

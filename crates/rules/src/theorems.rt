@@ -1,1 +1,29 @@
-// What is proved of the rules.
+// What is proved of the rules. These functions do nothing: each one's contract is a theorem, so that the check of this crate
+// includes it.
+ghost use Rattle.rules.specs.Total.{Total};
+ghost use Rattle.rules.specs.Rights.{Rights};
+ghost use Rattle.rules.specs.PastSizes.{PastSizes};
+ghost use Rattle.rules.specs.Together.{Isolation};
+
+// Every call is answered by the number of the first test that fails, or granted where none does; a refusal changes nothing; a sound state
+// stays sound.
+pub fn total()
+    ensures { λ _. ⌜ Total ⌝ }
+{}
+
+// A process changes only by a request of the host that debugs it before the call or after it, by a report or by a store; a right begins only
+// where nobody has one, and ends only by its holder.
+pub fn rights()
+    ensures { λ _. ⌜ Rights ⌝ }
+{}
+
+// Over whole lists of calls, hosts learn nothing of processes that they do not debug, and leave no trace there: any set of hosts and any
+// set of processes, also where one is created again for them; and one host and one process, in the words of the rules.
+pub fn isolation()
+    ensures { λ _. ⌜ Isolation ⌝ }
+{}
+
+// No call reads or changes a byte of a slot past its process's size, but a CREATE, which writes the whole slot of an absent process.
+pub fn past_sizes()
+    ensures { λ _. ⌜ PastSizes ⌝ }
+{}

@@ -1,0 +1,10 @@
+-- Every call is lawful. Assumes nothing.
+use Rattle.rules.specs.Step.{Call, request, report, store}
+use Rattle.rules.proofs.CallLaws.{Lawful}
+use Rattle.rules.proofs.RequestLaws.{request-lawful}
+use Rattle.rules.proofs.ReportLaws.{report-lawful, store-lawful}
+
+pub lawful : (c : Call) → Lawful c
+lawful (request m buffer) = request-lawful m buffer
+lawful (report p kind reason words buffer) = report-lawful p kind reason words buffer
+lawful (store p x v) = store-lawful p x v

@@ -1,0 +1,159 @@
+-- The laws of machine reports and of stores by the machine. Assumes nothing.
+use mathlib.Core.Path.{_≡_, refl, sym, _∙_}
+use mathlib.Core.Bool.{true, not}
+use mathlib.Core.List.{List, []}
+use mathlib.Core.Logic.{_⊎_, inl, inr}
+use native.Mathlib.Omega.{arith}
+use Prim.Native.Nat.{ℕ, _<_}
+use borrow.Author.Tests.{eq-eqb, ltb-true, not-false}
+use lib.Dec.{eqb, ltb}
+use Rattle.lists.specs.Word.{lowFirst}
+use Rattle.lists.proofs.Bool.{&&-left, &&-both}
+use Rattle.format.specs.Outcome.{firstFailing}
+use Rattle.format.specs.Answer.{noticeOf}
+use Rattle.format.proofs.OutcomeLaws.{first-passes, rest-passes}
+use Rattle.process.specs.Local.{Local, Proper}
+use Rattle.process.specs.Report.{reported, recipientOf}
+use Rattle.process.proofs.ReportLaws.{recipient-host}
+use Rattle.rules.specs.Rule.{Public, public, names}
+use Rattle.rules.specs.Tests.{State, reportTests, reportNumber}
+use Rattle.rules.specs.Access.{nobody, insider, numberAt}
+use Rattle.rules.specs.Step.{told, Call, report, store, step}
+use Rattle.rules.specs.Turn.{reportAccess, reportTurn, storeAccess, storeTurn, turnOf, bufferOf}
+use Rattle.rules.specs.Ready.{Typed}
+use Rattle.rules.specs.Isolation.{asker, subject, event, passedOver, fieldsOf, isGranted, toldOf}
+use Rattle.rules.specs.Total.{testsOf, numbersOf, oneOf}
+use Rattle.rules.proofs.ProperLaws.{report-proper, store-proper}
+use Rattle.rules.proofs.RuleLaws.{public-reported, count-reported}
+use Rattle.rules.proofs.NumberLaws.{by-test, same-cond, first-listed, orElse-zero}
+use Rattle.rules.proofs.TurnLaws.{report-number, report-turn, store-number, store-turn}
+use Rattle.rules.proofs.AccessLaws.{May, Sends, Discreet, Fair, outerNumber}
+use Rattle.rules.proofs.CallLaws.{Silent, There, Placed, Lawful}
+
+-- the public part stays
+abbrev pub kept : Public → Public
+kept u = u
+
+-- ---- reports
+
+module _ (p kind reason : ℕ) (words : List ℕ) where
+  told-sees : (l : Local) → told kind words l ≡ true → insider (public (l .process)) (recipientOf kind words l) ≡ true
+  unfolding insider public
+  told-sees l e =
+      &&-both (not (eqb (recipientOf kind words l) 0)) _ e (eq-eqb (l .process .host) (recipientOf kind words l) (sym (recipient-host kind words l e)))
+
+  report-discreet : (l : Local) → Discreet nobody (public (l .process)) (reportAccess p kind reason words .reply l)
+  unfolding Discreet reportAccess noticeOf
+  report-discreet l =
+      by-test (λ (bytes : List ℕ). (bytes ≡ []) ⊎ Sends (public (l .process)) bytes) (told kind words l)
+      (λ e. inr (record { header = noticeOf (recipientOf kind words l) kind p reason; string = lowFirst words; is = refl; sees = told-sees l e }))
+      (λ e. inl refl)
+
+  report-keeps : (l : Local) → Proper l → numberAt (reportAccess p kind reason words) l ≡ 0 → Proper (reported kind words l)
+  unfolding numberAt reportAccess
+  report-keeps l g z =
+      let o = orElse-zero (outerNumber (reportAccess p kind reason words) l) (firstFailing (reportAccess p kind reason words .inner l)) z in
+      report-proper l g kind words (not-false _ (first-passes 8 _ _ (o .1)))
+
+  report-fair : Fair nobody (reportAccess p kind reason words) kept
+  unfolding reportAccess May
+  report-fair = record {
+    publicly = λ l z. public-reported kind words l;
+    keeps = report-keeps;
+    guarded = λ u z. tt;
+    hides = inl (λ u. refl);
+    plain = λ l k e. refl;
+    discreet = report-discreet;
+  }
+
+  module _ (buffer : List ℕ) where
+    abbrev here : Call
+    here = report p kind reason words buffer
+
+    report-silent : Silent here
+    unfolding toldOf fieldsOf names
+    report-silent d a q = same-cond (isGranted (a .outcome)) (d q)
+
+    report-there : (s : State) → p < 8 → There s here p (reportAccess p kind reason words)
+    unfolding asker subject fieldsOf reportAccess Typed
+    report-there s low = record {
+      low = low;
+      then = kept;
+      fair = report-fair;
+      words = λ t l n. count-reported kind words l ∙ t;
+      narrows = λ e u. omega arith;
+      named = λ P e. e;
+      reaches = inl (eq-eqb p p refl);
+      carries = λ l e. absurd (omega (arith, e));
+      anew = λ e. absurd (omega (arith, e));
+      told = λ d l q. report-silent d _ q ∙ sym (same-cond (eqb q p) (d q));
+      turns = λ z. inl refl;
+    }
+
+    pub report-lawful : Lawful here
+    unfolding step turnOf bufferOf testsOf numbersOf reportNumber event asker passedOver subject fieldsOf reportTurn Placed
+    report-lawful = record {
+      turn = report-turn p kind reason words buffer;
+      number = report-number p kind reason words buffer;
+      listed = λ s. first-listed (oneOf (numbersOf here)) (reportTests s p kind reason buffer) refl refl;
+      alike = λ s t r q a. rw (r .memory, q .memory, r .sound, q .sound);
+      placed = λ s r z.
+          report-there s (ltb-true p 8 (not-false _ (first-passes 6 _ _ (rest-passes 13 _ _ (rest-passes 1 _ _ (rest-passes 0 _ _ z))))));
+      subject-creates = λ P e. refl;
+      event-asker = λ e. refl;
+      event-silent = λ e. report-silent;
+      over-asker = refl;
+      over-subject = λ P e. e;
+      over-silent = inl refl;
+    }
+
+-- ---- stores
+
+module _ (p x v : ℕ) where
+  store-fair : Fair nobody (storeAccess x v) kept
+  unfolding storeAccess May Discreet
+  store-fair = record {
+    publicly = λ l z. refl;
+    keeps = λ l g z. store-proper x v l g;
+    guarded = λ u z. tt;
+    hides = inl (λ u. refl);
+    plain = λ l k e. refl;
+    discreet = λ l. inl refl;
+  }
+
+  store-silent : Silent (store p x v)
+  unfolding toldOf fieldsOf names
+  store-silent d a q = same-cond (isGranted (a .outcome)) (d q)
+
+  store-there : (s : State) → p < 8 → There s (store p x v) p (storeAccess x v)
+  unfolding asker subject fieldsOf storeAccess
+  store-there s low = record {
+    low = low;
+    then = kept;
+    fair = store-fair;
+    words = λ t l n. n;
+    narrows = λ e u. omega arith;
+    named = λ P e. e;
+    reaches = inl (eq-eqb p p refl);
+    carries = λ l e. absurd (omega (arith, e));
+    anew = λ e. absurd (omega (arith, e));
+    told = λ d l q. store-silent d _ q ∙ sym (same-cond (eqb q p) (d q));
+    turns = λ z. inl refl;
+  }
+
+  pub store-lawful : Lawful (store p x v)
+  unfolding step turnOf bufferOf testsOf numbersOf event asker passedOver subject fieldsOf storeTurn Placed firstFailing
+  store-lawful = record {
+    turn = store-turn p x v;
+    number = store-number p x v;
+    listed = λ s. refl;
+    alike = λ s t r q a. refl;
+    placed = λ s r z.
+        by-test (Placed s (store p x v)) (ltb p 8) (λ e. store-there s (ltb-true p 8 e)) (λ e. record { told = λ d q. store-silent d _ q; quiet = λ i. refl });
+    subject-creates = λ P e. refl;
+    event-asker = λ e. refl;
+    event-silent = λ e. store-silent;
+    over-asker = refl;
+    over-subject = λ P e. e;
+    over-silent = inl refl;
+  }

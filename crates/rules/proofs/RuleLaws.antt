@@ -1,0 +1,314 @@
+-- What holds of every row of the rules: one law for each row, and every other proof goes by these. Assumes nothing.
+use mathlib.Core.Path.{_≡_, refl, sym, ap, _∙_, subst}
+use mathlib.Core.Bool.{Bool, true, false, cond, _||_, true≢false}
+use mathlib.Core.List.{List, [], _∷_}
+use mathlib.Core.Logic.{_⊎_, inl, inr}
+use Prim.Native.Nat.{ℕ, zero, suc, _+_, _≤_, _<_, _%_}
+use native.Mathlib.Omega.{arith}
+use borrow.Author.Tests.{eqb-true, leb-true}
+use lib.ListN.{length, getD}
+use lib.Dec.{eqb, leb, ltb}
+use Rattle.lists.specs.Word.{vectorOf}
+use Rattle.lists.proofs.Bool.{&&-left, &&-right}
+use Rattle.ops.specs.Table.{ops}
+use Rattle.format.specs.declared.header.Header.{Header}
+use Rattle.run_state.specs.declared.Run.{Run}
+use Rattle.process.specs.declared.record.Process.{Process}
+use Rattle.breakpoints.specs.declared.entry_query.EntryQuery.the-variants.{Lifted, At}
+use Rattle.process.specs.Record.{fresh, withVector}
+use Rattle.process.specs.Find.{find}
+use Rattle.breakpoints.specs.Entry.{validBreakAddress}
+use Rattle.run_state.specs.RunState.{moving, stoppedOrAtBreak, atBreak}
+use Rattle.process.specs.Local.{Local, Proper}
+use Rattle.process.specs.Planting.{plantedIn, liftedIn, removedFrom, replanted, liftedAt}
+use Rattle.process.specs.Request.{pc, onRecord, hasBreak, hasRoom, endDebugged, stopped, resumed, stepped, proceeded, deposited, vectorAfter, vectorDeposited, breakSet, breakRemoved, cleared, destroyed}
+use Rattle.process.specs.declared.report.Verdict.{Verdict}
+use Rattle.process.specs.declared.report.Verdict.the-variants.{Stops, CountsDown}
+use Rattle.process.specs.Report.{storeVectorAndReplant, verdictOf, passed, carriedOut, reported}
+use Rattle.rules.specs.Rule.{Public, public, Rule, rules, noRule, debugRule, endDebugRule, examineRule, breakRule, unbreakRule, plain, whileRun, inRange, upTo, ruleOf}
+use Rattle.rules.specs.Access.{Asker, by}
+use Rattle.rules.specs.Ready.{NineWords}
+use Rattle.rules.specs.Isolation.{publicThen}
+use Rattle.rules.proofs.ProperLaws.{by-cond, end-debug-proper, stop-proper, step-proper, proceed-proper, deposit-proper, break-proper, unbreak-proper, destroy-proper, host-proper, resume-proper, vector-proper}
+
+-- all that the tests 7 to 12, and those of the layout, say of a request that passes them
+pub record Passing (r : Rule) (h : Header) (string : List ℕ) (p : Process) : Type 0 where
+  pub there : p .there ≡ true
+  pub asked : h .host ≡ 0 → ⊥
+  pub carried : length string ≤ h .arg2
+  pub right : r .right (public p) (h .host) ≡ true
+  pub runs : r .runs (p .run) ≡ true
+  pub range : r .range h (p .size) ≡ true
+  pub room : r .room (h .arg1) p ≡ true
+  pub found : r .found (h .arg1) p ≡ true
+
+-- a rule that asks no more than the right, and shows nothing
+pub record Open (r : Rule) : Type 0 where
+  pub runs : (x : Run) → r .runs x ≡ true
+  pub range : (h : Header) (size : ℕ) → r .range h size ≡ true
+  pub room : (a : ℕ) (p : Process) → r .room a p ≡ true
+  pub found : (a : ℕ) (p : Process) → r .found a p ≡ true
+  pub shown : (h : Header) (l : Local) → r .shown h l ≡ []
+
+-- what is done to a process leaves its public part
+abbrev Quiet : Rule → Type 0
+Quiet r = (h : Header) (string : List ℕ) (l : Local) → public (r .effect h string l .process) ≡ public (l .process)
+
+-- and the vector its nine words
+abbrev Wordy : Rule → Type 0
+Wordy r = (h : Header) (string : List ℕ) (l : Local) → NineWords (l .process) → NineWords (r .effect h string l .process)
+
+-- an op code that, when granted, changes nothing that is public
+unfoldable pub Kept : ℕ → Type 0
+Kept cmd = (asker : ℕ) (u : Public) → publicThen cmd asker u ≡ u
+
+-- an op code that, when granted, makes the asker debug the process, and asks and shows no more
+pub record Taking (cmd : ℕ) (r : Rule) : Type 0 where
+  pub free : Open r
+  pub takes : (asker : ℕ) (u : Public) → publicThen cmd asker u .host ≡ asker
+
+-- by a call with these fields the right to debug process p begins; u and v are its public parts before and after
+pub record BeginsBy (w : Asker) (h : Header) (p : ℕ) (u v : Public) : Type 0 where
+  pub op : ((h .cmd ≡ 1) × (h .pid ≡ p)) ⊎ (h .cmd ≡ 12)
+  pub before : u .host ≡ 0
+  pub after : w ≡ by (v .host)
+
+-- or it ends
+pub record EndsBy (w : Asker) (h : Header) (p : ℕ) (u v : Public) : Type 0 where
+  pub op : (h .cmd ≡ 2) ⊎ (h .cmd ≡ 13)
+  pub named : h .pid ≡ p
+  pub before : w ≡ by (u .host)
+  pub after : v .host ≡ 0
+
+-- or it stays
+abbrev pub Turns : Asker → Header → ℕ → Public → Public → Type 0
+Turns w h p u v = (v .host ≡ u .host) ⊎ (BeginsBy w h p u v ⊎ EndsBy w h p u v)
+
+pub record Row (cmd : ℕ) (r : Rule) : Type 0 where
+  -- a sound process stays sound
+  pub keeps : (h : Header) (string : List ℕ) (l : Local) → Proper l → Passing r h string (l .process) → Proper (r .effect h string l)
+  -- and its vector has nine words
+  pub words : Wordy r
+  -- who may ask debugs the process, or will, and nothing else is asked
+  pub guarded : (u : Public) (asker : ℕ) → r .right u asker ≡ true → (u .host ≡ asker) ⊎ Taking cmd r
+  -- the public part stays, or nothing else is asked
+  pub discreet : Kept cmd ⊎ Open r
+  -- the public part after it
+  pub publicly : (h : Header) (string : List ℕ) (l : Local) → public (r .effect h string l .process) ≡ publicThen cmd (h .host) (public (l .process))
+  -- the right to debug after it
+  pub turns : (h : Header) → h .cmd ≡ cmd → (u : Public) → r .right u (h .host) ≡ true → Turns (by (h .host)) h (h .pid) u (publicThen cmd (h .host) u)
+
+-- ---- public parts
+
+-- a choice between two that show the same
+by-public : (t : Bool) (x y : Local) (u : Public) → public (x .process) ≡ u → public (y .process) ≡ u → public (cond t x y .process) ≡ u
+by-public true x y u e q = e
+by-public false x y u e q = q
+
+pub public-replanted : (l : Local) → public (replanted l .process) ≡ public (l .process)
+unfolding replanted plantedIn public
+public-replanted l = by-public (ltb (find Lifted (l .process)) 8) _ l _ refl refl
+
+public-liftedAt : (at : ℕ) (l : Local) → public (liftedAt at l .process) ≡ public (l .process)
+unfolding liftedAt liftedIn public
+public-liftedAt at l = by-public (ltb (find (At at) (l .process)) 8) _ l _ refl refl
+
+pub public-reported : (kind : ℕ) (words : List ℕ) (l : Local) → public (reported kind words l .process) ≡ public (l .process)
+unfolding reported passed liftedIn storeVectorAndReplant public
+public-reported kind words l = go (verdictOf kind (storeVectorAndReplant words l .process))
+  where
+    go : (v : Verdict) → public (carriedOut v kind (storeVectorAndReplant words l) .process) ≡ public (l .process)
+    go Stops = public-replanted (onRecord (withVector words) l)
+    go (CountsDown k) = public-replanted (onRecord (withVector words) l)
+
+-- ---- the words of the vector
+
+abbrev count : Local → ℕ
+count l = length (l .process .vector)
+
+count-replanted : (l : Local) → count (replanted l) ≡ count l
+unfolding replanted plantedIn
+count-replanted l = by-cond count (ltb (find Lifted (l .process)) 8) _ l (count l) refl refl
+
+count-liftedAt : (at : ℕ) (l : Local) → count (liftedAt at l) ≡ count l
+unfolding liftedAt liftedIn
+count-liftedAt at l = by-cond count (ltb (find (At at) (l .process)) 8) _ l (count l) refl refl
+
+pub count-reported : (kind : ℕ) (words : List ℕ) (l : Local) → count (reported kind words l) ≡ length words
+unfolding reported passed liftedIn storeVectorAndReplant
+count-reported kind words l = go (verdictOf kind (storeVectorAndReplant words l .process))
+  where
+    go : (v : Verdict) → count (carriedOut v kind (storeVectorAndReplant words l)) ≡ length words
+    go Stops = count-replanted (onRecord (withVector words) l)
+    go (CountsDown k) = count-replanted (onRecord (withVector words) l)
+
+-- ---- rows that ask the right, and leave the public part
+
+quiet-row : (cmd : ℕ) (r : Rule) → Kept cmd → ((u : Public) (asker : ℕ) → r .right u asker ≡ true → u .host ≡ asker) → Quiet r → Wordy r
+    → ((h : Header) (string : List ℕ) (l : Local) → Proper l → Passing r h string (l .process) → Proper (r .effect h string l)) → Row cmd r
+unfolding Kept
+quiet-row cmd r kept right q words keeps = record {
+  keeps = keeps;
+  words = words;
+  guarded = λ u asker e. inl (right u asker e);
+  discreet = inl kept;
+  publicly = λ h string l. q h string l ∙ sym (kept (h .host) (public (l .process)));
+  turns = λ h e u i. inl (ap (λ (v : Public). v .host) (kept (h .host) u));
+}
+
+-- the op codes that leave the public part
+by-others : (cmd : ℕ) → eqb cmd 1 ≡ false → eqb cmd 2 ≡ false → eqb cmd 13 ≡ false → Kept cmd
+unfolding Kept publicThen
+by-others cmd e q k asker u = rw (e, q, k)
+
+held : (u : Public) (asker : ℕ) → eqb (u .host) asker ≡ true → u .host ≡ asker
+held u asker e = eqb-true (u .host) asker e
+
+-- a process that is there has as many bytes as its size says
+whole : (l : Local) → Proper l → l .process .there ≡ true → length (l .bytes) ≡ l .process .size
+whole l g t = rw t at (g .tested .size)
+
+-- ---- the rows
+
+no-row : (cmd : ℕ) → Kept cmd → Row cmd noRule
+no-row cmd kept = quiet-row cmd noRule kept held (λ h s l. refl) (λ h s l n. n) (λ h s l g p. g)
+
+debug-open : Open debugRule
+debug-open = record { runs = λ x. refl; range = λ h size. refl; room = λ a p. refl; found = λ a p. refl; shown = λ h l. refl }
+
+alone : (u : Public) (asker : ℕ) → eqb (u .host) 0 || eqb (u .host) asker ≡ true → (u .host ≡ 0) ⊎ (u .host ≡ asker)
+alone u asker = go (eqb (u .host) 0) refl
+  where
+    go : (t : Bool) → eqb (u .host) 0 ≡ t → t || eqb (u .host) asker ≡ true → (u .host ≡ 0) ⊎ (u .host ≡ asker)
+    go true e i = inl (eqb-true (u .host) 0 e)
+    go false e i = inr (eqb-true (u .host) asker i)
+
+debug-row : Row 1 debugRule
+unfolding public publicThen
+debug-row = record {
+  keeps = λ h s l g p. host-proper (h .host) l g (p .there) (p .asked);
+  words = λ h s l n. n;
+  guarded = λ u asker e. inr (record { free = debug-open; takes = λ a v. refl });
+  discreet = inr debug-open;
+  publicly = λ h s l. refl;
+  turns = λ h e u i. begins h e u (alone u (h .host) i);
+}
+  where
+    begins : (h : Header) → h .cmd ≡ 1 → (u : Public) → (u .host ≡ 0) ⊎ (u .host ≡ h .host) → Turns (by (h .host)) h (h .pid) u (publicThen 1 (h .host) u)
+    begins h e u (inl z) = inr (inl (record { op = inl (e, refl); before = z; after = refl }))
+    begins h e u (inr i) = inl (sym i)
+
+end-debug-open : Open endDebugRule
+end-debug-open = record { runs = λ x. refl; range = λ h size. refl; room = λ a p. refl; found = λ a p. refl; shown = λ h l. refl }
+
+end-debug-row : Row 2 endDebugRule
+unfolding endDebugged public publicThen
+end-debug-row = record {
+  keeps = λ h s l g p. end-debug-proper l g;
+  words = λ h s l n. n;
+  guarded = λ u asker e. inl (held u asker e);
+  discreet = inr end-debug-open;
+  publicly = λ h s l. refl;
+  turns = λ h e u i. inr (inr (record { op = inl e; named = refl; before = ap by (sym (held u (h .host) i)); after = refl }));
+}
+
+stop-row : Row 3 (plain (λ h s. stopped))
+unfolding stopped public
+stop-row =
+    quiet-row 3 (plain (λ h s. stopped)) (by-others 3 refl refl refl) held
+    (λ h s l. by-public (moving (l .process .run)) _ l _ (public-replanted l) refl)
+    (λ h s l n. by-cond count (moving (l .process .run)) _ l 9 (count-replanted l ∙ n) n)
+    (λ h s l g p. stop-proper l g)
+
+deposit-row : Row 4 (inRange (λ h size. upTo size h) (λ h s. deposited (h .arg1) s))
+unfolding deposited public
+deposit-row =
+    quiet-row 4 (inRange (λ h size. upTo size h) (λ h s. deposited (h .arg1) s)) (by-others 4 refl refl refl) held (λ h s l. refl) (λ h s l n. n)
+    (λ h s l g p. deposit-proper l g (h .arg1) s (omega (arith, leb-true (h .arg1 + h .arg2) (l .process .size) (p .range), p .carried, whole l g (p .there))))
+
+resume-row : Row 5 (whileRun stoppedOrAtBreak (λ h s. resumed))
+unfolding public
+resume-row = quiet-row 5 (whileRun stoppedOrAtBreak (λ h s. resumed)) (by-others 5 refl refl refl) held (λ h s l. refl) (λ h s l n. n) (λ h s l g p. resume-proper l g)
+
+examine-row : Row 6 examineRule
+examine-row = quiet-row 6 examineRule (by-others 6 refl refl refl) held (λ h s l. refl) (λ h s l n. n) (λ h s l g p. g)
+
+vector-row : Row 7 (inRange (λ h size. upTo 18 h) (λ h s. vectorDeposited (h .arg1) s))
+unfolding public vectorAfter vectorOf
+vector-row =
+    quiet-row 7 (inRange (λ h size. upTo 18 h) (λ h s. vectorDeposited (h .arg1) s)) (by-others 7 refl refl refl) held (λ h s l. refl) (λ h s l n. refl) (λ h s l g p. vector-proper _ l g)
+
+-- where there is none at the address there is room
+room-or : (t u : Bool) → t || u ≡ true → t ≡ false → u ≡ true
+room-or true u e q = absurd (true≢false q)
+room-or false u e q = e
+
+break-row : Row 8 breakRule
+unfolding breakSet plantedIn public validBreakAddress
+break-row =
+    quiet-row 8 breakRule (by-others 8 refl refl refl) held
+    (λ h s l. by-public (hasBreak (h .arg1) (l .process)) _ _ _ refl refl)
+    (λ h s l n. by-cond count (hasBreak (h .arg1) (l .process)) _ _ 9 n n)
+    (λ h s l g p.
+    let even = eqb-true _ _ (&&-left (eqb (h .arg1 % 2) 0) _ (p .range)) in
+    let low = leb-true _ _ (&&-right (eqb (h .arg1 % 2) 0) (leb (h .arg1 + 2) (l .process .size)) (p .range)) in
+    let host : l .process .host ≡ h .host = held (public (l .process)) (h .host) (p .right) in
+    break-proper l g (h .arg1) (h .arg2) (λ z. p .asked (sym host ∙ z)) even low
+    (room-or (hasBreak (h .arg1) (l .process)) (hasRoom (l .process)) (p .room)))
+
+unbreak-row : Row 9 unbreakRule
+unfolding breakRemoved removedFrom public
+unbreak-row = quiet-row 9 unbreakRule (by-others 9 refl refl refl) held (λ h s l. refl) (λ h s l n. n) (λ h s l g p. unbreak-proper l g (h .arg1) (p .found))
+
+step-row : Row 10 (whileRun stoppedOrAtBreak (λ h s. stepped))
+unfolding stepped public
+step-row =
+    quiet-row 10 (whileRun stoppedOrAtBreak (λ h s. stepped)) (by-others 10 refl refl refl) held
+    (λ h s l. by-public (atBreak (l .process .run)) _ l _ (public-liftedAt (pc (l .process)) l) refl)
+    (λ h s l n. by-cond count (atBreak (l .process .run)) _ l 9 (count-liftedAt (pc (l .process)) l ∙ n) n)
+    (λ h s l g p. step-proper l g (p .runs))
+
+proceed-row : Row 11 (whileRun atBreak (λ h s. proceeded))
+unfolding proceeded public
+proceed-row =
+    quiet-row 11 (whileRun atBreak (λ h s. proceeded)) (by-others 11 refl refl refl) held
+    (λ h s l. public-liftedAt (pc (l .process)) l)
+    (λ h s l n. count-liftedAt (pc (l .process)) l ∙ n)
+    (λ h s l g p. proceed-proper l g (p .runs))
+
+destroy-open : Open (plain (λ h s. destroyed))
+destroy-open = record { runs = λ x. refl; range = λ h size. refl; room = λ a p. refl; found = λ a p. refl; shown = λ h l. refl }
+
+destroy-row : Row 13 (plain (λ h s. destroyed))
+unfolding publicThen public cleared fresh
+destroy-row = record {
+  keeps = λ h s l g p. destroy-proper;
+  words = λ h s l n. refl;
+  guarded = λ u asker e. inl (held u asker e);
+  discreet = inr destroy-open;
+  publicly = λ h s l. refl;
+  turns = λ h e u i. inr (inr (record { op = inr e; named = refl; before = ap by (sym (held u (h .host) i)); after = refl }));
+}
+
+-- ---- all of them
+
+abbrev Each : ℕ → List Rule → Type 0
+Each cmd [] = Unit {0}
+Each cmd (r ∷ rs) = Row cmd r × Each (suc cmd) rs
+
+each-getD : (from : ℕ) (rs : List Rule) → Each from rs → (k : ℕ) → k < length rs → Row (k + from) (getD rs k noRule)
+each-getD from [] e k h = absurd (omega arith)
+each-getD from (r ∷ rs) e zero h = let same : 0 + from ≡ from = omega arith in rw same (e .0)
+each-getD from (r ∷ rs) e (suc k) h =
+    let same : k + suc from ≡ suc k + from = omega arith in
+    rw (← same) (each-getD (suc from) rs (e .1) k (omega arith))
+
+-- the rule of any op code of the table
+pub rule-row : (cmd : ℕ) → cmd < length ops → Row cmd (ruleOf cmd)
+unfolding ruleOf
+rule-row cmd h =
+    let same : cmd + 0 ≡ cmd = omega arith in
+    subst (λ (n : ℕ). Row n (getD rules cmd noRule)) same
+    (each-getD 0 rules
+    (no-row 0 (by-others 0 refl refl refl), (debug-row, (end-debug-row, (stop-row, (deposit-row, (resume-row, (examine-row, (vector-row, (break-row, (unbreak-row, (step-row, (proceed-row, (no-row 12 (by-others 12 refl refl refl), (destroy-row, tt))))))))))))))
+    cmd h)

@@ -1,0 +1,184 @@
+-- Each call, in its parts, answers and leaves what its definition says. Assumes nothing.
+use mathlib.Core.Path.{_≡_, refl, sym, ap, _∙_}
+use mathlib.Core.Bool.{Bool, true, false, not, cond, _&&_}
+use mathlib.Core.List.{List, [], _∷_}
+use Prim.Native.Nat.{ℕ}
+use lib.Dec.{eqb, ltb}
+use Rattle.lists.specs.Buffer.{overlay}
+use Rattle.lists.specs.Word.{lowFirst}
+use Rattle.format.specs.declared.header.Header.{Header}
+use Rattle.format.specs.Outcome.{outcome, test, firstFailing}
+use Rattle.format.specs.Layout.{written, headerOf, stringOf}
+use Rattle.format.specs.Answer.{cantOf, createdOf, noticeOf}
+use Rattle.format.proofs.LayoutLaws.{length-written}
+use Rattle.process.specs.Local.{Local}
+use Rattle.process.specs.Report.{recipientOf}
+use Rattle.run_state.specs.RunState.{accepts}
+use Rattle.state.specs.Records.{lowestAbsent}
+use Rattle.rules.specs.Rule.{Rule, public, ruleOf, names, creates}
+use Rattle.rules.specs.Tests.{State, recordOf, noRoom, unsound, outerTests, innerTests, ruleTests, askedTests, requestNumber, badReport, reportNumber}
+use Rattle.rules.specs.Access.{Access, Place, nowhere, atProcess, Turn, numberAt, reached, taken}
+use Rattle.rules.specs.Step.{answers, localOf, grantedNamed, grantedCreate, granted, refused, requestStep, told, noticeTo, notified, reportStep, stored}
+use Rattle.rules.specs.Turn.{cantBytes, ruleAccess, createAccess, placeTests, requestPlace, messageTests, requestTurn, reportAccess, reportTurn, storeAccess, storeTurn}
+use Rattle.rules.proofs.NumberLaws.{orElse, orElse-assoc, first-append}
+
+-- the number that is found at a place
+unfoldable pub placeNumber : Place → State → ℕ
+placeNumber (nowhere bytes) s = 0
+placeNumber (atProcess p a) s = numberAt a (localOf s p)
+
+-- the number of a call
+unfoldable pub turnNumber : Turn → State → ℕ
+turnNumber t s = orElse (firstFailing (t .tests)) (placeNumber (t .place) s)
+
+-- ---- requests
+
+seven : (t u : Bool) (n : ℕ) → orElse (cond (not t) 7 0) (cond (not u) 7 n) ≡ cond (not (t && u)) 7 n
+seven true true n = refl
+seven true false n = refl
+seven false u n = refl
+
+-- whichever tests the rows list
+named-number : (t : Bool) (r : Rule) (h : Header) (string : List ℕ) (l : Local)
+    → orElse (cond (not t) 7 0) (numberAt (ruleAccess r h string) l) ≡ cond (not (t && l .process .there)) 7 (firstFailing (ruleTests r h (l .process)))
+unfolding numberAt ruleAccess firstFailing public
+named-number t r h string l =
+    let p = l .process in
+    ap (orElse (cond (not t) 7 0)) (sym (first-append (test 7 (not (p .there)) ∷ outerTests r h (public p)) (innerTests r h p) refl))
+    ∙ seven t (p .there) (firstFailing (ruleTests r h p))
+
+or-none : (t : Bool) → orElse (cond t 13 0) 0 ≡ cond t 13 0
+or-none true = refl
+or-none false = refl
+
+module _ (h : Header) (string : List ℕ) (s : State) where
+  asked-number : orElse (firstFailing (placeTests h s)) (placeNumber (requestPlace h string s) s) ≡ firstFailing (askedTests h s)
+  unfolding placeTests requestPlace askedTests placeNumber numberAt firstFailing ruleAccess createAccess public
+  asked-number = go (names (h .cmd)) refl (creates (h .cmd)) refl
+    where
+      go : (t : Bool) → names (h .cmd) ≡ t → (u : Bool) → creates (h .cmd) ≡ u
+          → orElse (firstFailing (placeTests h s)) (placeNumber (requestPlace h string s) s) ≡ firstFailing (askedTests h s)
+      go true e u i = rw e (named-number (ltb (h .pid) 8) (ruleOf (h .cmd)) h string (localOf s (h .pid)))
+      go false e true i = rw (e, i) (or-none (not (ltb (lowestAbsent (s .records)) 8)))
+      go false e false i = rw (e, i)
+
+pub request-number : (m buffer : List ℕ) (s : State) → turnNumber (requestTurn m buffer s) s ≡ requestNumber s m buffer
+unfolding turnNumber requestTurn requestNumber
+request-number m buffer s =
+    rw (first-append (messageTests s m buffer) (placeTests (headerOf m) s) refl, first-append (messageTests s m buffer) (askedTests (headerOf m) s) refl)
+    (orElse-assoc (firstFailing (messageTests s m buffer)) (firstFailing (placeTests (headerOf m) s)) (placeNumber (requestPlace (headerOf m) (stringOf m) s) s)
+    ∙ ap (orElse (firstFailing (messageTests s m buffer))) (asked-number (headerOf m) (stringOf m) s))
+
+-- the bytes of a refusal, laid over the buffer
+cant-over : (t : Bool) (bytes buffer : List ℕ) → overlay (cond t [] bytes) buffer ≡ cond t buffer (overlay bytes buffer)
+unfolding overlay
+cant-over true bytes buffer = refl
+cant-over false bytes buffer = refl
+
+module _ (m buffer : List ℕ) (s : State) where
+  abbrev turn : Turn
+  turn = requestTurn m buffer s
+
+  request-refused : eqb (requestNumber s m buffer) 0 ≡ false
+      → requestStep m buffer s ≡ record { answer = record { outcome = outcome (requestNumber s m buffer) 0; buffer = overlay (cantBytes (headerOf m) (requestNumber s m buffer)) buffer }; after = s }
+  unfolding requestStep refused cantBytes
+  request-refused e = rw (e, cant-over (ltb (requestNumber s m buffer) 7) (written (cantOf (headerOf m)) []) buffer)
+
+  request-place : requestNumber s m buffer ≡ placeNumber (requestPlace (headerOf m) (stringOf m) s) s
+      → requestStep m buffer s ≡ reached (requestPlace (headerOf m) (stringOf m) s) buffer s
+  unfolding requestStep granted grantedNamed grantedCreate requestPlace placeNumber reached numberAt firstFailing createAccess ruleAccess
+  request-place same = go (names (headerOf m .cmd)) refl (creates (headerOf m .cmd)) refl
+    where
+      h : Header
+      h = headerOf m
+
+      near : (a : Access) (t : Bool) → eqb (numberAt a (localOf s (h .pid))) 0 ≡ t → a ≡ ruleAccess (ruleOf (h .cmd)) h (stringOf m)
+          → names (h .cmd) ≡ true → requestNumber s m buffer ≡ numberAt a (localOf s (h .pid)) → requestStep m buffer s ≡ reached (atProcess (h .pid) a) buffer s
+      near a true e i n number = rw (number, e, n, i, length-written h (ruleOf (h .cmd) .shown h (localOf s (h .pid))))
+      near a false e i n number = request-refused (rw number e) ∙ rw (number, e, i)
+
+      go : (t : Bool) → names (headerOf m .cmd) ≡ t → (u : Bool) → creates (headerOf m .cmd) ≡ u
+          → requestStep m buffer s ≡ reached (requestPlace (headerOf m) (stringOf m) s) buffer s
+      go true n u c =
+          let a = ruleAccess (ruleOf (h .cmd)) h (stringOf m) in
+          let here : requestPlace h (stringOf m) s ≡ atProcess (h .pid) a = rw n in
+          near a (eqb (numberAt a (localOf s (h .pid))) 0) refl refl n (same ∙ ap (λ (x : Place). placeNumber x s) here) ∙ sym (ap (λ (x : Place). reached x buffer s) here)
+      go false n true c = let zero : requestNumber s m buffer ≡ 0 = rw (n, c) at same in rw (zero, n, c, length-written (createdOf h (lowestAbsent (s .records))) [])
+      go false n false c = let zero : requestNumber s m buffer ≡ 0 = rw (n, c) at same in rw (zero, n, c, length-written h [])
+
+  pub request-turn : requestStep m buffer s ≡ taken (requestTurn m buffer s) buffer s
+  unfolding taken turnNumber requestTurn cantBytes
+  request-turn = go (eqb (firstFailing (turn .tests)) 0) refl
+    where
+      number : requestNumber s m buffer ≡ orElse (firstFailing (turn .tests)) (placeNumber (turn .place) s)
+      number = sym (request-number m buffer s)
+
+      go : (t : Bool) → eqb (firstFailing (turn .tests)) 0 ≡ t → requestStep m buffer s ≡ taken (requestTurn m buffer s) buffer s
+      go true e = rw e (request-place (rw e at number))
+      go false e = let same : requestNumber s m buffer ≡ firstFailing (turn .tests) = rw e at number in rw e (rw same at (request-refused (rw same e)))
+
+-- ---- reports
+
+report-tests : (a b c t u v : Bool)
+    → orElse (cond a 1 (cond b 2 (cond c 14 (cond (not t) 7 0)))) (orElse (cond (not u) 7 0) (cond v 9 0)) ≡ cond a 1 (cond b 2 (cond c 14 (cond (not (t && u)) 7 (cond v 9 0))))
+report-tests true b c t u v = refl
+report-tests false true c t u v = refl
+report-tests false false true t u v = refl
+report-tests false false false false u v = refl
+report-tests false false false true false v = refl
+report-tests false false false true true v = refl
+
+module _ (p kind reason : ℕ) (words buffer : List ℕ) (s : State) where
+  pub report-number : turnNumber (reportTurn p kind reason words buffer s) s ≡ reportNumber s p kind reason buffer
+  unfolding turnNumber reportTurn placeNumber numberAt reportAccess firstFailing reportNumber public
+  report-number =
+      report-tests (noRoom (s .memory) buffer) (unsound s) (badReport kind reason) (ltb p 8) (recordOf s p .there) (not (accepts kind (recordOf s p .run)))
+
+  report-refused : eqb (reportNumber s p kind reason buffer) 0 ≡ false
+      → reportStep p kind reason words buffer s ≡ record { answer = record { outcome = outcome (reportNumber s p kind reason buffer) 0; buffer = buffer }; after = s }
+  unfolding reportStep
+  report-refused e = rw e
+
+  abbrev access : Access
+  access = reportAccess p kind reason words
+
+  report-place : reportNumber s p kind reason buffer ≡ numberAt access (localOf s p) → reportStep p kind reason words buffer s ≡ reached (atProcess p access) buffer s
+  unfolding reportStep notified noticeTo reached reportAccess overlay
+  report-place same = go (eqb (numberAt access (localOf s p)) 0) refl (told kind words (localOf s p)) refl
+    where
+      go : (t : Bool) → eqb (numberAt access (localOf s p)) 0 ≡ t → (u : Bool) → told kind words (localOf s p) ≡ u → reportStep p kind reason words buffer s ≡ reached (atProcess p access) buffer s
+      go true e true i = rw (same, e, i, length-written (noticeOf (recipientOf kind words (localOf s p)) kind p reason) (lowFirst words))
+      go true e false i = rw (same, e, i)
+      go false e u i = report-refused (rw same e) ∙ rw (same, e)
+
+  pub report-turn : reportStep p kind reason words buffer s ≡ taken (reportTurn p kind reason words buffer s) buffer s
+  unfolding taken turnNumber reportTurn overlay placeNumber
+  report-turn = go (eqb (firstFailing (turn .tests)) 0) refl
+    where
+      turn : Turn
+      turn = reportTurn p kind reason words buffer s
+
+      number : reportNumber s p kind reason buffer ≡ orElse (firstFailing (turn .tests)) (placeNumber (turn .place) s)
+      number = sym report-number
+
+      go : (t : Bool) → eqb (firstFailing (turn .tests)) 0 ≡ t → reportStep p kind reason words buffer s ≡ taken (reportTurn p kind reason words buffer s) buffer s
+      go true e = rw e (report-place (rw e at number))
+      go false e = let same : reportNumber s p kind reason buffer ≡ firstFailing (turn .tests) = rw e at number in rw e (rw same at (report-refused (rw same e)))
+
+-- ---- stores
+
+pub store-turn : (p a v : ℕ) (s : State) → answers (outcome 0 0) [] (stored p a v s) ≡ taken (storeTurn p a v) [] s
+unfolding stored taken storeTurn reached storeAccess numberAt firstFailing overlay
+store-turn p a v s = go (ltb p 8) refl
+  where
+    go : (t : Bool) → ltb p 8 ≡ t → answers (outcome 0 0) [] (stored p a v s) ≡ taken (storeTurn p a v) [] s
+    go true e = rw e
+    go false e = rw e
+
+pub store-number : (p a v : ℕ) (s : State) → turnNumber (storeTurn p a v) s ≡ 0
+unfolding turnNumber storeTurn placeNumber numberAt storeAccess firstFailing
+store-number p a v s = go (ltb p 8)
+  where
+    go : (t : Bool) → placeNumber (cond t (atProcess p (storeAccess a v)) (nowhere [])) s ≡ 0
+    go true = refl
+    go false = refl
