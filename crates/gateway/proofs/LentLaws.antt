@@ -12,7 +12,7 @@ use Rattle.format.specs.declared.outcome.Outcome.{Outcome}
 use Rattle.format.specs.declared.outcome.Outcome.the-variants.{Refused}
 use Rattle.format.specs.Outcome.{firstFailing}
 use Rattle.format.proofs.OutcomeLaws.{outcome-other}
-use Rattle.state.specs.Records.{soundTest}
+use Rattle.state.specs.Sound.{soundTest}
 use Rattle.rules.specs.Tests.{State, lent, noRoom}
 use Rattle.rules.specs.Step.{Call, request, report, answers, step, requestStep, reportStep}
 use Rattle.rules.specs.Turn.{bufferOf}

@@ -4,6 +4,7 @@ pub mod StageLaws
 pub mod AskedLaws
 pub mod ReportLaws
 pub mod LentLaws
+pub mod ReadyLaws
 pub mod FinishLaws
 pub mod LengthLaws
 pub mod SequenceLaws

@@ -32,7 +32,7 @@ fn report_known(
     if !process.there {
         return Outcome::Refused(7);
     }
-    let start = read_start(state, index);
+    let start = read_start(state, index) as usize;
     let end = start + process.extent();
     let served = report_for_process(
         pid,

@@ -60,7 +60,7 @@ fn answer_named(
         return refuse(h, 7, reply);
     }
     let size = process.extent();
-    let start = read_start(state, pid);
+    let start = read_start(state, pid) as usize;
     let end = start + size;
     let served = answer_for_process(h, process, &mut memory[start..end], string, reply);
     let outcome = served.outcome;
@@ -107,7 +107,7 @@ fn create_last(
     let served = answer_create(h, pid, size, process, &mut memory[start..end], reply);
     let outcome = served.outcome;
     let next = served.process;
-    put_start(start, pid, state);
+    put_start(start as u16, pid, state);
     put_process_at(next, pid, state);
     outcome
 }

@@ -1,4 +1,4 @@
--- `gateway::fresh::sizes_right` meets its contract. The loop's invariant: every process passed is absent or has a right size. Assumes nothing.
+-- `gateway::fresh::each_right` meets its contract. The loop's invariant: every process passed is absent or has a right size. Assumes nothing.
 use mathlib.Core.Path.{_≡_, refl, sym, _∙_}
 use mathlib.Core.Bool.{Bool, true, false, not, _||_}
 use Prim.Native.Nat.{ℕ, _-_, _≤_}
@@ -10,9 +10,9 @@ use borrow.Author.Needs.{needs}
 use Rattle.lists.specs.Every.{below}
 use Rattle.lists.proofs.Every.{below-more, below-fails}
 use Rattle.process.specs.Sizes.{validSize}
-use Rattle.state.specs.Records.{sizesRight}
-use Rattle.gateway.proofs.fresh.sizes_right.Statement.{statement}
-use Rattle.gateway.proofs.fresh.sizes_right.Tie as tie
+use Rattle.state.specs.Fresh.{eachRight}
+use Rattle.gateway.proofs.fresh.each_right.Statement.{statement}
+use Rattle.gateway.proofs.fresh.each_right.Tie as tie
 
 -- process p is absent, or has a right size
 abbrev right : List Bool → List ℕ → ℕ → Bool
@@ -37,7 +37,7 @@ size-right-requires : tie.Need-size-right-requires Inv-loop μ-loop
 size-right-requires c κs = search needs
 
 returns : tie.Need-returns Inv-loop μ-loop
-unfolding sizesRight
+unfolding eachRight
 returns c =
     let x = c .before in
     let n = c .before .before in
@@ -62,11 +62,11 @@ loop-again c =
     (omega arith, l .loop .inv .1, below-more (right (a .t1) (a .sizes)) (l .loop .p) (l .loop .inv .2) (sym is ∙ not-false (x .size-right .result) (c .if1 .left)))
 
 returns-2 : tie.Need-returns-2 Inv-loop μ-loop
-unfolding sizesRight
+unfolding eachRight
 returns-2 c =
     let l = c .before in
     let end : l .loop .p ≡ 8 = omega arith in
     sym (rw end at (l .loop .inv .2))
 
-pub sizes-right-spec : {M : Type 1} → statement M
-sizes-right-spec = tie.close (tie.spec Inv-loop μ-loop loop-holds array-read-size-right size-of-requires size-right-requires returns add-p loop-less loop-again returns-2)
+pub each-right-spec : {M : Type 1} → statement M
+each-right-spec = tie.close (tie.spec Inv-loop μ-loop loop-holds array-read-size-right size-of-requires size-right-requires returns add-p loop-less loop-again returns-2)
