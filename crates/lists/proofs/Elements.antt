@@ -1,5 +1,5 @@
 -- Laws of a list by its elements. Assumes nothing.
-use mathlib.Core.Path.{_≡_, refl, sym, ap, _∙_}
+use mathlib.Core.Path.{_≡_, refl, sym, ap, ap₂, _∙_}
 use mathlib.Core.List.{List, [], _∷_, _++_}
 use Prim.Native.Nat.{ℕ, zero, suc, _+_, _≤_, _<_}
 use native.Mathlib.Nat.{not-suc-le-zero}
@@ -18,6 +18,12 @@ pub getD-elements : (f : ℕ → ℕ) (n k : ℕ) → k < n → getD (elements f
 getD-elements f zero k h = absurd (not-suc-le-zero h)
 getD-elements f (suc n) zero h = refl
 getD-elements f (suc n) (suc k) h = getD-elements (λ (i : ℕ). f (suc i)) n k (omega arith)
+
+-- by elements that are the same
+pub elements-alike : (f g : ℕ → ℕ) (n : ℕ) → ((k : ℕ) → k < n → f k ≡ g k) → elements f n ≡ elements g n
+elements-alike f g zero h = refl
+elements-alike f g (suc n) h =
+    ap₂ (λ (x : ℕ) (xs : List ℕ). x ∷ xs) (h 0 (omega arith)) (elements-alike (λ (i : ℕ). f (suc i)) (λ (i : ℕ). g (suc i)) n (λ k l. h (suc k) (omega arith)))
 
 -- one more element
 pub elements-snoc : (f : ℕ → ℕ) (n : ℕ) → elements f (suc n) ≡ elements f n ++ (f n ∷ [])

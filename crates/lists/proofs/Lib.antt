@@ -1,6 +1,7 @@
 -- Laws on lists, bytes and words.
 pub mod Bool
 pub mod Buffer
+pub mod Cases
 pub mod Elements
 pub mod Every
 pub mod First
@@ -8,5 +9,6 @@ pub mod Joined
 pub mod MapStep
 pub mod Part
 pub mod Short
+pub mod Sum
 pub mod Word
 pub mod Zeros

@@ -101,11 +101,18 @@ fits-shown s t shown p h u f =
       room = λ e. rw (← used-shown s t shown) (f .room (there ∙ e));
     }
 
+-- a process that keeps its public part has its place
+pub fits-kept : (s : State) → Ready s → (p : ℕ) → Fits s p (publicOf s p)
+fits-kept s r p = record {
+  kept = λ e i. refl;
+  room = λ e. rw e (let all = layout-of s r .fits in omega arith);
+}
+
 pair : {x y : Process} {bs cs : List ℕ} → x ≡ y → bs ≡ cs → local x bs ≡ local y cs
 pair e q = ap₂ (λ (x : Process) (bs : List ℕ). local x bs) e q
 
 -- no bytes
-none-of : (bs : List ℕ) → length bs ≡ 0 → bs ≡ []
+pub none-of : (bs : List ℕ) → length bs ≡ 0 → bs ≡ []
 none-of [] e = refl
 none-of (b ∷ bs) e = absurd (omega (arith, e))
 
@@ -254,7 +261,6 @@ module _ (s : State) (r : Ready s) (p : ℕ) (h : p < 8) (l : Local) (g : Proper
       let fits : used (s .records) + length (l .bytes) ≤ length (s .memory) = omega (arith, room, r .memory) in
       let here : getD (putLast p l s .records .starts) p 0 ≡ used (s .records) = getD-set-same (s .records .starts) p (used (s .records)) 0 (let e = r .starts in omega arith) in
       let else : (q : ℕ) → (q ≡ p → ⊥) → getD (putLast p l s .records .starts) q 0 ≡ startOf (s .records) q = λ q n. getD-set-other (s .records .starts) p q (used (s .records)) 0 n in
-      let size : 0 < extent (l .process) = rw there (let least = sound-of l g .sized .least in omega arith) in
       record {
         changed = record {
           here = here-is (putLast p l s) refl
@@ -267,7 +273,7 @@ module _ (s : State) (r : Ready s) (p : ℕ) (h : p < 8) (l : Local) (g : Proper
         memory = length-withSlot (used (s .records)) (l .bytes) (s .memory) fits ∙ r .memory;
         processes = long;
         starts = length-set (s .records .starts) p (used (s .records)) ∙ r .starts;
-        layout = layout-last (s .records) (r .processes) (r .starts) (layout-of s r) (sized-of s r) p h (l .process) absent there size (rw (← g .tested .size) room);
+        layout = layout-last (s .records) (r .processes) (r .starts) (layout-of s r) p h (l .process) absent there (rw (← g .tested .size) room) (sized-of s r);
       }
 
   -- ---- gone
@@ -289,19 +295,19 @@ module _ (s : State) (r : Ready s) (p : ℕ) (h : p < 8) (l : Local) (g : Proper
         memory = length-closed at count end (s .memory) low within ∙ r .memory;
         processes = long;
         starts = length-startsWithout p (s .records);
-        layout = layout-without (s .records) (r .processes) (layout-of s r) (sized-of s r) p h there (l .process) absent;
+        layout = layout-without (s .records) (r .processes) (layout-of s r) p h there (l .process) absent;
       }
     where
       moved : (q : ℕ) → q < 8 → (q ≡ p → ⊥) → recordOf s q .there ≡ true
           → (startOf (s .records) q + extentAt (s .records) q ≤ startOf (s .records) p) ⊎ (startOf (s .records) p + extentAt (s .records) p ≤ startOf (s .records) q)
           → slot (startOf (takenOut p l s .records) q) (extentAt (s .records) q) (takenOut p l s .memory) ≡ localOf s q .bytes
       moved q i n t (inl under) =
-          ap (λ (a : ℕ). slot a (extentAt (s .records) q) (takenOut p l s .memory)) (start-under (s .records) p q i n (omega (arith, under)))
+          ap (λ (a : ℕ). slot a (extentAt (s .records) q) (takenOut p l s .memory)) (start-under (s .records) p q i n t (omega (arith, under)))
           ∙ closed-below (startOf (s .records) p) (extentAt (s .records) p) (used (s .records)) (s .memory)
           (start-inside (s .records) (layout-of s r) p h there) (omega (arith, layout-of s r .fits, r .memory)) (startOf (s .records) q) (extentAt (s .records) q) under
       moved q i n t (inr above) =
           ap (λ (a : ℕ). slot a (extentAt (s .records) q) (takenOut p l s .memory))
-          (start-above (s .records) p q i t (omega (arith, above, sized-of s r p h there)))
+          (start-above (s .records) p q i n t (omega (arith, above, sized-of s r p h there)))
           ∙ closed-above (startOf (s .records) p) (extentAt (s .records) p) (used (s .records)) (s .memory)
           (start-inside (s .records) (layout-of s r) p h there) (omega (arith, layout-of s r .fits, r .memory)) (startOf (s .records) q) (extentAt (s .records) q) above
           (start-inside (s .records) (layout-of s r) q i t)

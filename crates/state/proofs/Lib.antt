@@ -1,1 +1,4 @@
 -- Laws that several proofs of this crate, and of the crates above, cite.
+pub mod RecordsLaws
+pub mod LayoutLaws
+pub mod MemoryLaws
