@@ -5,9 +5,10 @@ use Prim.Native.Nat.{_-_, _*_, _/_}
 use native.Mathlib.Omega.{arith}
 use borrow.Author.Needs.{needs}
 use borrow.Author.Tests.{ne-eqb, not-true, not-false}
+use Rattle.state_bytes.specs.Chunk.{everyChunk}
 use Rattle.state_bytes.specs.Process.{processSound}
 use Rattle.state_bytes.specs.State.{SoundBefore, stateFormed, stateSound}
-use Rattle.state_bytes.specs.Widths.{processCount, processWidth, stateWidth}
+use Rattle.state_bytes.specs.Widths.{processCount, processWidth, startsAt}
 use Rattle.state_bytes.proofs.ChunkLaws.{length-piece, test-piece, every-fails}
 use Rattle.state_bytes.proofs.StateLaws.{each-sound, sound-next}
 use Rattle.state_bytes.proofs.sound.state_sound.Statement.{statement}
@@ -17,7 +18,7 @@ abbrev Inv-loop : tie.InvT-loop
 Inv-loop state start₀ start = SoundBefore start state
 
 abbrev μ-loop : tie.MeasureT-loop
-μ-loop state start₀ start = stateWidth - start
+μ-loop state start₀ start = startsAt - start
 
 returns : tie.Need-returns Inv-loop μ-loop
 unfolding stateSound stateFormed
@@ -54,7 +55,7 @@ returns-2 c =
     let p = l .loop .start / processWidth in
     let m = l .before .before .before .before .args .state .now in
     let fails = test-piece processWidth p (l .loop .start) processSound m false (l .loop .inv .0) (sym (f .process-sound .ensures) ∙ not-true _ (c .if2 .taken)) in
-    sym (each-sound m (l .loop .inv .2) ∙ every-fails processWidth processSound processCount p m (omega (arith, l .loop .inv .0)) fails)
+    sym (each-sound m (l .loop .inv .2) ∙ rw (every-fails processWidth processSound processCount p m (omega (arith, l .loop .inv .0)) fails))
 
 loop-less : tie.Need-loop-less Inv-loop μ-loop
 loop-less c = omega arith
@@ -68,12 +69,16 @@ loop-again c =
     let holds = test-piece processWidth (start / processWidth) start processSound m true (l .loop .inv .0) (sym (f .process-sound .ensures) ∙ not-false _ (c .if2 .left)) in
     sound-next start m (l .loop .inv) (omega arith) holds
 
+layout-sound-requires : tie.Need-layout-sound-requires Inv-loop μ-loop
+layout-sound-requires c κs = omega (arith, c .before .loop .inv .2)
+
 returns-3 : tie.Need-returns-3 Inv-loop μ-loop
 returns-3 c =
-    let l = c .before in
+    let l = c .before .before in
     let m = l .before .before .before .before .args .state .now in
     let end : l .loop .start / processWidth ≡ processCount = omega (arith, l .loop .inv .0, l .loop .inv .1) in
-    sym (each-sound m (l .loop .inv .2) ∙ rw end at (l .loop .inv .3))
+    let all : everyChunk processWidth processSound processCount m ≡ true = rw end at (l .loop .inv .3) in
+    c .layout-sound .ensures ∙ sym (each-sound m (l .loop .inv .2) ∙ rw all)
 
 pub state-sound-spec : {M : Type 1} → statement M
 state-sound-spec =
@@ -92,4 +97,5 @@ state-sound-spec =
     returns-2
     loop-less
     loop-again
+    layout-sound-requires
     returns-3)

@@ -1,0 +1,42 @@
+-- `state_bytes::starts::put_start` meets its contract: two stores. Assumes nothing.
+use native.Mathlib.Omega.{arith}
+use borrow.Author.Needs.{needs}
+use lib.ListN.{length-set}
+use Rattle.state_bytes.proofs.StartLaws.{put-start-at}
+use Rattle.state_bytes.proofs.starts.put_start.Statement.{statement}
+use Rattle.state_bytes.proofs.starts.put_start.Tie as tie
+
+add-at : tie.Need-add-at
+add-at c = search needs
+
+add-at-2 : tie.Need-add-at-2
+add-at-2 c = search needs
+
+low-byte-requires : tie.Need-low-byte-requires
+low-byte-requires c κs = search needs
+
+slice-write-state : tie.Need-slice-write-state
+slice-write-state c = search needs
+
+high-byte-requires : tie.Need-high-byte-requires
+high-byte-requires c κs = search needs
+
+add-state : tie.Need-add-state
+add-state c = search needs
+
+slice-write-state-2 : tie.Need-slice-write-state-2
+slice-write-state-2 c = simp length-set (omega arith)
+
+same-length : tie.Need-same-length
+same-length c = search needs
+
+returns : tie.Need-returns
+returns c =
+    let l = c .before in
+    let s = l .before .before in
+    rw (l .low-byte .ensures, c .high-byte .ensures) (put-start-at (s .args .state .now) (s .args .p) (s .args .start) (s .pre .0) (s .pre .1))
+
+pub put-start-spec : {M : Type 1} → statement M
+put-start-spec =
+    tie.close
+    (tie.spec add-at add-at-2 low-byte-requires slice-write-state high-byte-requires add-state slice-write-state-2 same-length returns)

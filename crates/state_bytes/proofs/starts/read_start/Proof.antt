@@ -1,0 +1,34 @@
+-- `state_bytes::starts::read_start` meets its contract: two bytes. Assumes nothing.
+use mathlib.Core.Path.{_∙_}
+use borrow.Author.Needs.{needs}
+use Rattle.state_bytes.proofs.StartLaws.{read-start-at}
+use Rattle.state_bytes.proofs.starts.read_start.Statement.{statement}
+use Rattle.state_bytes.proofs.starts.read_start.Tie as tie
+
+add-at : tie.Need-add-at
+add-at c = search needs
+
+add-at-2 : tie.Need-add-at-2
+add-at-2 c = search needs
+
+add-word-of : tie.Need-add-word-of
+add-word-of c = search needs
+
+shared-slice-read-word-of : tie.Need-shared-slice-read-word-of
+shared-slice-read-word-of c = search needs
+
+shared-slice-read-word-of-2 : tie.Need-shared-slice-read-word-of-2
+shared-slice-read-word-of-2 c = search needs
+
+word-of-requires : tie.Need-word-of-requires
+word-of-requires c κs = search needs
+
+returns : tie.Need-returns
+returns c =
+    let s = c .before .before .before .before in
+    c .word-of .ensures ∙ read-start-at (s .args .state .now) (s .args .p) (s .pre .0)
+
+pub read-start-spec : {M : Type 1} → statement M
+read-start-spec =
+    tie.close
+    (tie.spec add-at add-at-2 add-word-of shared-slice-read-word-of shared-slice-read-word-of-2 word-of-requires returns)
