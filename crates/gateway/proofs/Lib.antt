@@ -3,8 +3,8 @@ pub mod PartLaws
 pub mod StageLaws
 pub mod AskedLaws
 pub mod ReportLaws
-pub mod LentLaws
 pub mod ReadyLaws
+pub mod LentLaws
 pub mod FinishLaws
 pub mod LengthLaws
 pub mod SequenceLaws

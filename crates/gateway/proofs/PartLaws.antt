@@ -5,16 +5,18 @@ use mathlib.Core.List.{List, _++_}
 use Prim.Native.Nat.{ℕ, _+_, _-_, _≤_, _<_}
 use native.Mathlib.Omega.{arith}
 use lib.ListN.{length, take, drop}
-use lib.Seq.{length-take-le, take-at, drop-append-add, drop-drop}
 use Rattle.lists.proofs.Part.{length-part}
 use Rattle.process.specs.declared.record.Process.{Process}
 use Rattle.process.specs.Local.{Local, local, extent, Tested}
 use Rattle.state.specs.Records.{startOf}
-use Rattle.state.specs.Layout.{extentAt, slot, withSlot, closed}
-use Rattle.rules.specs.Tests.{State, recordOf}
+use Rattle.state.specs.Layout.{extentAt, used, slot, withSlot, closed}
+use Rattle.state.proofs.LayoutLaws.{start-inside}
+use Rattle.state.proofs.MemoryLaws.{length-withSlot, withSlot-outside, closed-alike}
+use Rattle.rules.specs.Tests.{State, lent, recordOf}
+use Rattle.rules.specs.Window.{takenOut}
 use Rattle.rules.specs.Step.{localOf}
 use Rattle.rules.specs.Ready.{Ready}
-use Rattle.rules.proofs.StateLaws.{inside, local-proper}
+use Rattle.rules.proofs.StateLaws.{layout-of, inside, local-proper}
 
 module _ (start n : ℕ) (memory : List ℕ) where
   size : start + n - start ≡ n
@@ -37,32 +39,18 @@ module _ (start n : ℕ) (memory : List ℕ) where
       unfolding withSlot
       slot-back = rw (size, count)
 
+      pub length-back : length (take start memory ++ (bytes ++ drop (start + n - start) (drop start memory))) ≡ length memory
+      length-back = rw slot-back (length-withSlot start bytes memory (omega (arith, fits, count)))
+
       -- what stands in a part that is taken out is not looked at
-      before : take start (withSlot start bytes memory) ≡ take start memory
-      unfolding withSlot
-      before = take-at (take start memory) _ start (length-take-le start memory (omega (arith, fits)))
-
-      behind : (k : ℕ) → drop (start + n + k) (withSlot start bytes memory) ≡ drop (start + n + k) memory
-      unfolding withSlot
-      behind k =
-          let front : length (take start memory) ≡ start = length-take-le start memory (omega (arith, fits)) in
-          let first : start + n + k ≡ length (take start memory) + (length bytes + k) = omega (arith, front, count) in
-          let last : start + (length bytes + k) ≡ start + n + k = omega (arith, count) in
-          ap (λ (i : ℕ). drop i (take start memory ++ (bytes ++ drop (length bytes) (drop start memory)))) first
-          ∙ drop-append-add (take start memory) (bytes ++ drop (length bytes) (drop start memory)) (length bytes + k)
-          ∙ drop-append-add bytes (drop (length bytes) (drop start memory)) k
-          ∙ drop-drop k (length bytes) (drop start memory)
-          ∙ drop-drop (length bytes + k) start memory
-          ∙ ap (λ (i : ℕ). drop i memory) last
-
-      pub closed-back : (end : ℕ) → start + n ≤ end → closed start n end (withSlot start bytes memory) ≡ closed start n end memory
-      unfolding closed
-      closed-back end far =
-          let none : start + n + 0 ≡ start + n = omega arith in
-          let rest : start + n + (end - (start + n)) ≡ end = omega arith in
-          let next = rw none at (behind 0) in
-          let free = rw rest at (behind (end - (start + n))) in
-          rw (before, next, free)
+      pub closed-back : (end : ℕ) → start + n ≤ end → end ≤ length memory
+          → closed start n end (take start memory ++ (bytes ++ drop (start + n - start) (drop start memory))) ≡ closed start n end memory
+      closed-back end far near =
+          let inside : start + length bytes ≤ length memory = omega (arith, fits, count) in
+          let size = length-withSlot start bytes memory inside in
+          rw slot-back
+          (closed-alike start n end (withSlot start bytes memory) memory far (omega (arith, near, size)) size
+          (λ i out. withSlot-outside start bytes memory inside i (rw count out)))
 
 -- process p of a sound state, which is there, with its record and the number of its bytes
 module _ (s : State) (r : Ready s) (p start n : ℕ) (q : Process) (low : p < 8) (e : start ≡ startOf (s .records) p) (i : q ≡ recordOf s p) (j : n ≡ extent q) where
@@ -75,5 +63,20 @@ module _ (s : State) (r : Ready s) (p start n : ℕ) (q : Process) (low : p < 8)
   pub tested-part : Tested q (take (start + n - start) (drop start (s .memory)))
   tested-part = subst (λ (l : Local). Tested (l .process) (l .bytes)) (sym local-part) (local-proper s r p low .tested)
 
+  here : q .there ≡ true → recordOf s p .there ≡ true
+  here there = ap (λ (x : Process). x .there) (sym i) ∙ there
+
   pub part-inside : q .there ≡ true → start + n ≤ length (s .memory)
-  part-inside there = rw (e, part-count) (inside s r p low (ap (λ (x : Process). x .there) (sym i) ∙ there))
+  part-inside there = rw (e, part-count) (inside s r p low (here there))
+
+  -- the process is taken out, whatever stands in its bytes
+  pub gone-back : q .there ≡ true → (bytes : List ℕ) → length bytes ≡ length (take (start + n - start) (drop start (s .memory))) → (l : Local)
+      → takenOut p l (lent (s .records) (take start (s .memory) ++ (bytes ++ drop (start + n - start) (drop start (s .memory))))) ≡ takenOut p l s
+  unfolding takenOut
+  gone-back there bytes same l =
+      let laid = layout-of s r in
+      let fits = part-inside there in
+      let far : start + n ≤ used (s .records) = rw (e, part-count) (start-inside (s .records) laid p low (here there)) in
+      rw (← e, ← part-count)
+      (ap (λ (m : List ℕ). record { records = takenOut p l s .records; memory = m })
+      (closed-back start n (s .memory) fits bytes same (used (s .records)) far (omega (arith, laid .fits, r .memory))))

@@ -1,24 +1,26 @@
--- What is read from any bytes has the sizes of the code's types; where the tests 1 and 2 pass it is ready. Assumes nothing.
+-- What is read from any bytes has the sizes of the code's types; from those of a sound state it is ready. Assumes nothing.
 use mathlib.Core.Path.{_≡_, refl}
+use mathlib.Core.Bool.{true, _&&_}
 use mathlib.Core.List.{List}
 use Prim.Native.Nat.{ℕ, _<_}
+use borrow.Author.Tests.{eqb-true}
 use lib.ListN.{length}
+use lib.Dec.{eqb}
 use Rattle.lists.specs.Word.{vectorOf}
+use Rattle.lists.proofs.Bool.{&&-left, &&-right}
 use Rattle.state.specs.Records.{Records, nobody, processAt}
-use Rattle.state.specs.Sound.{EightEntries}
-use Rattle.rules.specs.Tests.{lent}
+use Rattle.state.specs.Layout.{capacity}
+use Rattle.state.specs.Sound.{EightEntries, soundTest}
 use Rattle.rules.specs.Ready.{Ready, Worded}
 use Rattle.state_bytes.specs.Chunk.{chunks}
 use Rattle.state_bytes.specs.Process.{processOf}
-use Rattle.state_bytes.specs.State.{stateOf}
+use Rattle.state_bytes.specs.State.{stateOf, stateFormed, stateSound}
 use Rattle.state_bytes.specs.Theorems.{Sized}
-use Rattle.state_bytes.specs.Widths.{processCount, processWidth}
+use Rattle.state_bytes.specs.Widths.{processCount, processWidth, stateWidth}
 use Rattle.state_bytes.proofs.ChunkLaws.{getD-chunks}
 use Rattle.state_bytes.proofs.StartLaws.{eight-starts}
 use Rattle.state_bytes.proofs.StateLaws.{eight-at}
-use Rattle.gateway.specs.Called.{lentOn}
 use Rattle.gateway.specs.Sequence.{readFrom}
-use Rattle.gateway.proofs.LentLaws.{lent-fits}
 
 process-sizes : (m : List ℕ) → (length (processOf m .vector) ≡ 9) × (length (processOf m .breaks) ≡ 8)
 unfolding processOf vectorOf chunks
@@ -43,7 +45,22 @@ read-sized m starts eight = record {
   starts = eight;
 }
 
-pub lent-ready : (state memory buffer : List ℕ) → lentOn state memory buffer ≡ 0 → Ready (lent (stateOf state) memory)
-lent-ready state memory buffer e =
-    let fits = lent-fits state memory buffer e in
-    record { memory = fits .memory; processes = eight-at state; starts = eight-starts state; entries = read-eight state; sound = fits .sound }
+-- ---- bytes of a sound state
+
+pub formed-long : (state : List ℕ) → stateFormed state ≡ true → length state ≡ stateWidth
+unfolding stateFormed
+formed-long state f = eqb-true (length state) stateWidth (&&-left (eqb (length state) stateWidth) _ f)
+
+pub sound-formed : (state : List ℕ) → stateSound state ≡ true → stateFormed state ≡ true
+unfolding stateSound
+sound-formed state e = &&-left (stateFormed state) (soundTest (stateOf state)) e
+
+pub sound-ready : (state memory : List ℕ) → stateSound state ≡ true → length memory ≡ capacity → Ready (readFrom state memory)
+unfolding stateSound
+sound-ready state memory e size = record {
+  memory = size;
+  processes = eight-at state;
+  starts = eight-starts state;
+  entries = read-eight state;
+  sound = &&-right (stateFormed state) (soundTest (stateOf state)) e;
+}
