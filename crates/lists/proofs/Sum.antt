@@ -15,10 +15,15 @@ last-or-before h = eq-or-lt-of-le (le-of-suc-le-suc h)
 
 -- ---- sums
 
--- one number more
+-- one number more, at the end or before the first
 pub total-suc : (f : ℕ → ℕ) (n : ℕ) → total f (suc n) ≡ total f n + f n
 unfolding total
 total-suc f n = refl
+
+pub total-first : (f : ℕ → ℕ) (n : ℕ) → total f (suc n) ≡ f 0 + total (λ (k : ℕ). f (suc k)) n
+unfolding total
+total-first f zero = omega arith
+total-first f (suc n) = omega (arith, total-first f n)
 
 -- of the same numbers
 pub total-alike : (f g : ℕ → ℕ) (n : ℕ) → ((k : ℕ) → k < n → f k ≡ g k) → total f n ≡ total g n

@@ -2,3 +2,5 @@
 pub mod RecordsLaws
 pub mod LayoutLaws
 pub mod MemoryLaws
+pub mod SoundLaws
+pub mod FreshLaws
