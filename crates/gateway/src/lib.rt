@@ -1,6 +1,7 @@
-// The gateway: what answers the requests of the network and the reports of the machine. Its state is a lent buffer of 696 bytes: a call
+// The gateway: what answers the requests of the network and the reports of the machine. Its state is a lent buffer of 712 bytes: a call
 // tests them where they lie, reads the one process that it goes to, and writes that one back.
 mod fresh;
+mod gone;
 mod kept;
 mod lengths;
 mod lent;

@@ -4,8 +4,8 @@ use crate::lent::check_buffers_and_state;
 use format::Outcome;
 use service::check_report;
 use service::report_for_process;
-use state::start;
 use state_bytes::read_process_at;
+use state_bytes::read_start;
 ghost use mathlib.Core.Path.{_≡_};
 ghost use Rattle.rules.specs.Tests.{lent};
 ghost use Rattle.rules.specs.Step.{report, reportStep};
@@ -13,7 +13,7 @@ ghost use Rattle.service.specs.At.{reportAway};
 ghost use Rattle.state_bytes.specs.State.{stateOf};
 ghost use Rattle.gateway.specs.Called.{called, lentOn, finished, Did};
 
-// A report about a process with a number under 8.
+// A report about a process with a number under 8. The start of an absent one is not looked at.
 fn report_known(
     state: &mut [u8],
     memory: &mut [u8],
@@ -29,9 +29,11 @@ fn report_known(
 {
     let index = pid as usize;
     let process = read_process_at(state, index);
-    let size = process.extent();
-    let start = start(index);
-    let end = start + size;
+    if !process.there {
+        return Outcome::Refused(7);
+    }
+    let start = read_start(state, index) as usize;
+    let end = start + process.extent();
     let served = report_for_process(
         pid,
         kind,
