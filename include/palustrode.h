@@ -95,8 +95,8 @@ int64_t palustrode_report(uint8_t *state, size_t state_length, uint8_t *memory, 
                           size_t notice_length);
 
 /* The desk writes a request with these fields and this string: its length, or -1 (under 266 bytes of room), -3 (a string over 256 bytes),
- * -4 (a host that is not 1 to 255), -5 (no op code) or -6 (an unused field is not 0, a PID over 255, an argument over 65,535, or a string
- * of another length than the op code carries). Needs no state. */
+ * -4 (a host that is not 1 to 255), -5 (no op code) or -6 (an unused field is not 0, a PID over 255, an argument over 65,535, a CREATE's size
+ * that is odd or over 4,096, or a string of another length than the op code carries). Needs no state. */
 int64_t palustrode_write_request(uint64_t host, uint64_t cmd, uint64_t pid, uint64_t arg1, uint64_t arg2, const uint8_t *string,
                                  size_t string_length, uint8_t *request, size_t request_length);
 
