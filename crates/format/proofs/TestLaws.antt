@@ -1,6 +1,6 @@
 -- Laws of the tests of a message's layout. Assumes nothing.
 use mathlib.Core.Path.{_≡_, refl, sym}
-use mathlib.Core.Bool.{Bool, true, false, _&&_}
+use mathlib.Core.Bool.{Bool, true, false, _&&_, false≢true}
 use Prim.Native.Nat.{ℕ, _+_, _%_, _≤_}
 use native.Mathlib.Omega.{arith}
 use borrow.Author.Tests.{ltb-false, leb-true, eqb-true, not-false}
@@ -71,11 +71,12 @@ pub record FittingSize (n : ℕ) : Type 0 where
   pub most : n ≤ 4096
 
 pub sizeFits-fitting : (n : ℕ) → sizeFits n ≡ true → FittingSize n
-sizeFits-fitting n e =
-    record {
-      even = eqb-true (n % 2) 0 (&&-left (eqb (n % 2) 0) (leb n 4096) e);
-      most = leb-true n 4096 (&&-right (eqb (n % 2) 0) (leb n 4096) e);
-    }
+sizeFits-fitting n e = go (eqb (n % 2) 0) (leb n 4096) refl refl
+  where
+    go : (a b : Bool) → eqb (n % 2) 0 ≡ a → leb n 4096 ≡ b → FittingSize n
+    go true true p q = record { even = eqb-true (n % 2) 0 p; most = leb-true n 4096 q }
+    go true false p q = absurd (false≢true (rw (p, q) at e))
+    go false b p q = absurd (false≢true (rw p at e))
 
 -- where the fields are right for a form that has a size in ARG1, that size fits
 fieldsRight-size : (f : Form) (h : Header) → f .arg1 ≡ Size → fieldsRight f h ≡ true → sizeFits (h .arg1) ≡ true
