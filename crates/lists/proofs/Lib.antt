@@ -7,6 +7,7 @@ pub mod Every
 pub mod First
 pub mod Joined
 pub mod MapStep
+pub mod Moved
 pub mod Part
 pub mod Short
 pub mod Sum

@@ -64,14 +64,17 @@ module _ (s : State) (r : Ready s) (m buffer : List ℕ) (c : Creating s m buffe
       first-append (messageTests s m buffer) (askedTests (headerOf m) s) refl
       ∙ rw (c .passes, asked-is)
 
+  number-by : (t : Bool) → noPlace (headerOf m) s ≡ t → requestNumber s m buffer ≡ cond t 13 0
+  number-by t e = number-is ∙ ap (λ (b : Bool). cond b 13 0) e
+
   refused-is : noPlace (headerOf m) s ≡ true → numberGiven (requestStep m buffer s) ≡ 13
   unfolding requestStep refused numberOf
-  refused-is e = let number = number-is ∙ rw e in rw (number, number)
+  refused-is e = rw (number-by true e)
 
   -- granted, it is put last
   granted-is : noPlace (headerOf m) s ≡ false → requestStep m buffer s ≡ grantedCreate (headerOf m) buffer s
   unfolding requestStep granted
-  granted-is e = let number = number-is ∙ rw e in rw (number, unnamed, creating)
+  granted-is e = rw (number-by false e, unnamed, creating)
 
   is-granted : noPlace (headerOf m) s ≡ false → isGranted (requestStep m buffer s .answer .outcome) ≡ true
   unfolding grantedCreate isGranted
@@ -103,7 +106,7 @@ module _ (s : State) (r : Ready s) (m buffer : List ℕ) (c : Creating s m buffe
   taken-all : ltb (lowestAbsent (s .records)) 8 ≡ false → AllTaken s
   unfolding lowestAbsent
   taken-all e q i =
-      not-false _ (first-before (λ (x : Process). not (x .there)) (s .records .processes) noProcess q (let far = ltb-false _ 8 e in omega arith))
+      not-false _ (first-before (λ (x : Process). not (x .there)) (s .records .processes) noProcess q (let far : 8 ≤ lowestAbsent (s .records) = ltb-false _ 8 e in omega (arith, far, i)))
 
   refused-only-when : numberGiven (requestStep m buffer s) ≡ 13 → AllTaken s ⊎ TooFewFree s m
   unfolding grantedCreate numberOf
@@ -132,13 +135,13 @@ module _ (s : State) (r : Ready s) (m buffer : List ℕ) (c : Creating s m buffe
     placed = go (noPlace (headerOf m) s) refl
       where
         go : (t : Bool) → noPlace (headerOf m) s ≡ t → t ≡ false
-        go true e = let number = number-is ∙ rw e in sym (rw (number, number) at grant)
+        go true e = sym (rw (number-by true e) at grant)
         go false e = refl
 
     low : lowestAbsent (s .records) < 8
     low = has-place (headerOf m) s placed .0
 
-    new : Local
+    abbrev new : Local
     new = created (headerOf m .host) (sizeAsked (headerOf m))
 
     new-there : created (headerOf m .host) (sizeAsked (headerOf m)) .process .there ≡ true

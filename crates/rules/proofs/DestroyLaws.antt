@@ -173,7 +173,7 @@ module _ (s t : State) (r : Ready s) (k : Ready t) (p : ℕ) (h : p < 8) (d : Di
   -- records, starts and memory once it is gone
   same-processes : set (s .records .processes) p cleared ≡ set (t .records .processes) p cleared
   same-processes =
-      ext-getD (set (s .records .processes) p cleared) (set (t .records .processes) p cleared) nobody
+      ext-getD nobody (set (s .records .processes) p cleared) (set (t .records .processes) p cleared)
       (length-set (s .records .processes) p cleared ∙ r .processes ∙ sym (k .processes) ∙ sym (length-set (t .records .processes) p cleared))
       (λ q i. at q (let e = length-set (s .records .processes) p cleared in let n = r .processes in omega arith) (eqb q p) refl)
     where

@@ -2,6 +2,7 @@
 use mathlib.Core.Path.{_≡_, refl, sym, ap, ap₂, _∙_}
 use mathlib.Core.Bool.{Bool, true, false, cond}
 use mathlib.Core.List.{List, [], _∷_}
+use mathlib.Core.Logic.{inr}
 use Prim.Native.Nat.{ℕ, _+_, _≤_, _<_}
 use native.Mathlib.Omega.{arith}
 use borrow.Author.Tests.{eqb-true}
@@ -13,7 +14,7 @@ use Rattle.process.specs.Local.{Local, extent, Proper}
 use Rattle.state.specs.Records.{startOf}
 use Rattle.state.specs.Layout.{extentAt, used, withSlot}
 use Rattle.state.proofs.LayoutLaws.{start-inside}
-use Rattle.state.proofs.MemoryLaws.{withSlot-behind, closed-free}
+use Rattle.state.proofs.MemoryLaws.{withSlot-outside, closed-free}
 use Rattle.rules.specs.Rule.{public}
 use Rattle.rules.specs.Tests.{State, recordOf}
 use Rattle.rules.specs.Access.{Access, Place, nowhere, atProcess, Turn, numberAt, reached, taken}
@@ -81,7 +82,7 @@ module _ (s : State) (r : Ready s) (p : ℕ) (h : p < 8) (l : Local) (g : Proper
       go : (t : Bool) → recordOf s p .there ≡ t → getD (withSlot (startOf (s .records) p) (l .bytes) (s .memory)) i 0 ≡ getD (s .memory) i 0
       go true e =
           let last = start-inside (s .records) (layout-of s r) p h e in
-          withSlot-behind (startOf (s .records) p) (l .bytes) (s .memory) (omega (arith, inside s r p h e, few)) i (omega (arith, last, few, free))
+          withSlot-outside (startOf (s .records) p) (l .bytes) (s .memory) (omega (arith, inside s r p h e, few)) i (inr (omega (arith, last, few, free)))
       go false e =
           let none = none-of (l .bytes) (omega (arith, few, absent-none (recordOf s p) e)) in
           rw none (ap (λ (m : List ℕ). getD m i 0) (take-append-drop (startOf (s .records) p) (s .memory)))

@@ -13,6 +13,7 @@ use Rattle.process.specs.Record.{fresh}
 use Rattle.process.specs.Request.{cleared}
 use Rattle.state.specs.Layout.{capacity, extentAt, used}
 use Rattle.state.specs.Fresh.{freshProcess, freshStart, sizesRight}
+use Rattle.state.specs.Theorems.{FreshIsSound}
 use Rattle.state.proofs.LayoutLaws.{last-ends}
 use Rattle.state.proofs.SoundLaws.{state-passes}
 use Rattle.state.proofs.FreshLaws.{length-freshProcesses, getD-freshProcesses, length-freshStarts, fresh-is-sound}
@@ -87,7 +88,7 @@ module _ (ts : List Bool) (ns : List ℕ) (long : length ts ≡ 8) (right : size
   fresh-entries p h = rw (fresh-record p h) (eight-entries (getD ts p false) (getD ns p 0))
 
   pub fresh-ready : (memory : List ℕ) → length memory ≡ capacity → Ready (lent (freshStart ts ns) memory)
-  unfolding freshStart
+  unfolding freshStart FreshIsSound
   fresh-ready memory size = record {
     memory = size;
     processes = length-freshProcesses ts ns ∙ long;
@@ -97,12 +98,11 @@ module _ (ts : List Bool) (ns : List ℕ) (long : length ts ≡ 8) (right : size
   }
 
   fresh-shown : (memory : List ℕ) (p : ℕ) → p < 8 → freshPublic ts ns p ≡ publicOf (lent (freshStart ts ns) memory) p
-  unfolding freshPublic public
+  unfolding freshPublic public freshProcess fresh cleared
   fresh-shown memory p h = sym (ap public (fresh-record p h) ∙ go (getD ts p false))
     where
       go : (t : Bool) → public (freshProcess t (getD ns p 0))
           ≡ cond t (record { there = true; host = 0; size = getD ns p 0 }) (record { there = false; host = 0; size = 4096 })
-      unfolding freshProcess fresh cleared public
       go true = refl
       go false = refl
 

@@ -29,7 +29,7 @@ extent-absent q e = rw e
 
 -- ---- the bytes of one process in a sum over those that begin before an address
 
-abbrev part : Records → ℕ → ℕ → ℕ
+abbrev pub part : Records → ℕ → ℕ → ℕ
 part g a q = cond (ltb (startOf g q) a) (extentAt g q) 0
 
 part-≤ : (g : Records) (a q : ℕ) → part g a q ≤ extentAt g q
@@ -39,13 +39,13 @@ part-≤ g a q = go (ltb (startOf g q) a)
     go true = omega arith
     go false = omega arith
 
-part-in : (g : Records) (a q : ℕ) → startOf g q < a → part g a q ≡ extentAt g q
+pub part-in : (g : Records) (a q : ℕ) → startOf g q < a → part g a q ≡ extentAt g q
 part-in g a q h = rw (lt-ltb (startOf g q) a h)
 
-part-out : (g : Records) (a q : ℕ) → a ≤ startOf g q → part g a q ≡ 0
+pub part-out : (g : Records) (a q : ℕ) → a ≤ startOf g q → part g a q ≡ 0
 part-out g a q h = rw (le-ltb (startOf g q) a h)
 
-part-absent : (g : Records) (a q : ℕ) → processAt g q .there ≡ false → part g a q ≡ 0
+pub part-absent : (g : Records) (a q : ℕ) → processAt g q .there ≡ false → part g a q ≡ 0
 part-absent g a q e = omega (arith, part-≤ g a q, extent-absent (processAt g q) e)
 
 part-more : (g : Records) (a b q : ℕ) → a ≤ b → part g a q ≤ part g b q

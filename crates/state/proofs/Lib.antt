@@ -4,3 +4,4 @@ pub mod LayoutLaws
 pub mod MemoryLaws
 pub mod SoundLaws
 pub mod FreshLaws
+pub mod ApartLaws

@@ -8,8 +8,9 @@ use lib.ListN.{length, take, drop, getD, set, replicate, length-append, length-d
 use lib.Seq.{length-take-le, getD-take, getD-drop, take-set-le, take-set-lt, drop-set-lt, drop-set-add, drop-drop, ext-getD}
 use Rattle.lists.specs.Buffer.{overlay}
 use Rattle.lists.proofs.Cases.{less-or-not}
+use Rattle.lists.proofs.Moved.{Moved}
 use Rattle.lists.proofs.Part.{length-part, length-replaced, part-same, part-other, part-back, part-over, part-set, getD-second}
-use Rattle.state.specs.Layout.{slot, withSlot, closed}
+use Rattle.state.specs.Layout.{slot, withSlot, closed, lowered}
 
 -- ---- the bytes from an index on
 
@@ -191,3 +192,71 @@ closed-alike start count end m k inside within size same =
     (λ i low h. closed-moved start count end k inside also i low h ∙ sym (same (i + count) (inr (omega arith))))
     (λ i low h. closed-zero start count end k inside also i low h)
     (λ i h. closed-free start count end k inside also i h ∙ sym (same i (inr (omega arith))))
+
+-- ---- bytes taken out, as the code does it
+
+module _ (start count end : ℕ) (m : List ℕ) (inside : start + count ≤ end) (within : end ≤ length m) where
+  -- the bytes above a gap
+  abbrev upper : List ℕ
+  upper = slot (start + count) (end - (start + count)) m
+
+  size : length upper ≡ end - (start + count)
+  size = length-slot (start + count) (end - (start + count)) m (omega arith)
+
+  room : start + length upper ≤ length m
+  room = omega (arith, size)
+
+  lowered-moved : (i : ℕ) → start ≤ i → i + count < end → getD (lowered start count end m) i 0 ≡ getD m (i + count) 0
+  lowered-moved i low h =
+      let a = i - start in
+      let at : start + a ≡ i = omega arith in
+      let from : start + count + a ≡ i + count = omega arith in
+      ap (λ (k : ℕ). getD (lowered start count end m) k 0) (sym at)
+      ∙ withSlot-inside start upper m room a (omega (arith, size))
+      ∙ slot-at (start + count) (end - (start + count)) a m (omega arith)
+      ∙ ap (λ (k : ℕ). getD m k 0) from
+
+  -- what the loop that moves them makes
+  pub lowered-is : (k : List ℕ) → Moved start count (end - count) m k → k ≡ lowered start count end m
+  lowered-is k v =
+      ext-getD 0 k (lowered start count end m) (v .size ∙ sym (length-withSlot start upper m room)) (λ i h.
+      ⊎-elim (λ (l : i < start). v .low i l ∙ sym (withSlot-outside start upper m room i (inl l)))
+      (λ (b : start ≤ i). ⊎-elim (λ (l : i < end - count). v .down i b l ∙ sym (lowered-moved i b (omega arith)))
+      (λ (l : end - count ≤ i). v .high i l ∙ sym (withSlot-outside start upper m room i (inr (omega (arith, size)))))
+      (less-or-not i (end - count)))
+      (less-or-not i start))
+
+  -- with zeros after them they are taken out
+  pub closed-lowered : withSlot (end - count) (replicate count 0) (lowered start count end m) ≡ closed start count end m
+  closed-lowered =
+      let zeros : List ℕ = replicate count 0 in
+      let few : length zeros ≡ count = length-replicate count 0 in
+      let long : length (lowered start count end m) ≡ length m = length-withSlot start upper m room in
+      let fits : end - count + length zeros ≤ length (lowered start count end m) = omega arith in
+      sym (closed-is start count end m inside within (withSlot (end - count) zeros (lowered start count end m)) (length-withSlot (end - count) zeros (lowered start count end m) fits ∙ long)
+      (λ i h. withSlot-outside (end - count) zeros (lowered start count end m) fits i (inl (omega arith)) ∙ withSlot-outside start upper m room i (inl h))
+      (λ i low h. withSlot-outside (end - count) zeros (lowered start count end m) fits i (inl (omega arith)) ∙ lowered-moved i low h)
+      (λ i low h.
+      let a = i - (end - count) in
+      let at : end - count + a ≡ i = omega arith in
+      ap (λ (k : ℕ). getD (withSlot (end - count) zeros (lowered start count end m)) k 0) (sym at)
+      ∙ withSlot-inside (end - count) zeros (lowered start count end m) fits a (omega arith)
+      ∙ getD-replicate count a 0 0 (omega arith))
+      (λ i h. withSlot-outside (end - count) zeros (lowered start count end m) fits i (inr (omega arith)) ∙ withSlot-outside start upper m room i (inr (omega (arith, size)))))
+
+  -- in the shape in which the lent part that is zeroed comes back
+  pub closed-part : (whole part : List ℕ) → whole ≡ lowered start count end m
+      → part ≡ replicate (length (take (end - (end - count)) (drop (end - count) whole))) 0
+      → take (end - count) whole ++ (part ++ drop (end - (end - count)) (drop (end - count) whole)) ≡ closed start count end m
+  unfolding withSlot
+  closed-part whole part w p =
+      let zeros : List ℕ = replicate count 0 in
+      let n : end - (end - count) ≡ count = omega arith in
+      let long : length whole ≡ length m = ap length w ∙ length-withSlot start upper m room in
+      let few : length (take (end - (end - count)) (drop (end - count) whole)) ≡ count = length-part (end - count) (end - (end - count)) whole (omega arith) ∙ n in
+      let is : part ≡ zeros = p ∙ ap (λ (k : ℕ). replicate k 0) few in
+      let size : end - (end - count) ≡ length zeros = n ∙ sym (length-replicate count 0) in
+      ap (λ (xs : List ℕ). take (end - count) whole ++ (xs ++ drop (end - (end - count)) (drop (end - count) whole))) is
+      ∙ ap (λ (k : ℕ). take (end - count) whole ++ (zeros ++ drop k (drop (end - count) whole))) size
+      ∙ ap (λ (xs : List ℕ). withSlot (end - count) zeros xs) w
+      ∙ closed-lowered

@@ -74,6 +74,10 @@ unfoldable pub closed : ℕ → ℕ → ℕ → List ℕ → List ℕ
 closed start count end memory =
     take start memory ++ (take (end - (start + count)) (drop (start + count) memory) ++ (replicate count 0 ++ drop end memory))
 
+-- the first half of it: the bytes above moved down
+abbrev pub lowered : ℕ → ℕ → ℕ → List ℕ → List ℕ
+lowered start count end memory = withSlot start (slot (start + count) (end - (start + count)) memory) memory
+
 -- where process q begins once p is gone: those above p move down by its size; p itself has no start any more
 unfoldable pub startWithout : Records → ℕ → ℕ → ℕ
 startWithout g p q =

@@ -1,8 +1,8 @@
 -- Laws that the proofs of this crate cite.
 pub mod ChunkLaws
 pub mod EntryLaws
-pub mod FreshLaws
 pub mod NumberLaws
+pub mod OrderLaws
 pub mod ProcessLaws
 pub mod StartLaws
 pub mod StateLaws

@@ -5,18 +5,23 @@ use mathlib.Core.List.{List, [], _∷_, _++_, append-assoc}
 use Prim.Native.Nat.{ℕ, _+_, _-_, _*_, _≤_, _<_}
 use native.Mathlib.Numerals.{add-one}
 use native.Mathlib.Omega.{arith}
-use borrow.Author.Tests.{lt-ltb, le-ltb}
+use borrow.Author.Tests.{lt-ltb, le-ltb, leb-true}
 use lib.ListN.{length, take, drop, getD, set, length-append, length-drop, take-append-drop}
 use lib.Seq.{drop-at, length-take-le, take-append-add, drop-append-add, getD-append-add, getD-take, getD-drop, drop-drop, sets-eq}
+use lib.Dec.{leb}
 use Rattle.lists.specs.Buffer.{Bytes, overlay}
 use Rattle.lists.specs.Elements.{elements}
 use Rattle.lists.specs.Joined.{joined}
+use Rattle.lists.specs.Sum.{total}
 use Rattle.lists.specs.Word.{high, low, word}
+use Rattle.lists.proofs.Bool.{&&-right}
 use Rattle.lists.proofs.Buffer.{length-overlay, overlay-all}
 use Rattle.lists.proofs.Elements.{length-elements, elements-step, set-elements}
+use Rattle.lists.proofs.Sum.{total-front-at}
 use Rattle.lists.proofs.Word.{word-high-low, high-word, low-word}
 use Rattle.state.specs.Records.{Records, processAt, startOf}
-use Rattle.state.specs.Layout.{extentAt, startWithout, startsWithout}
+use Rattle.state.specs.Layout.{capacity, extentAt, startWithout, startsWithout}
+use Rattle.state.specs.Fresh.{needed, eachRight, sizesRight}
 use Rattle.state_bytes.specs.Chunk.{chunks, everyChunk}
 use Rattle.state_bytes.specs.Layout.{startLowered}
 use Rattle.state_bytes.specs.Number.{u16Le, u16LeBytes}
@@ -55,28 +60,27 @@ pub eight-starts : (m : List ℕ) → length (stateOf m .starts) ≡ processCoun
 unfolding stateOf startsOf
 eight-starts m = length-chunks startWidth u16Le processCount (drop startsAt m)
 
--- it is read from its two bytes
-pub read-start-at : (m : List ℕ) (p : ℕ) → p < processCount → word (getD m (startsAt + p + p + 1) 0) (getD m (startsAt + p + p) 0) ≡ startOf (stateOf m) p
-unfolding stateOf startsOf
-read-start-at m p h =
-    sym (getD-chunks startWidth u16Le processCount p (drop startsAt m) 0 h ∙ rw (byte 1 (startsAt + p + p + 1) (omega arith) (omega arith), byte 0 (startsAt + p + p) (omega arith) (omega arith)))
-  where
-    byte : (i at : ℕ) → i < startWidth → startsAt + (startWidth * p + i) ≡ at → getD (take startWidth (drop (startWidth * p) (drop startsAt m))) i 0 ≡ getD m at 0
-    byte i at l e =
-        getD-take startWidth (drop (startWidth * p) (drop startsAt m)) i 0 l
-        ∙ getD-drop (startWidth * p) (drop startsAt m) i 0
-        ∙ getD-drop startsAt m (startWidth * p + i) 0
-        ∙ ap (λ (n : ℕ). getD m n 0) e
+module _ (m : List ℕ) (p at : ℕ) (h : p < processCount) (place : at ≡ startsAt + startWidth * p) where
+  byte : (i n : ℕ) → i < startWidth → n ≡ at + i → getD (take startWidth (drop (startWidth * p) (drop startsAt m))) i 0 ≡ getD m n 0
+  byte i n l e =
+      let there : startsAt + (startWidth * p + i) ≡ n = omega arith in
+      getD-take startWidth (drop (startWidth * p) (drop startsAt m)) i 0 l
+      ∙ getD-drop (startWidth * p) (drop startsAt m) i 0
+      ∙ getD-drop startsAt m (startWidth * p + i) 0
+      ∙ ap (λ (k : ℕ). getD m k 0) there
 
--- and written to them
-pub put-start-at : (m : List ℕ) (p start : ℕ) → p < processCount → length m ≡ stateWidth
-    → set (set m (startsAt + p + p) (low start)) (startsAt + p + p + 1) (high start) ≡ withStartBytes p start m
-unfolding withStartBytes
-put-start-at m p start h long =
-    let at = startsAt + p + p in
-    let place : startsAt + startWidth * p ≡ at = omega arith in
-    let both = sets-eq (u16LeBytes start) m at (omega (arith, long)) in
-    rw (place, add-one at, drop-drop startWidth at m) (both ∙ append-assoc (take at m) (u16LeBytes start) (drop (at + startWidth) m))
+  -- it is read from its two bytes
+  pub read-start-at : word (getD m (at + 1) 0) (getD m at 0) ≡ startOf (stateOf m) p
+  unfolding stateOf startsOf
+  read-start-at =
+      sym (getD-chunks startWidth u16Le processCount p (drop startsAt m) 0 h ∙ rw (byte 1 (at + 1) (omega arith) (omega arith), byte 0 at (omega arith) (omega arith)))
+
+  -- and written to them
+  pub put-start-at : (start : ℕ) → length m ≡ stateWidth → set (set m at (low start)) (at + 1) (high start) ≡ withStartBytes p start m
+  unfolding withStartBytes
+  put-start-at start long =
+      rw (← place, add-one at, drop-drop startWidth at m)
+      (sets-eq (u16LeBytes start) m at (omega (arith, long)) ∙ append-assoc (take at m) (u16LeBytes start) (drop (at + startWidth) m))
 
 -- ---- all starts
 
@@ -207,3 +211,17 @@ module _ (m : List ℕ) (long : length m ≡ stateWidth) (start count : ℕ) whe
 pub length-without : (m : List ℕ) → length m ≡ stateWidth → (p : ℕ) → length (withStartsBytes (startsWithout p (stateOf m)) m) ≡ stateWidth
 unfolding startsWithout
 length-without m long p = length-with-starts (elements (startWithout (stateOf m) p) processCount) (length-elements (startWithout (stateOf m) p) processCount) m long
+
+-- ---- the starts at a fresh start
+
+-- the size of process k if it is to be there
+abbrev pub sizeIf : List Bool → List ℕ → ℕ → ℕ
+sizeIf there sizes k = cond (getD there k false) (getD sizes k 0) 0
+
+-- with right sizes each ends within the memory
+pub fresh-fits : (there : List Bool) (sizes : List ℕ) → sizesRight there sizes ≡ true → (k : ℕ) → k < processCount
+    → total (sizeIf there sizes) k + sizeIf there sizes k ≤ capacity
+unfolding sizesRight needed
+fresh-fits there sizes e k h =
+    let all = total (sizeIf there sizes) processCount in
+    omega (arith, total-front-at (sizeIf there sizes) k processCount h, leb-true all capacity (&&-right (eachRight there sizes) (leb all capacity) e))

@@ -108,16 +108,23 @@ module _ (m : List ℕ) (p at : ℕ) (h : p < processCount) (e : at ≡ processW
 
 -- ---- soundness
 
--- every process by itself, and the layout
-pub each-sound : (m : List ℕ) → length m ≡ stateWidth → stateSound m ≡ everyChunk processWidth processSound processCount m && laidOut (stateOf m)
-unfolding stateSound stateFormed soundTest recordsSound stateOf processSound chunks
-each-sound m size =
+-- the bytes of every process are formed, and its record is sound
+each-process : (m : List ℕ) → everyChunk processWidth processSound processCount m ≡ everyChunk processWidth processFormed processCount m && recordsSound (stateOf m)
+unfolding recordsSound stateOf processSound chunks
+each-process m =
     let all = every-both processWidth (λ (c : List ℕ). soundProcess (processOf c)) processFormed processSound (λ c. refl) processCount m in
     let reads = every-read processWidth processOf soundProcess processCount m in
     let count = every-below soundProcess (chunks processWidth processOf processCount m) nobody in
-    let formed = everyChunk processWidth processFormed processCount m in
-    let records = all ∙ ap (λ (b : Bool). formed && b) (reads ∙ count) in
-    rw (eq-eqb _ _ size, records) (sym (&&-assoc formed _ _))
+    all ∙ ap (λ (b : Bool). everyChunk processWidth processFormed processCount m && b) (reads ∙ count)
+
+pub each-record : (m : List ℕ) → everyChunk processWidth processSound processCount m ≡ true → recordsSound (stateOf m) ≡ true
+each-record m e = &&-right (everyChunk processWidth processFormed processCount m) (recordsSound (stateOf m)) (sym (each-process m) ∙ e)
+
+-- every process by itself, and the layout
+pub each-sound : (m : List ℕ) → length m ≡ stateWidth → stateSound m ≡ everyChunk processWidth processSound processCount m && laidOut (stateOf m)
+unfolding stateSound stateFormed soundTest
+each-sound m size =
+    rw (eq-eqb _ _ size, each-process m) (sym (&&-assoc (everyChunk processWidth processFormed processCount m) (recordsSound (stateOf m)) (laidOut (stateOf m))))
 
 -- one more, at an index
 pub sound-next : (at : ℕ) (m : List ℕ) → SoundBefore at m → at < startsAt → processSound (take processWidth (drop (processWidth * (at / processWidth)) m)) ≡ true → SoundBefore (at + processWidth) m

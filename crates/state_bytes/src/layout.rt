@@ -6,15 +6,18 @@ use crate::starts::read_start;
 use crate::widths::PROCESS_BYTES;
 use crate::widths::PROCESS_COUNT;
 use crate::widths::STARTS_AT;
+use crate::widths::THERE_AT;
 use state::CAPACITY;
 ghost use mathlib.Core.Path.{_≡_};
-ghost use Prim.Native.Nat.{_≤_, _<_};
+ghost use mathlib.Core.Bool.{true};
+ghost use Prim.Native.Nat.{_*_, _≤_, _<_};
 ghost use lib.ListN.{length};
 ghost use Rattle.lists.specs.Every.{below};
 ghost use Rattle.state.specs.Layout.{used, usedBefore, startIsUnique, placed, laidOut};
-ghost use Rattle.state_bytes.specs.Layout.{extentBefore, beginsAt};
+ghost use Rattle.state.specs.Sound.{recordsSound};
+ghost use Rattle.state_bytes.specs.Layout.{liesAt, inNumberOrder, extentBefore, beginsAt};
 ghost use Rattle.state_bytes.specs.State.{stateOf};
-ghost use Rattle.state_bytes.specs.Widths.{processCount, stateWidth};
+ghost use Rattle.state_bytes.specs.Widths.{processCount, processWidth, stateWidth};
 
 // The sizes of the processes that are there, together: the index of the first free byte.
 pub fn used_bytes(state: &[u8]) -> usize
@@ -117,11 +120,48 @@ fn each_placed(state: &[u8]) -> bool
     true
 }
 
-// Whether the processes lie without gaps within the memory.
+// Process p, whose record is at this index, is absent or begins at this start.
+fn lies_at(state: &[u8], at: usize, start: usize, p: usize) -> bool
+    requires { ⌜ p < processCount ⌝ }
+    requires { ⌜ at ≡ processWidth * p ⌝ }
+    requires { ⌜ stateWidth ≤ length (now state) ⌝ }
+    ensures { λ r. ⌜ r ≡ liesAt (stateOf (now (state .entry))) start p ⌝ }
+{
+    if state[at + THERE_AT] % 2 == 0 {
+        return true;
+    }
+    read_start(state, p) as usize == start
+}
+
+// Each process begins where those with lower numbers end, and the last ends within the memory.
+fn in_number_order(state: &[u8]) -> bool
+    requires { ⌜ stateWidth ≤ length (now state) ⌝ }
+    ensures { λ r. ⌜ r ≡ inNumberOrder (stateOf (now (state .entry))) ⌝ }
+{
+    let mut used = 0;
+    let mut at = 0;
+    let mut p = 0;
+    while p < PROCESS_COUNT {
+        if !lies_at(state, at, used, p) {
+            return false;
+        }
+        let end = at + PROCESS_BYTES;
+        used += read_extent(&state[at..end]) as usize;
+        at = end;
+        p += 1;
+    }
+    used <= CAPACITY
+}
+
+// Whether the processes, whose records are sound, lie without gaps within the memory. In number order one look at each process tells.
 pub(crate) fn layout_sound(state: &[u8]) -> bool
     requires { ⌜ stateWidth ≤ length (now state) ⌝ }
+    requires { ⌜ recordsSound (stateOf (now state)) ≡ true ⌝ }
     ensures { λ r. ⌜ r ≡ laidOut (stateOf (now (state .entry))) ⌝ }
 {
+    if in_number_order(state) {
+        return true;
+    }
     if used_bytes(state) > CAPACITY {
         return false;
     }

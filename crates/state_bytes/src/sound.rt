@@ -68,13 +68,13 @@ pub fn state_sound(state: &[u8]) -> bool
     if state.len() != STATE_BYTES {
         return false;
     }
-    let mut start = plain_before(state);
-    while start < STARTS_AT {
-        let end = start + PROCESS_BYTES;
-        if !process_sound(&state[start..end]) {
+    let mut next = plain_before(state);
+    while next < STARTS_AT {
+        let end = next + PROCESS_BYTES;
+        if !process_sound(&state[next..end]) {
             return false;
         }
-        start = end;
+        next = end;
     }
     layout_sound(state)
 }

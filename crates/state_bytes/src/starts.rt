@@ -7,21 +7,29 @@ use words::high_byte;
 use words::low_byte;
 use words::word_of;
 ghost use mathlib.Core.Path.{_≡_};
-ghost use Prim.Native.Nat.{_≤_, _<_};
+ghost use Prim.Native.Nat.{_+_, _*_, _≤_, _<_};
 ghost use lib.ListN.{length};
 ghost use Rattle.state.specs.Records.{startOf};
 ghost use Rattle.state.specs.Layout.{startsWithout};
 ghost use Rattle.state_bytes.specs.Layout.{startLowered};
 ghost use Rattle.state_bytes.specs.State.{stateOf, withStartBytes, withStartsBytes};
-ghost use Rattle.state_bytes.specs.Widths.{processCount, stateWidth};
+ghost use Rattle.state_bytes.specs.Widths.{processCount, startWidth, startsAt, stateWidth};
 
-// The index of process p's first byte in memory.
+// The index of the first byte of process p's start.
+fn start_at(p: usize) -> usize
+    requires { ⌜ p < processCount ⌝ }
+    ensures { λ r. ⌜ r ≡ startsAt + startWidth * p ⌝ }
+{
+    STARTS_AT + p + p
+}
+
+// Where process p begins in memory.
 pub fn read_start(state: &[u8], p: usize) -> u16
     requires { ⌜ p < processCount ⌝ }
     requires { ⌜ stateWidth ≤ length (now state) ⌝ }
     ensures { λ r. ⌜ r ≡ startOf (stateOf (now (state .entry))) p ⌝ }
 {
-    let at = STARTS_AT + p + p;
+    let at = start_at(p);
     word_of(state[at + 1], state[at])
 }
 
@@ -31,7 +39,7 @@ pub fn put_start(start: u16, p: usize, state: &mut [u8])
     requires { ⌜ length (now state) ≡ stateWidth ⌝ }
     ensures { λ _. ⌜ now (state .exit) ≡ withStartBytes p start (now (state .entry)) ⌝ }
 {
-    let at = STARTS_AT + p + p;
+    let at = start_at(p);
     state[at] = low_byte(start);
     state[at + 1] = high_byte(start);
 }

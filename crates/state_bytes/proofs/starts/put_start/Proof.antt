@@ -6,11 +6,8 @@ use Rattle.state_bytes.proofs.StartLaws.{put-start-at}
 use Rattle.state_bytes.proofs.starts.put_start.Statement.{statement}
 use Rattle.state_bytes.proofs.starts.put_start.Tie as tie
 
-add-at : tie.Need-add-at
-add-at c = search needs
-
-add-at-2 : tie.Need-add-at-2
-add-at-2 c = search needs
+start-at-requires : tie.Need-start-at-requires
+start-at-requires c κs = search needs
 
 low-byte-requires : tie.Need-low-byte-requires
 low-byte-requires c κs = search needs
@@ -33,10 +30,12 @@ same-length c = search needs
 returns : tie.Need-returns
 returns c =
     let l = c .before in
-    let s = l .before .before in
-    rw (l .low-byte .ensures, c .high-byte .ensures) (put-start-at (s .args .state .now) (s .args .p) (s .args .start) (s .pre .0) (s .pre .1))
+    let at = l .before in
+    let s = at .before .before in
+    rw (l .low-byte .ensures, c .high-byte .ensures)
+    (put-start-at (s .args .state .now) (s .args .p) (at .start-at .result) (s .pre .0) (at .start-at .ensures) (s .args .start) (s .pre .1))
 
 pub put-start-spec : {M : Type 1} → statement M
 put-start-spec =
     tie.close
-    (tie.spec add-at add-at-2 low-byte-requires slice-write-state high-byte-requires add-state slice-write-state-2 same-length returns)
+    (tie.spec start-at-requires low-byte-requires slice-write-state high-byte-requires add-state slice-write-state-2 same-length returns)

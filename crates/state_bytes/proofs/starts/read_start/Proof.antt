@@ -5,11 +5,8 @@ use Rattle.state_bytes.proofs.StartLaws.{read-start-at}
 use Rattle.state_bytes.proofs.starts.read_start.Statement.{statement}
 use Rattle.state_bytes.proofs.starts.read_start.Tie as tie
 
-add-at : tie.Need-add-at
-add-at c = search needs
-
-add-at-2 : tie.Need-add-at-2
-add-at-2 c = search needs
+start-at-requires : tie.Need-start-at-requires
+start-at-requires c κs = search needs
 
 add-word-of : tie.Need-add-word-of
 add-word-of c = search needs
@@ -25,10 +22,11 @@ word-of-requires c κs = search needs
 
 returns : tie.Need-returns
 returns c =
-    let s = c .before .before .before .before in
-    c .word-of .ensures ∙ read-start-at (s .args .state .now) (s .args .p) (s .pre .0)
+    let at = c .before .before .before in
+    let s = at .before .before in
+    c .word-of .ensures ∙ read-start-at (s .args .state .now) (s .args .p) (at .start-at .result) (s .pre .0) (at .start-at .ensures)
 
 pub read-start-spec : {M : Type 1} → statement M
 read-start-spec =
     tie.close
-    (tie.spec add-at add-at-2 add-word-of shared-slice-read-word-of shared-slice-read-word-of-2 word-of-requires returns)
+    (tie.spec start-at-requires add-word-of shared-slice-read-word-of shared-slice-read-word-of-2 word-of-requires returns)

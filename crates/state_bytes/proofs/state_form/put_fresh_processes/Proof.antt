@@ -15,7 +15,7 @@ use Rattle.state.specs.Records.{nobody}
 use Rattle.state_bytes.specs.Process.{processBytes}
 use Rattle.state_bytes.specs.Widths.{processCount, processWidth, startsAt}
 use Rattle.state_bytes.proofs.ChunkLaws.{joined-step, length-joined-more}
-use Rattle.state_bytes.proofs.FreshLaws.{length-freshProcesses, getD-freshProcesses}
+use Rattle.state.proofs.FreshLaws.{length-freshProcesses, getD-freshProcesses}
 use Rattle.state_bytes.proofs.state_form.put_fresh_processes.Statement.{statement}
 use Rattle.state_bytes.proofs.state_form.put_fresh_processes.Tie as tie
 

@@ -15,9 +15,9 @@ use Rattle.lists.proofs.Sum.{total-suc}
 use Rattle.state.specs.Fresh.{freshStarts}
 use Rattle.state_bytes.specs.State.{stateOf, withStartBytes, withStartsBytes}
 use Rattle.state_bytes.specs.Widths.{processCount, stateWidth}
-use Rattle.state_bytes.proofs.FreshLaws.{sizeIf, length-freshStarts, getD-freshStarts, fresh-fits}
+use Rattle.state.proofs.FreshLaws.{length-freshStarts, getD-freshStarts}
 use Rattle.state_bytes.proofs.NumberLaws.{by-elements}
-use Rattle.state_bytes.proofs.StartLaws.{same-starts, length-with-starts, eight-written, written-more, written-all}
+use Rattle.state_bytes.proofs.StartLaws.{same-starts, length-with-starts, eight-written, written-more, written-all, sizeIf, fresh-fits}
 use Rattle.state_bytes.proofs.state_form.put_fresh_starts.Statement.{statement}
 use Rattle.state_bytes.proofs.state_form.put_fresh_starts.Tie as tie
 
@@ -83,7 +83,7 @@ loop-again c =
     let F : ℕ → ℕ = λ k. getD (freshStarts 0 ts ns) k 0 in
     let more = c .if-there2 .ensures ∙ ap (λ (n : ℕ). cond (getD ts p false) n 0) (z .size-of .ensures) in
     let here : l .loop .start ≡ 0 + total (sizeIf ts ns) p = omega (arith, l .loop .inv .3) in
-    let one : f .if-there .result ≡ F p = f .if-there .ensures ∙ ap (λ (n : ℕ). cond (getD ts p false) n 0) here ∙ sym (getD-freshStarts ts ns 0 p (omega (arith, l .loop .inv .1))) in
+    let one : f .if-there .result ≡ F p = f .if-there .ensures ∙ ap (λ (n : ℕ). cond (getD ts p false) n 0) here ∙ sym (getD-freshStarts 0 ts ns p (omega (arith, l .loop .inv .1))) in
     let laid = put .put-start .ensures
     ∙ ap (λ (n : ℕ). withStartBytes p n (l .loop .state)) one
     ∙ ap (withStartBytes p (F p)) (l .loop .inv .4)
@@ -103,7 +103,7 @@ returns c =
     let all = freshStarts 0 (s .args .t1) (s .args .sizes) in
     let m = s .args .state .now in
     let end : l .loop .p ≡ processCount = omega arith in
-    let eight : length all ≡ processCount = length-freshStarts (s .args .t1) (s .args .sizes) 0 ∙ l .loop .inv .1 in
+    let eight : length all ≡ processCount = length-freshStarts 0 (s .args .t1) (s .args .sizes) ∙ l .loop .inv .1 in
     (rw end at (l .loop .inv .4))
     ∙ written-all (λ (k : ℕ). getD all k 0) m (s .pre .1)
     ∙ ap (λ (xs : List ℕ). withStartsBytes xs m) (sym (by-elements processCount all eight))
