@@ -2,7 +2,7 @@
 use mathlib.Core.Path.{_≡_, refl, sym, ap, _∙_}
 use mathlib.Core.Bool.{Bool, true, false, not, cond, _&&_, _||_}
 use mathlib.Core.List.{List, [], _∷_}
-use mathlib.Core.Logic.{_⊎_, inl, inr, ⊎-elim}
+use mathlib.Core.Logic.{_⊎_, inl, inr}
 use Prim.Native.Nat.{ℕ, zero, suc, _+_, _≤_, _<_, _%_}
 use native.Mathlib.Omega.{arith}
 use borrow.Author.Tests.{eqb-true, leb-true, lt-ltb, le-ltb}
@@ -23,7 +23,6 @@ use Rattle.process.specs.Sound.{Sound, SizeRight}
 use Rattle.process.proofs.SoundLaws.{sound-free}
 use Rattle.state.specs.Records.{Records, nobody, processAt, startOf}
 use Rattle.state.specs.Layout.{capacity, extentAt, used, usedBefore, LaidOut}
-use Rattle.state.specs.Sound.{SoundState}
 use Rattle.state.specs.Fresh.{freshProcess, freshProcesses, freshStarts, freshStart, needed, eachRight, sizesRight}
 use Rattle.state.specs.Theorems.{FreshIsSound}
 use Rattle.state.proofs.LayoutLaws.{Sized, extent-absent}
@@ -110,7 +109,7 @@ getD-freshProcesses (t ∷ ts) ns (suc k) h = getD-freshProcesses ts (drop 1 ns)
 pub length-freshStarts : (at : ℕ) (ts : List Bool) (ns : List ℕ) → length (freshStarts at ts ns) ≡ length ts
 unfolding freshStarts
 length-freshStarts at [] ns = refl
-length-freshStarts at (t ∷ ts) ns = ap suc (length-freshStarts (at + cond t (getD ns 0 0) 0) ts (drop 1 ns))
+length-freshStarts at (t ∷ ts) ns = ap suc (length-freshStarts _ ts (drop 1 ns))
 
 -- the size that process p has
 abbrev sizeAt : List Bool → List ℕ → ℕ → ℕ

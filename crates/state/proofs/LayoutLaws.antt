@@ -12,7 +12,7 @@ use lib.Dec.{ltb}
 use Rattle.lists.specs.Sum.{total, greatest}
 use Rattle.lists.proofs.Cases.{true-or-false, same-or-other, less-or-not, ltb-alike}
 use Rattle.lists.proofs.Elements.{length-elements, getD-elements}
-use Rattle.lists.proofs.Sum.{total-alike, total-zero, total-more, total-one, total-front, total-front-≤, total-front-at, greatest-at, greatest-is, greatest-least}
+use Rattle.lists.proofs.Sum.{total-alike, total-zero, total-more, total-one, greatest-at, greatest-is}
 use Rattle.process.specs.declared.record.Process.{Process}
 use Rattle.process.specs.Local.{extent}
 use Rattle.state.specs.Records.{Records, processAt, withProcess, startOf, withStart}
@@ -341,7 +341,10 @@ module _ (g : Records) (eight : length (g .processes) ≡ 8) (laid : LaidOut g) 
         let first = moved k early o was in
         let second = moved j i n so in
         ⊎-elim (λ (l : startOf g k < startOf g j). omega (arith, moved-less k j first second l))
-        (λ (l : startOf g j ≤ startOf g k). ⊎-elim (λ (m : startOf g j < startOf g k). omega (arith, moved-less j k second first m)) (λ (m : startOf g k ≤ startOf g j). laid .differ j k less i was so (omega arith)) (less-or-not (startOf g j) (startOf g k)))
+        (λ (l : startOf g j ≤ startOf g k).
+        ⊎-elim (λ (m : startOf g j < startOf g k). omega (arith, moved-less j k second first m))
+        (λ (m : startOf g k ≤ startOf g j). laid .differ j k less i was so (omega arith))
+        (less-or-not (startOf g j) (startOf g k)))
         (less-or-not (startOf g k) (startOf g j));
     fits = omega (arith, used-without, laid .fits);
   }

@@ -5,7 +5,7 @@ use mathlib.Core.Logic.{_⊎_, inl, inr, ⊎-elim}
 use Prim.Native.Nat.{ℕ, _+_, _-_, _≤_, _<_}
 use native.Mathlib.Omega.{arith}
 use lib.ListN.{length, take, drop, getD, set, replicate, length-append, length-drop, length-replicate, getD-replicate, take-append-drop, List·getD-append}
-use lib.Seq.{length-take-le, getD-take, getD-drop, take-set-le, take-set-lt, drop-set-lt, drop-set-add, drop-drop, ext-getD}
+use lib.Seq.{length-take-le, getD-take, getD-drop, take-set-le, take-set-lt, drop-set-lt, drop-set-add, ext-getD}
 use Rattle.lists.specs.Buffer.{overlay}
 use Rattle.lists.proofs.Cases.{less-or-not}
 use Rattle.lists.proofs.Moved.{Moved}

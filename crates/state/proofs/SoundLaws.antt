@@ -1,5 +1,5 @@
 -- The test of soundness passes exactly the sound states: each conjunct of the test is one field of the definition. Assumes nothing.
-use mathlib.Core.Path.{_≡_, refl, sym, ap, _∙_}
+use mathlib.Core.Path.{_≡_, refl}
 use mathlib.Core.Bool.{Bool, true, false, not, _&&_, _||_}
 use Prim.Native.Nat.{ℕ, _≤_, _<_}
 use native.Mathlib.Omega.{arith}
@@ -7,9 +7,7 @@ use borrow.Author.Tests.{eqb-true, eqb-false, leb-true, le-leb, eq-eqb, ne-eqb, 
 use lib.Dec.{eqb, leb}
 use Rattle.lists.specs.Every.{below}
 use Rattle.lists.proofs.Bool.{&&-left, &&-right, &&-both}
-use Rattle.lists.proofs.Cases.{true-or-false}
 use Rattle.lists.proofs.Every.{below-at, below-all}
-use Rattle.process.specs.Sound.{Sound}
 use Rattle.process.specs.Sound.{soundTest as soundProcess}
 use Rattle.process.proofs.SoundTestLaws.{passes-sound, sound-passes}
 use Rattle.state.specs.Records.{Records, processAt, startOf}
@@ -21,6 +19,10 @@ use Rattle.state.proofs.LayoutLaws.{Sized}
 -- ---- the layout
 
 module _ (g : Records) (e : laidOut g ≡ true) where
+  fits-passed : used g ≤ capacity
+  unfolding laidOut
+  fits-passed = leb-true (used g) capacity (&&-left (leb (used g) capacity) (below (placed g) 8) e)
+
   placed-each : (p : ℕ) → p < 8 → placed g p ≡ true
   unfolding laidOut
   placed-each p h = below-at (placed g) 8 p h (&&-right (leb (used g) capacity) (below (placed g) 8) e)
@@ -30,7 +32,7 @@ module _ (g : Records) (e : laidOut g ≡ true) where
   placed-both p h there = rw there at (placed-each p h)
 
   pub layout-passed : LaidOut g
-  unfolding laidOut startIsUnique
+  unfolding startIsUnique
   layout-passed = record {
     begins = λ p h there. eqb-true (startOf g p) (usedBefore (startOf g p) g) (&&-left _ (startIsUnique g p) (placed-both p h there));
     differ = λ p q less h there also same.
@@ -38,7 +40,7 @@ module _ (g : Records) (e : laidOut g ≡ true) where
         let other = below-at (λ (k : ℕ). not (processAt g k .there && eqb (startOf g k) (startOf g p))) p q less lower in
         let apart : not (eqb (startOf g q) (startOf g p)) ≡ true = rw there at other in
         eqb-false (startOf g q) (startOf g p) (not-true (eqb (startOf g q) (startOf g p)) apart) same;
-    fits = leb-true (used g) capacity (&&-left (leb (used g) capacity) (below (placed g) 8) e);
+    fits = fits-passed;
   }
 
 module _ (g : Records) (laid : LaidOut g) where

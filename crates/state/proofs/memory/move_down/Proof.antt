@@ -1,7 +1,7 @@
 -- `state::memory::move_down` meets its contract. The invariant: the bytes from `start` to `i` have moved, and all others are as they were. The
 -- measure is what is left to move. Assumes nothing.
 use mathlib.Core.Path.{_≡_, refl, subst, _∙_}
-use Prim.Native.Nat.{ℕ, _+_, _-_, _≤_, _<_}
+use Prim.Native.Nat.{ℕ, _-_, _≤_, _<_}
 use native.Mathlib.Omega.{arith}
 use borrow.Author.Needs.{needs}
 use lib.ListN.{length, length-set}
