@@ -1,7 +1,7 @@
 -- Laws of the starts in the bytes of a state: eight words after the processes. Assumes nothing.
 use mathlib.Core.Path.{_≡_, refl, sym, ap, _∙_}
 use mathlib.Core.Bool.{Bool, true, false, cond, _&&_}
-use mathlib.Core.List.{List, [], _∷_, _++_, append-assoc}
+use mathlib.Core.List.{List, _++_, append-assoc}
 use Prim.Native.Nat.{ℕ, _+_, _-_, _*_, _≤_, _<_}
 use native.Mathlib.Numerals.{add-one}
 use native.Mathlib.Omega.{arith}
@@ -22,7 +22,7 @@ use Rattle.lists.proofs.Word.{word-high-low, high-word, low-word}
 use Rattle.state.specs.Records.{Records, processAt, startOf}
 use Rattle.state.specs.Layout.{capacity, extentAt, startWithout, startsWithout}
 use Rattle.state.specs.Fresh.{needed, eachRight, sizesRight}
-use Rattle.state_bytes.specs.Chunk.{chunks, everyChunk}
+use Rattle.state_bytes.specs.Chunk.{chunks}
 use Rattle.state_bytes.specs.Layout.{startLowered}
 use Rattle.state_bytes.specs.Number.{u16Le, u16LeBytes}
 use Rattle.state_bytes.specs.Process.{processOf}

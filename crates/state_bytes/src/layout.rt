@@ -34,6 +34,43 @@ pub fn used_bytes(state: &[u8]) -> usize
     used
 }
 
+// ---- in number order
+
+// Process p, whose record is at this index, is absent or begins at this start.
+fn lies_at(state: &[u8], at: usize, start: usize, p: usize) -> bool
+    requires { ⌜ p < processCount ⌝ }
+    requires { ⌜ at ≡ processWidth * p ⌝ }
+    requires { ⌜ stateWidth ≤ length (now state) ⌝ }
+    ensures { λ r. ⌜ r ≡ liesAt (stateOf (now (state .entry))) start p ⌝ }
+{
+    if state[at + THERE_AT] % 2 == 0 {
+        return true;
+    }
+    read_start(state, p) as usize == start
+}
+
+// Each process begins where those with lower numbers end, and the last ends within the memory.
+fn in_number_order(state: &[u8]) -> bool
+    requires { ⌜ stateWidth ≤ length (now state) ⌝ }
+    ensures { λ r. ⌜ r ≡ inNumberOrder (stateOf (now (state .entry))) ⌝ }
+{
+    let mut used = 0;
+    let mut at = 0;
+    let mut p = 0;
+    while p < PROCESS_COUNT {
+        if !lies_at(state, at, used, p) {
+            return false;
+        }
+        let end = at + PROCESS_BYTES;
+        used += read_extent(&state[at..end]) as usize;
+        at = end;
+        p += 1;
+    }
+    used <= CAPACITY
+}
+
+// ---- in any order
+
 // The bytes of process q, if it begins before this index.
 fn extent_before(state: &[u8], start: u16, q: usize) -> u16
     requires { ⌜ q < processCount ⌝ }
@@ -105,7 +142,7 @@ fn is_placed(state: &[u8], p: usize) -> bool
     start_is_unique(state, p)
 }
 
-// Each process is.
+// Every process is absent or begins where those before it end, and no two begin at one place.
 fn each_placed(state: &[u8]) -> bool
     requires { ⌜ stateWidth ≤ length (now state) ⌝ }
     ensures { λ r. ⌜ r ≡ below (placed (stateOf (now (state .entry)))) processCount ⌝ }
@@ -120,38 +157,7 @@ fn each_placed(state: &[u8]) -> bool
     true
 }
 
-// Process p, whose record is at this index, is absent or begins at this start.
-fn lies_at(state: &[u8], at: usize, start: usize, p: usize) -> bool
-    requires { ⌜ p < processCount ⌝ }
-    requires { ⌜ at ≡ processWidth * p ⌝ }
-    requires { ⌜ stateWidth ≤ length (now state) ⌝ }
-    ensures { λ r. ⌜ r ≡ liesAt (stateOf (now (state .entry))) start p ⌝ }
-{
-    if state[at + THERE_AT] % 2 == 0 {
-        return true;
-    }
-    read_start(state, p) as usize == start
-}
-
-// Each process begins where those with lower numbers end, and the last ends within the memory.
-fn in_number_order(state: &[u8]) -> bool
-    requires { ⌜ stateWidth ≤ length (now state) ⌝ }
-    ensures { λ r. ⌜ r ≡ inNumberOrder (stateOf (now (state .entry))) ⌝ }
-{
-    let mut used = 0;
-    let mut at = 0;
-    let mut p = 0;
-    while p < PROCESS_COUNT {
-        if !lies_at(state, at, used, p) {
-            return false;
-        }
-        let end = at + PROCESS_BYTES;
-        used += read_extent(&state[at..end]) as usize;
-        at = end;
-        p += 1;
-    }
-    used <= CAPACITY
-}
+// ---- both
 
 // Whether the processes, whose records are sound, lie without gaps within the memory. In number order one look at each process tells.
 pub(crate) fn layout_sound(state: &[u8]) -> bool

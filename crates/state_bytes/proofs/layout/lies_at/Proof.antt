@@ -1,11 +1,10 @@
 -- `state_bytes::layout::lies_at` meets its contract, by the two cases. Assumes nothing.
-use mathlib.Core.Path.{_≡_, ap, _∙_}
+use mathlib.Core.Path.{ap}
 use Prim.Native.Nat.{ℕ, _+_}
 use native.Mathlib.Omega.{arith}
 use borrow.Author.Needs.{needs}
 use lib.Dec.{eqb}
 use Rattle.state_bytes.specs.Widths.{thereAt}
-use Rattle.state_bytes.specs.State.{stateOf}
 use Rattle.state_bytes.proofs.StateLaws.{absent-at, present-at}
 use Rattle.state_bytes.proofs.layout.lies_at.Statement.{statement}
 use Rattle.state_bytes.proofs.layout.lies_at.Tie as tie

@@ -1,9 +1,8 @@
 -- `state_bytes::place::is_there` meets its contract: one byte. Assumes nothing.
-use mathlib.Core.Path.{_≡_, _∙_}
-use Prim.Native.Nat.{_+_, _*_}
+use Prim.Native.Nat.{_+_}
 use native.Mathlib.Omega.{arith}
 use borrow.Author.Needs.{needs}
-use Rattle.state_bytes.specs.Widths.{thereAt, processWidth}
+use Rattle.state_bytes.specs.Widths.{thereAt}
 use Rattle.state_bytes.proofs.StateLaws.{is-there-at}
 use Rattle.state_bytes.proofs.place.is_there.Statement.{statement}
 use Rattle.state_bytes.proofs.place.is_there.Tie as tie

@@ -1,5 +1,5 @@
 -- `state_bytes::process_form::read_extent` meets its contract, by the two cases. Assumes nothing.
-use mathlib.Core.Path.{_≡_, _∙_}
+use mathlib.Core.Path.{_≡_}
 use mathlib.Core.Bool.{true, false}
 use Prim.Native.Nat.{_%_}
 use native.Mathlib.Omega.{arith}

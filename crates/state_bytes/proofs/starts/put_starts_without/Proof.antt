@@ -1,6 +1,6 @@
 -- `state_bytes::starts::put_starts_without` meets its contract. The loop's invariant: the starts passed are written, and the others are as they
 -- were. Assumes nothing.
-use mathlib.Core.Path.{_≡_, refl, sym, ap, _∙_}
+use mathlib.Core.Path.{_≡_, sym, ap, _∙_}
 use mathlib.Core.List.{List}
 use Prim.Native.Nat.{ℕ, _+_, _-_, _≤_}
 use native.Mathlib.Omega.{arith}
@@ -8,8 +8,6 @@ use borrow.Author.Needs.{needs}
 use lib.ListN.{length}
 use Rattle.lists.specs.Buffer.{Bytes, overlay}
 use Rattle.lists.specs.Elements.{elements}
-use Rattle.state.specs.Records.{startOf}
-use Rattle.state.specs.Layout.{extentAt}
 use Rattle.state_bytes.specs.Layout.{startLowered}
 use Rattle.state_bytes.specs.State.{stateOf, withStartBytes, withStartsBytes}
 use Rattle.state_bytes.specs.Widths.{processCount, stateWidth}

@@ -1,9 +1,9 @@
 -- `state_bytes::state_form::put_fresh_starts` meets its contract. The loop's invariant: the starts passed are written, and the next process begins
 -- where those passed end. Assumes nothing.
 use mathlib.Core.Path.{_≡_, refl, sym, ap, _∙_}
-use mathlib.Core.Bool.{true, false, cond}
+use mathlib.Core.Bool.{false, cond}
 use mathlib.Core.List.{List}
-use Prim.Native.Nat.{ℕ, _+_, _-_, _≤_, _<_}
+use Prim.Native.Nat.{ℕ, _+_, _-_, _≤_}
 use native.Mathlib.Numerals.{add-one}
 use native.Mathlib.Omega.{arith}
 use borrow.Author.Needs.{needs}
@@ -14,7 +14,7 @@ use Rattle.lists.specs.Sum.{total}
 use Rattle.lists.proofs.Sum.{total-suc}
 use Rattle.state.specs.Fresh.{freshStarts}
 use Rattle.state_bytes.specs.State.{stateOf, withStartBytes, withStartsBytes}
-use Rattle.state_bytes.specs.Widths.{processCount, stateWidth}
+use Rattle.state_bytes.specs.Widths.{processCount}
 use Rattle.state.proofs.FreshLaws.{length-freshStarts, getD-freshStarts}
 use Rattle.state_bytes.proofs.NumberLaws.{by-elements}
 use Rattle.state_bytes.proofs.StartLaws.{same-starts, length-with-starts, eight-written, written-more, written-all, sizeIf, fresh-fits}
