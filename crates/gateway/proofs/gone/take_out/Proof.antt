@@ -35,7 +35,7 @@ put-starts-without-requires : tie.Need-put-starts-without-requires
 put-starts-without-requires c κs =
     let s = c .before .before .before .before .before .before .before .before .before in
     let a = s .args in
-    (s .pre .0 .0, formed-long (a .state .now) (sound-formed (a .state .now) (s .pre .1 .1 .0)))
+    (omega (arith, s .pre .0 .0), formed-long (a .state .now) (sound-formed (a .state .now) (s .pre .1 .1 .0)))
 
 put-process-at-requires : tie.Need-put-process-at-requires
 put-process-at-requires c κs =
