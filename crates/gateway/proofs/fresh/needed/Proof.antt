@@ -42,7 +42,9 @@ size-needed-requires c κs = search needs
 add-sum : tie.Need-add-sum Inv-loop μ-loop
 add-sum c =
     let n = c .before in
-    let short : c .size-needed .result ≤ 65535 = rw (c .size-needed .ensures) (cond-short _ (n .size-of .result) (omega arith)) in
+    let l = c .before .before .before in
+    let a = c .before .before .before .before .args in
+    let short : c .size-needed .result ≤ 65535 = rw (c .size-needed .ensures) (cond-short (getD (a .t1) (l .loop .p) false) (n .size-of .result) (omega arith)) in
     omega arith
 
 add-p : tie.Need-add-p Inv-loop μ-loop
@@ -57,7 +59,7 @@ loop-again c =
     let n = c .before in
     let l = c .before .before .before in
     let a = c .before .before .before .before .args in
-    let short : c .size-needed .result ≤ 65535 = rw (c .size-needed .ensures) (cond-short _ (n .size-of .result) (omega arith)) in
+    let short : c .size-needed .result ≤ 65535 = rw (c .size-needed .ensures) (cond-short (getD (a .t1) (l .loop .p) false) (n .size-of .result) (omega arith)) in
     let is : c .size-needed .result ≡ bytesOf (a .t1) (a .sizes) (l .loop .p) = rw (n .size-of .ensures) at (c .size-needed .ensures) in
     (omega arith, l .loop .inv .1, rw (add-one (l .loop .p)) (ap₂ (λ (x y : ℕ). x + y) (l .loop .inv .2) is), omega arith)
 
