@@ -96,14 +96,14 @@ same-length-4 c = search needs
 
 returns-4 : tie.Need-returns-4
 unfolding commandEffect
-returns-4 c = rw (c .before .before .before .before .before .before .before .enum-told4 .given .1) (c .before .before .answer-store .ensures)
+returns-4 c = rw (c .before .before .before .before .before .before .enum-told4 .given .1) (c .before .before .answer-store .ensures)
 
 same-length-5 : tie.Need-same-length-5
 same-length-5 c = search needs
 
 returns-5 : tie.Need-returns-5
 unfolding commandEffect
-returns-5 c = rw (c .before .before .before .before .before .before .before .before .enum-told5 .given .1) (c .before .before .answer-memory .ensures)
+returns-5 c = rw (c .before .before .before .before .before .before .before .enum-told5 .given .1) (c .before .before .answer-memory .ensures)
 
 same-length-6 : tie.Need-same-length-6
 same-length-6 c = search needs
