@@ -1,13 +1,15 @@
-/* A gateway in C over the stub, and the desk that asks it: host 5 debugs process 2, which has 1,536 bytes, host 6 is refused, and process 2
- * stops at a breakpoint. */
+/* A gateway in C over the stub, and the desk that asks it: host 5 debugs process 2, which has 1,536 bytes, and host 6 is refused. Process 0,
+ * which lies below it in memory, is destroyed, so that process 2 moves; others are created until there is no room. Then process 2 stops at a
+ * breakpoint. */
 #include "palustrode.h"
 #include <stdio.h>
 #include <string.h>
 
 enum {
-    PLACE = PALUSTRODE_MEMORY_BYTES / PALUSTRODE_PROCESSES,            /* from one process to the next in memory */
-    SIZE = 1536,                                                       /* of process 2 */
-    HOST = 1,                                                          /* in a process's bytes of the state */
+    LOWER = 2048,                                                      /* the size of process 0 */
+    SIZE = 1536,                                                       /* and of process 2 */
+    THERE = 0,                                                         /* in a process's bytes of the state */
+    HOST = 1,
     ENTRIES = PALUSTRODE_PROCESS_BYTES - 8 * PALUSTRODE_ENTRY_BYTES,   /* and where its breakpoints begin */
     PC = 7                                                             /* among the nine words */
 };
@@ -16,7 +18,7 @@ static uint8_t state[PALUSTRODE_STATE_BYTES];
 static uint8_t memory[PALUSTRODE_MEMORY_BYTES];
 static uint8_t out[PALUSTRODE_MESSAGE_BYTES];
 
-static uint8_t *process(int p) { return state + p * PALUSTRODE_PROCESS_BYTES; }
+static uint8_t *process(unsigned p) { return state + p * PALUSTRODE_PROCESS_BYTES; }
 
 static void show(const char *what, int64_t result, size_t written) {
     printf("%-28s %4lld%s", what, (long long)result, written > 0 ? " " : "");
@@ -24,15 +26,26 @@ static void show(const char *what, int64_t result, size_t written) {
     printf("\n");
 }
 
+/* A word of process 2 as it stands in memory. Where the process begins is read each time, since a DESTROY may have moved it. */
 static void show_word(const char *what, int address) {
-    const uint8_t *word = memory + 2 * PLACE + address;
+    const uint8_t *word = memory + palustrode_start(state, 2) + address;
     printf("%-28s       %02x %02x\n", what, word[0], word[1]);
 }
 
-/* A fresh start with process 2 of this size; the sizes of the others, which are not there, are 0. */
-static void start(const char *what, uint64_t there, uint16_t size, size_t count) {
-    uint16_t sizes[PALUSTRODE_PROCESSES] = {0};
-    sizes[2] = size;
+/* Where the processes that are there begin in memory. */
+static void show_starts(const char *what) {
+    const char *before = "      ";
+    printf("%-28s", what);
+    for (unsigned p = 0; p < PALUSTRODE_PROCESSES; p++) {
+        if (!process(p)[THERE]) continue;
+        printf("%s %u at %u", before, p, (unsigned)palustrode_start(state, p));
+        before = ",";
+    }
+    printf("\n");
+}
+
+/* A fresh start with these sizes; those of processes that are not to be there are passed over. */
+static void start(const char *what, uint64_t there, const uint16_t *sizes, size_t count) {
     show(what, palustrode_fresh_start(there, sizes, count, state, sizeof state), 0);
 }
 
@@ -53,11 +66,12 @@ static void report(const char *what, uint64_t process, uint64_t kind, uint16_t p
     show(what, r, r >= 0 ? (size_t)r : 0);
 }
 
-/* The desk's end: host 5 writes a request to process 2, the gateway answers it, and the desk reads the answer. */
+/* The desk's end: host 5 writes a request, to process 2 unless it is a CREATE, the gateway answers it, and the desk reads the answer. */
 static void desk(const char *what, uint64_t cmd, uint64_t arg1, uint64_t arg2, const uint8_t *string, size_t length) {
     static uint8_t request[PALUSTRODE_MESSAGE_BYTES];
     uint16_t f[PALUSTRODE_FIELDS] = {0};
-    int64_t written = palustrode_write_request(5, cmd, 2, arg1, arg2, string, length, request, sizeof request);
+    uint64_t pid = cmd == PALUSTRODE_CREATE ? 0 : 2;
+    int64_t written = palustrode_write_request(5, cmd, pid, arg1, arg2, string, length, request, sizeof request);
     if (written < 0) {
         show(what, written, 0);
         return;
@@ -85,7 +99,29 @@ static void ask_on_wrong(const char *what, uint8_t *byte, uint8_t wrong, const u
     *byte = right;
 }
 
+/* Process 0 goes, and process 2 moves down; then come new processes, each last, until the free bytes are too few. */
+static void destroy_and_create(const uint8_t *word) {
+    static const uint8_t debug[] = {0, 5, 255, 0, PALUSTRODE_DEBUG, 0, 0, 0, 0, 0};
+    static const uint8_t destroy[] = {0, 5, 255, 0, PALUSTRODE_DESTROY, 0, 0, 0, 0, 0};
+    static const uint8_t create[] = {0, 5, 255, 0, PALUSTRODE_CREATE, 0, 0, 0, 0, 0};
+
+    ask("host 5 debugs process 0", debug, sizeof debug);
+    ask("and destroys it", destroy, sizeof destroy);
+    show_starts("process 2 moved down");
+    show_word("with its planted word", 256);
+    desk("and what is seen is the same", PALUSTRODE_EXAMINE, 256, 2, word, 0);
+    desk("a process of 1,023 bytes", PALUSTRODE_CREATE, 1023, 0, word, 0);
+    desk("a process of 1,024 bytes", PALUSTRODE_CREATE, 1024, 0, word, 0);
+    show_starts("it lies last");
+    for (int i = 0; i < 4; i++) ask("one of 4,096 bytes", create, sizeof create);
+    show_starts("1,536 bytes are free");
+}
+
 int main(void) {
+    static const uint16_t sizes[PALUSTRODE_PROCESSES] = {LOWER, 0, SIZE};
+    static const uint16_t odd[PALUSTRODE_PROCESSES] = {LOWER, 0, SIZE - 1};
+    static const uint16_t greatest[PALUSTRODE_PROCESSES] = {4096, 4096, 4096, 4096, 4096, 4096, 4096, 4096};
+    static const uint64_t both = 1 << 0 | 1 << 2;
     static const uint8_t debug5[] = {0, 5, 255, 0, PALUSTRODE_DEBUG, 2, 0, 0, 0, 0};
     static const uint8_t debug6[] = {0, 6, 255, 0, PALUSTRODE_DEBUG, 2, 0, 0, 0, 0};
     static const uint8_t word[] = {18, 52};
@@ -93,11 +129,13 @@ int main(void) {
 
     uint16_t fields[PALUSTRODE_FIELDS];
 
-    start("fresh start, process 8", 1 << 8, PALUSTRODE_SIZE_MAX, PALUSTRODE_PROCESSES);
-    start("process 2 of 1,535 bytes", 1 << 2, SIZE - 1, PALUSTRODE_PROCESSES);
-    start("of 1,536, and seven sizes", 1 << 2, SIZE, PALUSTRODE_PROCESSES - 1);
-    start("of 1,536, and eight sizes", 1 << 2, SIZE, PALUSTRODE_PROCESSES);
-    ask("host 5 debugs it", debug5, sizeof debug5);
+    start("fresh start, process 8", 1 << 8, sizes, PALUSTRODE_PROCESSES);
+    start("process 2 of 1,535 bytes", both, odd, PALUSTRODE_PROCESSES);
+    start("five of 4,096 bytes", 31, greatest, PALUSTRODE_PROCESSES);
+    start("0 and 2, and seven sizes", both, sizes, PALUSTRODE_PROCESSES - 1);
+    start("0 and 2, and eight sizes", both, sizes, PALUSTRODE_PROCESSES);
+    show_starts("they begin in memory");
+    ask("host 5 debugs process 2", debug5, sizeof debug5);
     ask("host 6 asks for it", debug6, sizeof debug6);
     desk("the desk deposits 18, 52", PALUSTRODE_DEPOSIT, 256, sizeof word, word, sizeof word);
     desk("breakpoint there, count 1", PALUSTRODE_BREAK, 256, 1, word, 0);
@@ -106,6 +144,7 @@ int main(void) {
     desk("an address over 65,535", PALUSTRODE_EXAMINE, 65536 + 256, 2, word, 0);
     desk("its last two bytes", PALUSTRODE_EXAMINE, SIZE - 2, 2, word, 0);
     desk("a byte past its size", PALUSTRODE_EXAMINE, SIZE - 1, 2, word, 0);
+    destroy_and_create(word);
     report("BPT there, passed silently", 2, PALUSTRODE_KIND_BPT, 256);
     report("process 258 has a BPT", 258, PALUSTRODE_KIND_BPT, 256);
     report("process 2 has kind 258", 2, 258, 256);
@@ -114,7 +153,8 @@ int main(void) {
            (long long)palustrode_read_answer(out, PALUSTRODE_HEADER_BYTES + PALUSTRODE_WORDS_BYTES, fields, PALUSTRODE_FIELDS));
     ask("a message of no bytes", debug5, 0);
     ask_on_wrong("flag of a breakpoint is 7", process(2) + ENTRIES, 7, debug5, sizeof debug5);
-    ask_on_wrong("absent process with a host", process(3) + HOST, 6, debug5, sizeof debug5);
+    ask_on_wrong("absent process with a host", process(7) + HOST, 6, debug5, sizeof debug5);
+    ask_on_wrong("process 2 begins at byte 2", state + PALUSTRODE_STARTS_AT + 2 + 2, 2, debug5, sizeof debug5);
     ask("END DEBUG", end, sizeof end);
     show_word("memory holds", 256);
     ask("host 6 debugs it", debug6, sizeof debug6);

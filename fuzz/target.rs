@@ -7,15 +7,19 @@
 //!     0 to 2  a request: HOST, CMD, PID, ARG1, ARG2, with the string that its CMD carries
 //!     3       a request of any bytes: a length, and the message from the bytes that follow the record
 //!     4       a machine report
-//!     5       a store by the machine, or, with bit 4, a call of the desk's end
-//!     6       damage: bytes of the state are changed for the next call
+//!     5       a store by the machine into a process's own bytes, or, with bit 4, a call of the desk's end
+//!     6       damage: bytes of the state are changed for the next call, or, with bit 4, where its processes lie
 //!     7       lengths: the next call is lent other lengths
 //!
 //! A call after damage or lengths is made on copies; damage is kept where bit 6 asks for it and the state is still sound. Bit 7 takes all
 //! fields as they come; otherwise they are brought into the range where calls are granted. Bit 3 brings processes and addresses close
-//! together, bit 4 makes the string a byte too long, bit 5 takes the arguments from the edges of the ranges; of damage, it makes an entry.
+//! together, bit 4 makes the string a byte too long, bit 5 takes the arguments from the edges of the ranges, and the size of a CREATE from
+//! those of the free bytes too; of damage, it makes an entry, or moves one process alone.
 #![no_main]
 
+#[allow(dead_code)] // what is wrong with a layout is not asked here
+#[path = "../model/compare/layout.rs"]
+mod layout;
 #[path = "../model/compare/library.rs"]
 mod library;
 #[path = "../model/compare/sides.rs"]
@@ -24,6 +28,7 @@ mod sides;
 #[path = "../model/compare/stack.rs"]
 mod stack;
 
+use layout::{lay_out, order, out_of_order};
 use model::*;
 use sides::{is_sound, Call, Pair, Side};
 use std::os::raw::c_int;
@@ -37,8 +42,9 @@ fn stop(text: &str) -> ! {
 /// Makes the call on both sides.
 fn compare(call: &Call, pair: &mut Pair) {
     let found = condition_for(call, pair.model.state.bytes());
+    let laid = layout_for(call, pair.model.state.bytes());
     match pair.call(call) {
-        Ok(answer) => note(call, found, answer),
+        Ok(answer) => note(call, found, laid, answer),
         Err(text) => stop(&text),
     }
 }
@@ -46,9 +52,10 @@ fn compare(call: &Call, pair: &mut Pair) {
 // ---------------------------------------------------------------- guiding
 
 /// The library is not instrumented. The fuzzer also counts as new what it answers to which call in which condition of the process.
-const CALLS: usize = 23;
+/// After the calls come CREATE and DESTROY once more, in the layout that they find.
+const CALLS: usize = 25;
 const ANSWERS: usize = 17;
-const CONDITIONS: usize = 5 * 3;
+const CONDITIONS: usize = 2 * 9;
 
 #[link_section = "__libfuzzer_extra_counters"]
 static mut SEEN: [u8; CALLS * ANSWERS * CONDITIONS] = [0; CALLS * ANSWERS * CONDITIONS];
@@ -72,7 +79,36 @@ fn condition_for(call: &Call, state: &[u8]) -> usize {
     }
 }
 
-fn note(call: &Call, found: usize, answer: i64) {
+/// What a CREATE or a DESTROY finds: of CREATE, whether it asks for fewer bytes than are free, just them or more, and whether a number is
+/// free, below another or not; of DESTROY, whether it moves none, one or more, and breakpoints among them.
+fn layout_for(call: &Call, state: &[u8]) -> Option<(usize, usize)> {
+    let Call::Request { message: m } = call else { return None };
+    let state = decode(state).filter(|state| m.len() >= HEAD && sound(state))?;
+    let there = |p: usize| state.processes[p].there;
+    match m[4] {
+        CREATE_PROCESS => {
+            let asked = usize::from(asked_size(word(m[6], m[7]))?);
+            let room = asked.cmp(&free_bytes(&state)) as i8 + 1;
+            let number = match (0..PROCESSES).find(|&p| !there(p)) {
+                None => 0,
+                Some(new) => 1 + usize::from((new..PROCESSES).any(there)),
+            };
+            Some((23, 3 * room as usize + number))
+        }
+        DESTROY_PROCESS => {
+            let gone = state.processes.get(usize::from(m[5]))?;
+            let above = |p: &&Process| p.there && p.begin > gone.begin;
+            let moved = state.processes.iter().filter(above);
+            let points = moved.clone().flat_map(|p| &p.breakpoints).filter(|b| b.used);
+            let kinds = points.map(|b| 1 + usize::from(b.lifted)).max().unwrap_or(0);
+            let order = usize::from(out_of_order(&state));
+            Some((24, moved.count().min(2) * 3 + kinds + 9 * order))
+        }
+        _ => None,
+    }
+}
+
+fn note(call: &Call, found: usize, laid: Option<(usize, usize)>, answer: i64) {
     let what = match call {
         Call::Request { message: m } if m.len() >= HEAD => usize::from(m[4]).min(14),
         Call::Request { .. } => 15,
@@ -86,8 +122,10 @@ fn note(call: &Call, found: usize, answer: i64) {
         0 => 1,
         refused => 1 + (-refused).clamp(1, 15) as usize,
     };
-    let index = (what * ANSWERS + answered) * CONDITIONS + found;
-    unsafe { SEEN[index] = 1 };
+    for (what, found) in [Some((what, found)), laid].into_iter().flatten() {
+        let index = (what * ANSWERS + answered) * CONDITIONS + found;
+        unsafe { SEEN[index] = 1 };
+    }
 }
 
 // ---------------------------------------------------------------- reading the fuzzer's bytes
@@ -119,7 +157,8 @@ fn word(high: u8, low: u8) -> u16 {
 /// Where bits 3 and 5 move an address or a count to.
 fn moved(first: u8, n: u16) -> u16 {
     const EDGES: [u16; 19] = [
-        0, 1, 2, 16, 17, 18, 255, 256, 257, 1534, 1535, 1536, 4092, 4094, 4095, 4096, 4097, 65_534, 65_535,
+        0, 1, 2, 16, 17, 18, 255, 256, 257, 1534, 1535, 1536, 4092, 4094, 4095, 4096, 4097, 65_534,
+        65_535,
     ];
     match (first & 8 != 0, first & 32 != 0) {
         (_, true) => EDGES[usize::from(n) % EDGES.len()],
@@ -128,7 +167,17 @@ fn moved(first: u8, n: u16) -> u16 {
     }
 }
 
-fn request_from(r: [u8; 8]) -> Call {
+/// The size that a CREATE asks for.
+fn size_from(first: u8, n: u16, free: usize) -> u16 {
+    let free = free.min(4096) as u16;
+    let edges = [0, 2, 4094, 4096, free, free + 2, free.saturating_sub(2), 2048, 4098, 3];
+    match first & 32 {
+        0 => moved(first, n) % 4097 & !1,
+        _ => edges[usize::from(n) % edges.len()],
+    }
+}
+
+fn request_from(r: [u8; 8], free: usize) -> Call {
     let (any, near, longer) = (r[0] & 128 != 0, r[0] & 8 != 0, r[0] & 16 != 0);
     let [_, mut host, mut cmd, mut pid, ..] = r;
     let (mut arg1, mut arg2) = (moved(r[0], word(r[4], r[5])), moved(r[0], word(r[6], r[7])));
@@ -138,8 +187,10 @@ fn request_from(r: [u8; 8]) -> Call {
         if matches!(cmd, NOP | CREATE_PROCESS) {
             pid = 0;
         }
-        if !matches!(cmd, DEPOSIT | EXAMINE | DEPOSIT_STATE_VECTOR | BREAK | UNBREAK) {
-            arg1 = 0;
+        match cmd {
+            DEPOSIT | EXAMINE | DEPOSIT_STATE_VECTOR | BREAK | UNBREAK => {}
+            CREATE_PROCESS => arg1 = size_from(r[0], word(r[4], r[5]), free),
+            _ => arg1 = 0,
         }
         if !matches!(cmd, DEPOSIT | EXAMINE | DEPOSIT_STATE_VECTOR | BREAK) {
             arg2 = 0;
@@ -176,7 +227,7 @@ fn report_from(r: [u8; 8]) -> Call {
 /// A desk's call: bit 6 reads the message that the record would ask with, as an answer; otherwise its fields are written, with bit 7 wider
 /// by one bit.
 fn desk_from(r: [u8; 8]) -> Call {
-    let Call::Request { mut message } = request_from(r) else { unreachable!() };
+    let Call::Request { mut message } = request_from(r, 0) else { unreachable!() };
     if r[0] & 64 != 0 {
         message[4] = r[2];
         return Call::Read { message };
@@ -193,6 +244,8 @@ fn desk_from(r: [u8; 8]) -> Call {
 #[derive(Default)]
 struct Spoiled {
     damage: Vec<(usize, u8)>,
+    /// Those of the first byte are there too, and they lie in another order: that of these bytes, one for each process.
+    order: Option<[u8; 8]>,
     keep: bool,
     lengths: Option<[u8; 4]>,
 }
@@ -216,6 +269,15 @@ impl Spoiled {
             self.damage.push((usize::from(word(r[4], r[5])), r[6]));
             return;
         }
+        if r[0] & 48 == 16 {
+            self.order = Some([r[1], r[2], r[3], r[4], r[5], r[6], r[7], 128]);
+            return;
+        }
+        if r[0] & 48 == 48 {
+            let begin = BEGINS_AT + 2 * (usize::from(r[1]) % PROCESSES);
+            self.damage.extend([(begin, r[2]), (begin + 1, r[3] % 65)]);
+            return;
+        }
         let record = RECORD_BYTES * (usize::from(r[1]) % if r[0] & 8 != 0 { 2 } else { 8 });
         if r[0] & 32 == 0 {
             self.damage.push((record + usize::from(r[2]) % RECORD_BYTES, r[3] % 8));
@@ -228,12 +290,21 @@ impl Spoiled {
     }
 
     fn is_nothing(&self) -> bool {
-        self.damage.is_empty() && self.lengths.is_none()
+        self.damage.is_empty() && self.order.is_none() && self.lengths.is_none()
     }
 
     fn change(&self, side: &mut Side) {
         for &(at, value) in &self.damage {
             side.state.change()[at % STATE_BYTES] = value;
+        }
+        if let (Some(keys), Some(mut records)) = (self.order, decode(side.state.bytes())) {
+            for (p, process) in records.processes.iter_mut().enumerate() {
+                process.there |= keys[0] >> p & 1 == 1;
+            }
+            let mut order = order(&records);
+            order.sort_by_key(|&p| keys[p]);
+            lay_out(&mut records, &order);
+            side.state.change().copy_from_slice(&encode(&records));
         }
         if let Some([state, memory, output, _]) = self.lengths {
             side.state = side.state.resized(other(STATE_BYTES, state));
@@ -251,11 +322,13 @@ impl Spoiled {
 
 // ---------------------------------------------------------------- the list
 
-/// The sizes that a byte stands for: 4,096 for all, or a different one for each, from the least to the greatest.
+/// The sizes that a byte stands for: 2,048 or 4,096 for all, of which four have room, or a different one for each, from the least to the
+/// greatest.
 fn sizes_from(by: u8) -> Vec<u16> {
     const SIZES: [u16; PROCESSES] = [1536, 4096, 2, 18, 4094, 256, 20, 4];
     match by {
-        0..=127 => vec![LARGEST; PROCESSES],
+        0..=63 => vec![2048; PROCESSES],
+        64..=127 => vec![LARGEST; PROCESSES],
         _ => (0..PROCESSES).map(|p| SIZES[(p + usize::from(by)) % PROCESSES]).collect(),
     }
 }
@@ -264,10 +337,19 @@ fn sizes_from(by: u8) -> Vec<u16> {
 fn started(there: u8, sizes: Vec<u16>) -> Pair {
     let memory: Vec<u8> = (0..MEMORY).map(|i| (i / 2 % 251) as u8).collect();
     let mut pair = Pair::new(Side::new(&[1; STATE_BYTES], &memory, &[0xee; LONGEST]));
-    if let Err(text) = pair.call(&Call::FreshStart { there: there.into(), sizes }) {
-        stop(&text);
+    for sizes in [sizes, vec![2048; PROCESSES]] {
+        match pair.call(&Call::FreshStart { there: there.into(), sizes }) {
+            Ok(0) => break,
+            // more than the memory: those of 2,048 have room
+            Ok(_) => {}
+            Err(text) => stop(&text),
+        }
     }
     pair
+}
+
+fn records(pair: &Pair) -> State {
+    decode(pair.model.state.bytes()).unwrap_or(NONE_THERE)
 }
 
 fn make(pair: &mut Pair, mut call: Call, spoiled: Spoiled) {
@@ -293,21 +375,30 @@ fn desk(pair: &Pair, call: Call) {
     compare(&call, &mut copy);
 }
 
+/// A store into one of the processes that are there, if any is.
 fn store(pair: &mut Pair, r: [u8; 8]) {
-    let at = (usize::from(r[1]) << 12 | usize::from(word(r[2], r[3])) & 0xfff) % MEMORY;
+    let (records, near) = (records(pair), r[0] & 8 != 0);
+    let there = order(&records);
+    let Some(&p) = there.get(usize::from(r[1]) % there.len().max(1)) else { return };
+    let place = records.processes[p].place();
+    let within = if near { place.len().min(20) } else { place.len() };
+    let at = place.start + usize::from(word(r[2], r[3])) % within;
     pair.change(|side| side.memory.change()[at] = r[4]);
 }
 
 fn run(data: &[u8]) {
     let Some((&[there, by], rest)) = data.split_first_chunk() else { return };
     let mut pair = started(there, sizes_from(by));
-    let mut records = Records(rest);
+    let mut list = Records(rest);
     let mut spoiled = Spoiled::default();
-    while let Some(r) = records.next() {
+    while let Some(r) = list.next() {
         match r[0] & 7 {
-            0..=2 => make(&mut pair, request_from(r), std::mem::take(&mut spoiled)),
+            0..=2 => {
+                let call = request_from(r, free_bytes(&records(&pair)));
+                make(&mut pair, call, std::mem::take(&mut spoiled));
+            }
             3 => {
-                let message = records.take(usize::from(word(r[1] & 1, r[2]))).to_vec();
+                let message = list.take(usize::from(word(r[1] & 1, r[2]))).to_vec();
                 make(&mut pair, Call::Request { message }, std::mem::take(&mut spoiled));
             }
             4 => make(&mut pair, report_from(r), std::mem::take(&mut spoiled)),

@@ -5,14 +5,17 @@
 #include <stddef.h>
 #include <stdint.h>
 
-/* A state is eight processes of 87 bytes; the last 64 of these are eight breakpoint entries of 8 bytes. In memory each process has its place
- * of 4,096 bytes, whatever its size. */
-#define PALUSTRODE_STATE_BYTES 696
+/* A state is eight processes of 87 bytes, the last 64 of which are eight breakpoint entries of 8 bytes; then, from byte 696 on, where each
+ * process begins in memory, two bytes each, low byte first. All processes lie in one memory of 16,384 bytes, one after the other without gaps,
+ * each with as many bytes as its size says; free bytes follow the last. */
+#define PALUSTRODE_STATE_BYTES 712
 #define PALUSTRODE_PROCESS_BYTES 87
 #define PALUSTRODE_ENTRY_BYTES 8
-#define PALUSTRODE_MEMORY_BYTES 32768
+#define PALUSTRODE_STARTS_AT 696
+#define PALUSTRODE_MEMORY_BYTES 16384
 
-/* The number of processes, and of their sizes; and the least and the greatest size in bytes, which is even. */
+/* The number of processes, and of their sizes; and the least and the greatest size in bytes, which is even. In ARG1 of a CREATE 0 stands for
+ * the greatest. */
 #define PALUSTRODE_PROCESSES 8
 #define PALUSTRODE_SIZE_MIN 2
 #define PALUSTRODE_SIZE_MAX 4096
@@ -24,7 +27,7 @@
 #define PALUSTRODE_MESSAGE_BYTES 266
 #define PALUSTRODE_HEADER_BYTES 10
 
-/* The stack that a call needs, in bytes, what it calls included: 992 were measured on x86-64 (docs/EMBEDDING.md says how). */
+/* The stack that a call needs, in bytes, what it calls included: 1,016 were measured on x86-64 (docs/EMBEDDING.md says how). */
 #define PALUSTRODE_STACK_BYTES 1024
 
 /* The op codes of requests, in CMD. A CAN'T has PALUSTRODE_CANT added. */
@@ -71,7 +74,8 @@ extern "C" {
  *   of NULL, even with a length of 0;
  * - the buffers lent in one call do not overlap, least of all the reply and the message;
  * - one call at a time on a state and on its memory: no second thread, and no interrupt that calls while a call is under way;
- * - the machine stores nothing into memory during a call, and nobody writes into a lent buffer; between calls the machine may store;
+ * - the machine stores nothing into memory during a call, and nobody writes into a lent buffer; between calls the machine may store, and
+ *   nobody else: each process only within its own bytes, as many as its size says from palustrode_start on;
  * - PALUSTRODE_STACK_BYTES of stack are left at a call;
  * - the first call on a state is a fresh start, or the state is one that such calls left: any other sound state is taken for what it says.
  *
@@ -79,12 +83,15 @@ extern "C" {
  * than the stack and what it is lent, so calls on different states with different memories may be made at the same time. */
 
 /* A fresh start: process p is there where bit p of `there` is set, running, with no host and with sizes[p] bytes, and the others are not; their
- * sizes are passed over. Every byte of the state is written, whatever it held; memory is not touched, and stays as it is. 0; or, with nothing
- * written, -1 where not eight sizes are lent or the state has not its 696 bytes, else -2 where the size of a process that is to be there is odd,
- * 0 or over 4,096, and else -7 where a bit above the eighth is set. */
+ * sizes are passed over. In memory they lie one after the other in the order of their numbers, from byte 0 on. Every byte of the state is
+ * written, whatever it held; memory is not touched, and stays as it is. 0; or, with nothing written, -1 where not eight sizes are lent or the
+ * state has not its 712 bytes, else -2 where the size of a process that is to be there is odd, 0 or over 4,096 or all these sizes together are
+ * more than 16,384, and else -7 where a bit above the eighth is set. */
 int64_t palustrode_fresh_start(uint64_t there, const uint16_t *sizes, size_t sizes_count, uint8_t *state, size_t state_length);
 
-/* A request: any message, and the buffer for its reply. A CAN'T of ten bytes is written where -13 to -7 is returned. */
+/* A request: any message, and the buffer for its reply. A CAN'T of ten bytes is written where -13 to -7 is returned. After a granted CREATE a
+ * new process lies last; after a granted DESTROY those that lay above the one that went have moved down with their bytes, and the bytes that
+ * are free in addition are zero: read the starts anew. */
 int64_t palustrode_request(uint8_t *state, size_t state_length, uint8_t *memory, size_t memory_length,
                            const uint8_t *message, size_t message_length, uint8_t *reply, size_t reply_length);
 
@@ -95,17 +102,26 @@ int64_t palustrode_report(uint8_t *state, size_t state_length, uint8_t *memory, 
                           size_t notice_length);
 
 /* The desk writes a request with these fields and this string: its length, or -1 (under 266 bytes of room), -3 (a string over 256 bytes),
- * -4 (a host that is not 1 to 255), -5 (no op code) or -6 (an unused field is not 0, a PID over 255, an argument over 65,535, or a string
- * of another length than the op code carries). Needs no state. */
+ * -4 (a host that is not 1 to 255), -5 (no op code) or -6 (an unused field is not 0, a PID over 255, an argument over 65,535, a CREATE with a
+ * size in ARG1 that is odd or over 4,096, or a string of another length than the op code carries). Needs no state. */
 int64_t palustrode_write_request(uint64_t host, uint64_t cmd, uint64_t pid, uint64_t arg1, uint64_t arg2, const uint8_t *string,
                                  size_t string_length, uint8_t *request, size_t request_length);
 
 /* The desk reads a reply or notice: the length of its string, which stands in the message from its eleventh byte on, and the five fields; or
- * -1 (not five fields are lent), -3, -4, -5 or -6. Needs no state. */
+ * -1 (not five fields are lent), -3, -4, -5 or -6, the last also for a size in ARG1 of CREATED or CAN'T CREATE that is odd or over 4,096.
+ * Needs no state. */
 int64_t palustrode_read_answer(const uint8_t *message, size_t message_length, uint16_t *fields, size_t fields_count);
 
 #ifdef __cplusplus
 }
 #endif
+
+/* Where process p, 0 to 7, begins in memory, read from the 712 bytes of a state: its bytes are memory[start] to memory[start + size - 1]. Of a
+ * process that is not there it says nothing. Read it anew after each fresh start and each granted CREATE or DESTROY, of any process; nothing
+ * else moves one. */
+static inline size_t palustrode_start(const uint8_t *state, unsigned p) {
+    const uint8_t *start = state + PALUSTRODE_STARTS_AT + p + p;
+    return start[0] + 256u * start[1];
+}
 
 #endif

@@ -5,128 +5,22 @@
 //!     driver stack SIDE ROW    the deepest stack of the row's calls, in bytes
 //!     driver SIDE ROW TURNS    the row on one side, and nothing printed
 //!
-//! SIDE is `library`, `typed` (the model on a state kept as a struct), `bytes` (the model on the 696 bytes of a state) or `empty` (no call
+//! SIDE is `library`, `typed` (the model on a state kept as a struct), `bytes` (the model on the 712 bytes of a state) or `empty` (no call
 //! is made; what is left is the harness).
 #![no_main]
 
 use library::*;
-use model::{Run, State, FIELDS, LARGEST, LONGEST, MEMORY, PROCESSES, STATE_BYTES, VECTOR, WORDS};
+use model::{
+    Run, State, BEGINS_AT, FIELDS, LONGEST, MEMORY, PROCESSES, RECORD_BYTES, STATE_BYTES, VECTOR,
+};
+use rows::{rows, to, Row, Start, Step, P};
 use std::arch::asm;
 use std::ffi::{c_char, c_int, CStr};
 use std::hint::black_box;
 
 #[path = "../model/compare/library.rs"]
 mod library;
-
-// ---------------------------------------------------------------- rows
-
-/// Processes 0 to 6 are there, and host 5 debugs process 2.
-const THERE: u8 = 0x7f;
-const SIZES: [u16; PROCESSES] = [LARGEST; PROCESSES];
-const P: u8 = 2;
-const OWNER: u8 = 5;
-const STRANGER: u8 = 6;
-/// Where EXAMINE, DEPOSIT and breakpoints are.
-const AT: u16 = 256;
-
-enum Step {
-    Request(Vec<u8>),
-    Report {
-        kind: u8,
-        words: [u16; WORDS],
-        bytes: [u8; VECTOR],
-    },
-    /// The desk writes a request with these fields and this string.
-    Write([u64; FIELDS], Vec<u8>),
-    /// The desk reads an answer.
-    Read(Vec<u8>),
-    /// No call: the process is set back to running by one store into the state.
-    Run,
-}
-
-struct Row {
-    name: String,
-    what: String,
-    before: Vec<Step>,
-    turn: Vec<Step>,
-    /// The sum of the answers of one turn.
-    answers: i64,
-}
-
-fn ask(host: u8, cmd: u8, pid: u8, arg1: u16, arg2: u16, string: usize) -> Step {
-    let [a, b] = arg1.to_be_bytes();
-    let [c, d] = arg2.to_be_bytes();
-    let mut message = vec![0, host, 255, 0, cmd, pid, a, b, c, d];
-    message.extend((0..string).map(|i| i as u8));
-    Step::Request(message)
-}
-
-fn to(cmd: u8, arg1: u16, arg2: u16) -> Step {
-    let string = if cmd == model::DEPOSIT || cmd == model::DEPOSIT_STATE_VECTOR { arg2 } else { 0 };
-    ask(OWNER, cmd, P, arg1, arg2, usize::from(string))
-}
-
-fn tell(kind: u8, pc: u16) -> Step {
-    let words = [1, 2, 3, 4, 5, 6, 7, pc, 9];
-    Step::Report { kind, words, bytes: model::vector_bytes(&words) }
-}
-
-fn row(name: &str, what: &str, before: Vec<Step>, turn: Vec<Step>, answers: i64) -> Row {
-    Row { name: name.to_string(), what: what.to_string(), before, turn, answers }
-}
-
-/// EXAMINE or DEPOSIT of some bytes, with no breakpoint or with eight, 32 bytes apart from the first byte on.
-fn moving(name: &str, cmd: u8, bytes: u16, planted: u16) -> Row {
-    let what = format!("{} of {bytes}, {planted} planted", name.to_uppercase());
-    let before = (0..planted).map(|k| to(model::BREAK, AT + 32 * k, 0)).collect();
-    let answer = if cmd == model::EXAMINE { 10 + i64::from(bytes) } else { 10 };
-    row(&format!("{name}-{bytes}-{planted}"), &what, before, vec![to(cmd, AT, bytes)], answer)
-}
-
-fn rows() -> Vec<Row> {
-    use model::*;
-    let mut rows = vec![
-        row("nop", "NOP", vec![], vec![ask(OWNER, NOP, 0, 0, 0, 0)], 10),
-        row("debug", "DEBUG, again by the same host", vec![], vec![to(DEBUG, 0, 0)], 10),
-    ];
-    for (name, cmd) in [("examine", EXAMINE), ("deposit", DEPOSIT)] {
-        for planted in [0, 8] {
-            rows.extend([1, 16, 256].map(|bytes| moving(name, cmd, bytes, planted)));
-        }
-    }
-    let pair = vec![to(BREAK, AT, 0), to(UNBREAK, AT, 0)];
-    rows.push(row("break", "BREAK and UNBREAK, a pair", vec![], pair, 20));
-    let pair =
-        vec![ask(OWNER, CREATE_PROCESS, 0, 0, 0, 0), ask(OWNER, DESTROY_PROCESS, 7, 0, 0, 0)];
-    rows.push(row("create", "CREATE and DESTROY, a pair", vec![], pair, 20));
-    let counted = vec![to(BREAK, AT, 65_535)];
-    rows.push(row("silent", "BPT report, silent", counted, vec![tell(BPT, AT)], 0));
-    let back = vec![tell(TRAP, AT), Step::Run];
-    rows.push(row("notice", "TRAP report with notice", vec![], back, 28));
-    let turn = vec![ask(STRANGER, EXAMINE, P, AT, 16, 0)];
-    rows.push(row("stranger", "EXAMINE of 16 by a stranger, refused", vec![], turn, -8));
-    let turn = vec![Step::Write([5, DEPOSIT.into(), 2, AT.into(), 16], vec![7; 16])];
-    rows.push(row("write", "the desk writes DEPOSIT of 16", vec![], turn, 26));
-    let Step::Request(head) = ask(OWNER, EXAMINE, P, AT, 16, 0) else { unreachable!() };
-    let turn = vec![Step::Read([head, vec![7; 16]].concat())];
-    rows.push(row("read", "the desk reads CONTENTS of 16", vec![], turn, 16));
-    let session = vec![
-        to(DEBUG, 0, 0),
-        to(DEPOSIT_STATE_VECTOR, 0, 18),
-        to(BREAK, AT, 0),
-        tell(BPT, AT),
-        to(SINGLE_STEP, 0, 0),
-        tell(TTRAP, AT + 2),
-        to(RESUME, 0, 0),
-        tell(BPT, AT),
-        to(PROCEED_BPT, 0, 0),
-        to(STOP, 0, 0),
-        to(END_DEBUG, 0, 0),
-    ];
-    let ended = vec![to(END_DEBUG, 0, 0)];
-    rows.push(row("session", "a debugging session of 11 calls", ended, session, 8 * 10 + 3 * 28));
-    rows
-}
+mod rows;
 
 // ---------------------------------------------------------------- sides
 
@@ -174,7 +68,23 @@ struct Typed(Gate<State>);
 struct Empty(Gate<[u8; STATE_BYTES]>);
 
 /// The byte of the process's run state.
-const RUN_AT: usize = model::RECORD_BYTES * P as usize + 2;
+const RUN_AT: usize = RECORD_BYTES * P as usize + 2;
+
+/// Sets a state's bytes back by a few stores, where a step is no call.
+fn set_back(state: &mut [u8; STATE_BYTES], step: &Step) {
+    match step {
+        Step::Run => state[RUN_AT] = 0,
+        Step::Back { pid, there, host, begins } => {
+            let record = RECORD_BYTES * usize::from(*pid);
+            state[record] = u8::from(*there);
+            state[record + 1] = *host;
+            for (pair, begin) in state[BEGINS_AT..].chunks_exact_mut(2).zip(begins) {
+                pair.copy_from_slice(&begin.to_le_bytes());
+            }
+        }
+        _ => {}
+    }
+}
 
 impl Side for Library {
     fn make(&mut self, step: &Step) -> i64 {
@@ -198,8 +108,8 @@ impl Side for Library {
             Step::Read(a) => unsafe {
                 palustrode_read_answer(a.as_ptr(), a.len(), fields.as_mut_ptr(), FIELDS)
             },
-            Step::Run => {
-                state[RUN_AT] = 0;
+            Step::Run | Step::Back { .. } => {
+                set_back(state, step);
                 0
             }
         }
@@ -230,8 +140,8 @@ impl Side for Bytes {
                 model::report_bytes(state, memory, P.into(), (*kind).into(), 0, bytes, output)
             }
             Step::Write(..) | Step::Read(..) => by_desk(step, output, fields),
-            Step::Run => {
-                state[RUN_AT] = 0;
+            Step::Run | Step::Back { .. } => {
+                set_back(state, step);
                 0
             }
         }
@@ -255,6 +165,14 @@ impl Side for Typed {
                 state.processes[usize::from(P)].run = Run::Running;
                 0
             }
+            Step::Back { pid, there, host, begins } => {
+                let process = &mut state.processes[usize::from(*pid)];
+                (process.there, process.host) = (*there, *host);
+                for (process, begin) in state.processes.iter_mut().zip(begins) {
+                    process.begin = *begin;
+                }
+                0
+            }
         }
     }
 
@@ -270,8 +188,8 @@ impl Side for Empty {
             Step::Report { kind, .. } => i64::from(black_box(*kind)),
             Step::Write(_, string) => black_box(string.len()) as i64,
             Step::Read(message) => black_box(message.len()) as i64,
-            Step::Run => {
-                self.0.state[RUN_AT] = 0;
+            Step::Run | Step::Back { .. } => {
+                set_back(&mut self.0.state, step);
                 0
             }
         }
@@ -282,20 +200,25 @@ impl Side for Empty {
     }
 }
 
-fn fresh_bytes() -> [u8; STATE_BYTES] {
+fn fresh_bytes(start: Start) -> [u8; STATE_BYTES] {
     let mut state = [0; STATE_BYTES];
-    let (sizes, start) = (SIZES.as_ptr(), state.as_mut_ptr());
-    let answer = unsafe { palustrode_fresh_start(THERE.into(), sizes, PROCESSES, start, STATE_BYTES) };
+    let (sizes, bytes) = (start.sizes.as_ptr(), state.as_mut_ptr());
+    let there = start.there.into();
+    let answer = unsafe { palustrode_fresh_start(there, sizes, PROCESSES, bytes, STATE_BYTES) };
     assert_eq!(answer, 0);
     state
 }
 
-fn side(name: &str) -> Option<Box<dyn Side>> {
+fn side(name: &str, start: Start) -> Option<Box<dyn Side>> {
+    let bytes = || Gate::new(fresh_bytes(start));
     Some(match name {
-        "library" => Box::new(Library(Gate::new(fresh_bytes()))),
-        "bytes" => Box::new(Bytes(Gate::new(fresh_bytes()))),
-        "typed" => Box::new(Typed(Gate::new(model::fresh_start(THERE, &SIZES).unwrap()))),
-        "empty" => Box::new(Empty(Gate::new(fresh_bytes()))),
+        "library" => Box::new(Library(bytes())),
+        "bytes" => Box::new(Bytes(bytes())),
+        "typed" => {
+            let state = model::fresh_start(start.there, &start.sizes);
+            Box::new(Typed(Gate::new(state.expect("the library has started with these"))))
+        }
+        "empty" => Box::new(Empty(bytes())),
         _ => return None,
     })
 }
@@ -304,7 +227,7 @@ fn side(name: &str) -> Option<Box<dyn Side>> {
 
 /// Whether the three sides answer alike, and as expected.
 fn check(row: &Row, turns: usize) -> bool {
-    let mut sides = ["library", "typed", "bytes"].map(|name| side(name).unwrap());
+    let mut sides = ["library", "typed", "bytes"].map(|name| side(name, row.start).unwrap());
     for side in &mut sides {
         side.start(row);
         if side.turns(row, turns) != row.answers * turns as i64 {
@@ -348,7 +271,7 @@ fn depth(work: &mut dyn FnMut()) -> usize {
 /// The deepest stack of a row's calls, without that of the harness.
 fn stack(name: &str, row: &Row) -> Option<usize> {
     let measure = |name: &str| {
-        let mut side = side(name)?;
+        let mut side = side(name, row.start)?;
         side.start(row);
         Some(depth(&mut || {
             side.turns(row, 2);
@@ -365,7 +288,8 @@ fn obey(words: &[&str]) -> Option<bool> {
         ["check", row, turns] => return Some(check(find(row)?, turns.parse().ok()?)),
         ["stack", side, row] => println!("{}", stack(side, find(row)?)?),
         [name, row, turns] => {
-            let (mut side, row) = (side(name)?, find(row)?);
+            let row = find(row)?;
+            let mut side = side(name, row.start)?;
             side.start(row);
             black_box(side.turns(row, turns.parse().ok()?));
         }

@@ -2,6 +2,7 @@
 
 use crate::random::Random;
 use crate::sides::Call;
+use crate::sizes::size_to_create;
 use model::*;
 
 /// Hosts that meet at the same processes.
@@ -30,7 +31,7 @@ pub struct Mood {
     reports: usize,
 }
 
-pub const MOODS: [Mood; 4] = [
+pub const MOODS: [Mood; 5] = [
     // a little of everything
     Mood { weights: [1, 6, 2, 2, 4, 3, 4, 2, 5, 2, 3, 3, 2, 2], reports: 4 },
     // all eight breakpoints of a process
@@ -39,6 +40,8 @@ pub const MOODS: [Mood; 4] = [
     Mood { weights: [1, 2, 1, 1, 1, 1, 1, 1, 1, 1, 1, 1, 5, 2], reports: 2 },
     // running, stepping, proceeding
     Mood { weights: [1, 6, 1, 4, 3, 9, 3, 2, 8, 2, 9, 9, 2, 2], reports: 8 },
+    // processes come and go, with breakpoints
+    Mood { weights: [1, 5, 1, 1, 2, 3, 2, 1, 9, 1, 2, 3, 14, 9], reports: 3 },
 ];
 
 pub fn make_call(random: &mut Random, state: &State, mood: &Mood) -> Call {
@@ -77,14 +80,14 @@ fn process_for(random: &mut Random, state: &State, cmd: u8) -> u8 {
     if state.processes.iter().any(has_lifted) && random.one_in(2) {
         return some_process(random, state, has_lifted);
     }
-    let narrow = !random.one_in(4);
+    let (narrow, any_destroyed) = (!random.one_in(4), random.one_in(2));
     some_process(random, state, |p| {
         let fits = match cmd {
             DEBUG => return p.there && (p.host == NOBODY || !narrow),
             STOP => p.run.goes(),
             RESUME | SINGLE_STEP => p.run.waits(),
             PROCEED_BPT => p.run == Run::AtBreakpoint,
-            DESTROY_PROCESS => p.run == Run::Ended,
+            DESTROY_PROCESS => any_destroyed || p.run == Run::Ended,
             BREAK | UNBREAK | EXAMINE | DEPOSIT => p.breakpoints.iter().any(|b| b.used),
             _ => true,
         };
@@ -101,7 +104,10 @@ pub fn make_request(random: &mut Random, state: &State, mood: &Mood) -> Vec<u8> 
     };
     let process = &state.processes[usize::from(pid) % PROCESSES];
     let host = some_host(random, process.host);
-    let (arg1, arg2, string) = make_arguments(random, process, cmd);
+    let (arg1, arg2, string) = match cmd {
+        CREATE_PROCESS => (size_to_create(random, state), 0, Vec::new()),
+        _ => make_arguments(random, process, cmd),
+    };
     let mut message = vec![0, host, 255, 0, cmd, pid];
     message.extend_from_slice(&arg1.to_be_bytes());
     message.extend_from_slice(&arg2.to_be_bytes());
@@ -159,11 +165,14 @@ fn some_range(random: &mut Random, process: &Process) -> (u16, u16) {
     // all of a process of a few bytes is near its end
     if process.size <= 8 && random.one_in(2) {
         let past = usize::from(process.size) + 2;
+        if random.one_in(4) {
+            return (0, process.size);
+        }
         return (random.below(past) as u16, random.below(past) as u16);
     }
     match random.below(20) {
         0 => return random.pick(&RANGES),
-        1..=4 => {
+        1..=6 => {
             let (before, count) = random.pick(&LAST_RANGES);
             return (some_end(random, process).wrapping_sub(before), count);
         }
@@ -173,7 +182,7 @@ fn some_range(random: &mut Random, process: &Process) -> (u16, u16) {
     (some_first(random, process, count), count)
 }
 
-/// The end of the process's memory; at times of its slot, and of the feed process.
+/// The end of the process's memory; at times of the largest, and of the feed process.
 fn some_end(random: &mut Random, process: &Process) -> u16 {
     match random.below(8) {
         0 => LARGEST,
@@ -275,7 +284,7 @@ fn some_address(random: &mut Random, process: &Process) -> u16 {
             let address = used_address(random, process);
             address.wrapping_add(random.pick(&[0, 0, 0, 1, 1, 2, u16::MAX]))
         }
-        5 => random.below(SPACE) as u16,
+        5 => random.below(LARGEST.into()) as u16,
         _ => random.below(48) as u16,
     }
 }
@@ -287,8 +296,9 @@ pub fn breakpoint_address(random: &mut Random, process: &Process) -> u16 {
         0 => used_address(random, process),
         1 => some_edge(random, process),
         2 => random.free_word(),
-        3 if random.one_in(2) => 2 * random.below(SPACE / 2) as u16,
+        3 if random.one_in(2) => 2 * random.below(usize::from(LARGEST) / 2) as u16,
         3 => 2 * random.below(usize::from(process.size) / 2 + 2) as u16,
+        4 if random.one_in(2) => process.size.wrapping_sub(2),
         _ => 2 * random.below(24) as u16,
     }
 }

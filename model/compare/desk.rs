@@ -3,6 +3,7 @@
 use crate::calls::spoil_message;
 use crate::random::Random;
 use crate::sides::Call;
+use crate::sizes::{size_to_create, wrong_size};
 use model::*;
 
 /// A desk's call: a request is written, or an answer read. `request` is some
@@ -76,7 +77,12 @@ fn make_answer(random: &mut Random) -> Vec<u8> {
     let host = random.free_byte().max(1);
     let [pid, arg1, arg2] = used(cmd);
     let pid = if pid { random.free_byte() } else { 0 };
-    let arg1 = if arg1 { random.free_word() } else { 0 };
+    let arg1 = match cmd & 127 {
+        CREATE_PROCESS if random.one_in(4) => wrong_size(random),
+        CREATE_PROCESS => size_to_create(random, &NONE_THERE),
+        _ if arg1 => random.free_word(),
+        _ => 0,
+    };
     let mut arg2 = if arg2 { random.free_word() } else { 0 };
     let string = match cmd {
         64..=67 => VECTOR,
@@ -101,7 +107,7 @@ fn used(cmd: u8) -> [bool; 3] {
         4 | 6 | 7 | 8 => [true, true, true],
         9 => [true, true, false],
         0 => [false, false, false],
-        12 => [cmd == 12, false, false],
+        12 => [cmd == 12, true, false],
         _ => [true, false, false],
     }
 }

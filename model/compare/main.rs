@@ -11,18 +11,23 @@
 //!
 //! The library is given to the linker (`-L DIR -l static=palustrode`); with the
 //! feature `standin` the model itself takes its place, and with the word `wrong` in
-//! place of `each` there is a comparison for each wrong library of `wrong.rs` and
-//! `wrong_sizes.rs`: the program ends with 0 if each of them was seen. If the library
+//! place of `each` there is a comparison for each wrong library of `wrong.rs` and of
+//! the files beside it: the program ends with 0 if each of them was seen. If the library
 //! was built by another compiler, or has a panic handler of its own, the linker needs
 //! `-C link-arg=-Wl,--allow-multiple-definition` besides.
 
+mod about;
 mod calls;
+mod damage;
 mod desk;
+mod layout;
 mod library;
 mod passages;
+mod passages_layout;
 mod random;
 mod run;
 mod sides;
+mod sizes;
 mod stack;
 #[cfg(feature = "standin")]
 mod standin;
@@ -30,8 +35,13 @@ mod states;
 mod sweeps;
 mod table;
 mod values;
+mod values_layout;
 #[cfg(feature = "standin")]
 mod wrong;
+#[cfg(feature = "standin")]
+mod wrong_create;
+#[cfg(feature = "standin")]
+mod wrong_layout;
 #[cfg(feature = "standin")]
 mod wrong_sizes;
 

@@ -1,12 +1,14 @@
 //! Rare ways through the rules and the edges of their ranges, and how often a
 //! call took each of them.
 
+use crate::about::{has_bytes, old, About};
+use crate::passages_layout::LAYOUT_PASSAGES;
 use crate::sides::Call;
 use model::*;
 
 /// A way through the rules: a call takes it if the test holds before the call
 /// and the answer is the one named, 0 for granted or the refusal's number.
-struct Passage {
+pub struct Passage {
     name: &'static str,
     by: i64,
     /// Whether calls from a fresh start can take it, or damaged states alone.
@@ -14,15 +16,15 @@ struct Passage {
     test: fn(&About) -> bool,
 }
 
-const fn granted(name: &'static str, test: fn(&About) -> bool) -> Passage {
+pub const fn granted(name: &'static str, test: fn(&About) -> bool) -> Passage {
     Passage { name, by: 0, damaged_alone: false, test }
 }
 
-const fn refused(by: i64, name: &'static str, test: fn(&About) -> bool) -> Passage {
+pub const fn refused(by: i64, name: &'static str, test: fn(&About) -> bool) -> Passage {
     Passage { name, by, damaged_alone: false, test }
 }
 
-const fn damaged(name: &'static str, test: fn(&About) -> bool) -> Passage {
+pub const fn damaged(name: &'static str, test: fn(&About) -> bool) -> Passage {
     Passage { name, by: 0, damaged_alone: true, test }
 }
 
@@ -57,7 +59,7 @@ const PASSAGES: &[Passage] = &[
     granted("EXAMINE of 0 at the size", |a| a.small_asks(EXAMINE, 0) && a.count == 0),
     refused(OUTSIDE, "EXAMINE of 0 after the size", |a| a.small_asks(EXAMINE, 1) && a.count == 0),
     refused(OUTSIDE, "EXAMINE past the size, inside 4,096", |a| {
-        a.small(EXAMINE) && a.first >= a.size() && a.end() <= SPACE
+        a.small(EXAMINE) && a.first >= a.size() && a.end() <= 4096
     }),
     granted("EXAMINE of 256 in a smaller process", |a| a.small(EXAMINE) && a.count == 256),
     granted("EXAMINE at 1532 of 4, of 1,536", |a| a.feed() && a.asks(EXAMINE, 1532, 4)),
@@ -67,13 +69,13 @@ const PASSAGES: &[Passage] = &[
     granted("DEPOSIT of 0 at the size", |a| a.small_asks(DEPOSIT, 0) && a.count == 0),
     refused(OUTSIDE, "DEPOSIT of 0 after the size", |a| a.small_asks(DEPOSIT, 1) && a.count == 0),
     refused(OUTSIDE, "DEPOSIT past the size, inside 4,096", |a| {
-        a.small(DEPOSIT) && a.first >= a.size() && a.end() <= SPACE
+        a.small(DEPOSIT) && a.first >= a.size() && a.end() <= 4096
     }),
     granted("BREAK at size - 2", |a| a.small(BREAK) && a.first + 2 == a.size()),
     refused(OUTSIDE, "BREAK at size - 1", |a| a.small(BREAK) && a.first + 1 == a.size()),
     refused(OUTSIDE, "BREAK at the size", |a| a.small(BREAK) && a.first == a.size()),
     refused(OUTSIDE, "BREAK past the size, inside 4,096", |a| {
-        a.small(BREAK) && a.first > a.size() && a.first < SPACE && a.first % 2 == 0
+        a.small(BREAK) && a.first > a.size() && a.first < 4096 && a.first % 2 == 0
     }),
     refused(OUTSIDE, "BREAK past the size with eight set", |a| {
         a.small(BREAK) && a.first >= a.size() && a.used() == 8
@@ -81,7 +83,7 @@ const PASSAGES: &[Passage] = &[
     refused(NO_BREAKPOINT, "UNBREAK at the size", |a| a.small(UNBREAK) && a.first == a.size()),
     refused(NO_RIGHT, "stranger past the size", |a| a.small(EXAMINE) && a.end() > a.size()),
     granted("BPT with PC past the size", |a| {
-        a.bpt() && usize::from(a.pc) >= a.size() && usize::from(a.pc) < SPACE
+        a.bpt() && usize::from(a.pc) >= a.size() && a.pc < 4096
     }),
     granted("BPT passed at size - 2", |a| a.passes() && usize::from(a.pc) + 2 == a.size()),
     granted("EXAMINE of a whole process of 2 bytes", |a| {
@@ -157,7 +159,7 @@ const PASSAGES: &[Passage] = &[
             && a.created().is_some_and(|p| a.state.processes[p..].iter().any(|q| q.there))
     }),
     granted("CREATE where memory is not zero", |a| {
-        a.is(CREATE_PROCESS) && a.created().is_some_and(|p| a.space(p).iter().any(|&b| b != 0))
+        a.is(CREATE_PROCESS) && a.new_place().iter().any(|&b| b != 0)
     }),
     damaged("CREATE over a record with a vector", |a| {
         a.is(CREATE_PROCESS)
@@ -171,176 +173,19 @@ const PASSAGES: &[Passage] = &[
     }),
 ];
 
-/// What a call is about: the process, PC as the call finds or brings it, and the
-/// range from ARG1 of ARG2 bytes. `cmd` is that of a request that passes tests
-/// 3, 4 and 5.
-struct About<'a> {
-    state: &'a State,
-    memory: &'a [u8],
-    length: usize,
-    cmd: Option<u8>,
-    kind: Option<u8>,
-    p: usize,
-    process: &'a Process,
-    pc: u16,
-    first: usize,
-    count: usize,
-}
-
-/// The op code of a message that passes tests 3, 4 and 5.
-fn cmd_of(m: &[u8]) -> Option<u8> {
-    let right = (HEAD..=LONGEST).contains(&m.len())
-        && [m[0], m[2], m[3]] == [0, 255, 0]
-        && m[1] != NOBODY
-        && m[4] <= DESTROY_PROCESS;
-    right.then(|| m[4])
-}
-
-impl<'a> About<'a> {
-    fn new(state: &'a State, memory: &'a [u8], call: &Call) -> About<'a> {
-        match call {
-            Call::Report { process, kind, words, .. } => {
-                let about = About::process(state, memory, (*process).min(255) as u8);
-                let pc = u16::from_le_bytes([words[2 * PC], words[2 * PC + 1]]);
-                About { kind: Some((*kind).min(255) as u8), pc, ..about }
-            }
-            Call::Request { message: m } => {
-                let cmd = cmd_of(m);
-                let byte = |at: usize| if cmd.is_some() { m[at] } else { 0 };
-                let word = |at: usize| usize::from(byte(at)) << 8 | usize::from(byte(at + 1));
-                let about = About::process(state, memory, byte(5));
-                About { length: m.len(), cmd, first: word(6), count: word(8), ..about }
-            }
-            _ => About::process(state, memory, 0),
-        }
-    }
-
-    fn process(state: &'a State, memory: &'a [u8], p: u8) -> About<'a> {
-        let p = usize::from(p) % PROCESSES;
-        let process = &state.processes[p];
-        let (cmd, kind, pc) = (None, None, process.vector[PC]);
-        About { state, memory, length: 0, cmd, kind, p, process, pc, first: 0, count: 0 }
-    }
-
-    fn is(&self, cmd: u8) -> bool {
-        self.cmd == Some(cmd)
-    }
-
-    fn asks(&self, cmd: u8, first: usize, count: usize) -> bool {
-        self.is(cmd) && self.first == first && self.count == count
-    }
-
-    fn end(&self) -> usize {
-        self.first + self.count
-    }
-
-    fn size(&self) -> usize {
-        self.process.size.into()
-    }
-
-    /// Whether this is asked of a process of fewer than 4,096 bytes.
-    fn small(&self, cmd: u8) -> bool {
-        self.is(cmd) && self.size() < SPACE
-    }
-
-    /// Whether the range asked of such a process ends so far past its size.
-    fn small_asks(&self, cmd: u8, past: usize) -> bool {
-        self.small(cmd) && self.end() == self.size() + past
-    }
-
-    fn feed(&self) -> bool {
-        self.size() == 1536
-    }
-
-    fn some(&self, test: impl Fn(&Breakpoint) -> bool) -> bool {
-        self.process.breakpoints.iter().any(|b| b.used && test(b))
-    }
-
-    fn used(&self) -> usize {
-        self.process.breakpoints.iter().filter(|b| b.used).count()
-    }
-
-    fn lifted(&self) -> bool {
-        self.some(|b| b.lifted)
-    }
-
-    fn at_pc(&self) -> bool {
-        self.some(|b| b.address == self.pc)
-    }
-
-    fn lifted_at_pc(&self) -> bool {
-        self.some(|b| b.lifted && b.address == self.pc)
-    }
-
-    fn bpt(&self) -> bool {
-        self.kind == Some(BPT)
-    }
-
-    /// Whether a BPT report is passed in silence.
-    fn passes(&self) -> bool {
-        self.bpt() && self.some(|b| b.address == self.pc && b.remaining > 0)
-    }
-
-    /// Whether there is such a breakpoint at ARG1.
-    fn here(&self, test: impl Fn(&Breakpoint) -> bool) -> bool {
-        self.some(|b| usize::from(b.address) == self.first && test(b))
-    }
-
-    fn known(&self) -> bool {
-        self.here(|_| true)
-    }
-
-    /// Whether so many bytes of such a breakpoint's word lie in the range.
-    fn over(&self, bytes: usize, test: impl Fn(&Breakpoint) -> bool) -> bool {
-        let inside = |b: &Breakpoint| {
-            let word = usize::from(b.address)..usize::from(b.address) + 2;
-            word.filter(|at| (self.first..self.end()).contains(at)).count()
-        };
-        self.some(|b| inside(b) == bytes && test(b))
-    }
-
-    /// Whether the machine has stored into a planted word.
-    fn written_over(&self, b: &Breakpoint) -> bool {
-        let at = usize::from(b.address);
-        b.planted() && self.space(self.p)[at..at + 2] != BPT_WORD
-    }
-
-    fn space(&self, p: usize) -> &[u8] {
-        &self.memory[SPACE * p..SPACE * (p + 1)]
-    }
-
-    /// Whether a free entry stands before one in use.
-    fn gap(&self) -> bool {
-        self.process.breakpoints.windows(2).any(|pair| !pair[0].used && pair[1].used)
-    }
-
-    fn lowest_free(&self) -> Option<&Breakpoint> {
-        self.process.breakpoints.iter().find(|b| !b.used)
-    }
-
-    /// The number that CREATE gives.
-    fn created(&self) -> Option<usize> {
-        self.state.processes.iter().position(|process| !process.there)
-    }
-}
-
-fn has_bytes(b: &Breakpoint) -> bool {
-    b.lifted || b.address != 0 || b.remaining != 0 || b.saved != [0, 0]
-}
-
-/// Whether a free entry of the process is not all zero.
-fn old(process: &Process) -> bool {
-    process.breakpoints.iter().any(|b| !b.used && has_bytes(b))
-}
-
 // ---------------------------------------------------------------- counting
+
+/// Every passage, in the order in which they are counted.
+fn every() -> impl Iterator<Item = &'static Passage> {
+    PASSAGES.iter().chain(LAYOUT_PASSAGES)
+}
 
 /// The passages whose test holds before a call.
 pub struct Open(Vec<bool>);
 
 pub fn open(state: &State, memory: &[u8], call: &Call) -> Open {
     let about = About::new(state, memory, call);
-    Open(PASSAGES.iter().map(|passage| (passage.test)(&about)).collect())
+    Open(every().map(|passage| (passage.test)(&about)).collect())
 }
 
 /// How often each passage was taken.
@@ -348,13 +193,13 @@ pub struct Passages(Vec<u64>);
 
 impl Passages {
     pub fn new() -> Passages {
-        Passages(vec![0; PASSAGES.len()])
+        Passages(vec![0; every().count()])
     }
 
     pub fn count(&mut self, open: &Open, answer: i64) {
         let by = answer.min(0).abs();
-        for (i, n) in self.0.iter_mut().enumerate() {
-            *n += u64::from(open.0[i] && PASSAGES[i].by == by);
+        for ((n, passage), open) in self.0.iter_mut().zip(every()).zip(&open.0) {
+            *n += u64::from(*open && passage.by == by);
         }
     }
 }
@@ -362,7 +207,7 @@ impl Passages {
 /// Prints how often each was taken on states that a fresh start leads to, and
 /// on damaged ones.
 pub fn print(fresh: &Passages, damaged: &Passages) {
-    for (i, passage) in PASSAGES.iter().enumerate() {
+    for (i, passage) in every().enumerate() {
         let by = match passage.by {
             0 => String::new(),
             number => format!(", refused by {number}"),
@@ -377,6 +222,8 @@ pub fn print(fresh: &Passages, damaged: &Passages) {
 
 /// The passages never taken that can be.
 pub fn wrong(fresh: &Passages, damaged: &Passages) -> Vec<String> {
-    let missed = |i: usize| fresh.0[i] == 0 && !PASSAGES[i].damaged_alone || damaged.0[i] == 0;
-    (0..PASSAGES.len()).filter(|&i| missed(i)).map(|i| PASSAGES[i].name.to_string()).collect()
+    let met =
+        |i: usize, passage: &Passage| (fresh.0[i] > 0 || passage.damaged_alone) && damaged.0[i] > 0;
+    let missed = every().enumerate().filter(|(i, passage)| !met(*i, passage));
+    missed.map(|(_, passage)| passage.name.to_string()).collect()
 }

@@ -9,11 +9,13 @@
 //! apart.
 
 use crate::calls::{make_call, make_request, some_output, used_address, Mood, MOODS};
+use crate::damage::{damage_state, STATE_LENGTHS};
 use crate::desk::make_desk_call;
 use crate::passages::{self, open, Open, Passages};
 use crate::random::Random;
 use crate::sides::{describe, is_sound, Call, Lent, Pair, Side, GUARD};
-use crate::states::{damage_state, some_size, some_sound_state, wrong_size, STATE_LENGTHS};
+use crate::sizes::{shared, sizes_with_room, wrong_size};
+use crate::states::some_sound_state;
 use crate::sweeps::Sweep;
 use crate::table::{DeskTable, Table};
 use crate::values::Values;
@@ -25,13 +27,13 @@ struct Met {
     passages: Passages,
     /// Stores by the machine into a planted word.
     stores: u64,
-    /// Those into a slot, past the size of its process.
-    stores_past: u64,
+    /// Those into the first or the last byte of a process.
+    stores_at_edge: u64,
 }
 
 impl Met {
     fn new(damaged: bool) -> Met {
-        Met { table: Table::new(damaged), passages: Passages::new(), stores: 0, stores_past: 0 }
+        Met { table: Table::new(damaged), passages: Passages::new(), stores: 0, stores_at_edge: 0 }
     }
 }
 
@@ -129,12 +131,13 @@ impl Comparison {
     /// there, and often wrong ones of the others.
     fn sizes(&mut self, there: u8) -> Vec<u16> {
         let random = &mut self.random;
-        (0..PROCESSES)
-            .map(|p| match there >> p & 1 {
-                0 if random.one_in(2) => wrong_size(random),
-                _ => some_size(random),
-            })
-            .collect()
+        let mut sizes = sizes_with_room(random, there).to_vec();
+        for (p, size) in sizes.iter_mut().enumerate() {
+            if there >> p & 1 == 0 && random.one_in(2) {
+                *size = wrong_size(random);
+            }
+        }
+        sizes
     }
 
     /// Fresh starts like this one, each with an error or two.
@@ -142,17 +145,28 @@ impl Comparison {
         while self.random.one_in(2) {
             let (mut there, mut sizes, mut length) = (there.into(), sizes.to_vec(), STATE_BYTES);
             for _ in 0..=self.random.below(2) {
-                match self.random.below(6) {
+                match self.random.below(8) {
                     0 => length = self.random.length(&STATE_LENGTHS, 2000),
                     1 => sizes.resize(self.random.length(&[0, 1, 7, 9, 16], 40), 4096),
                     2 => there = self.random.beyond(8, there),
                     3 => there = self.random.free(64),
+                    4 | 5 => {
+                        there |= 0x1f;
+                        sizes = self.too_many_bytes(there);
+                    }
                     _ => self.spoil_size(there, &mut sizes),
                 }
             }
             self.fresh_start(there, &sizes, length)?;
         }
         Ok(())
+    }
+
+    /// Right sizes of five processes and more that together are more than the memory,
+    /// often by two bytes.
+    fn too_many_bytes(&mut self, there: u64) -> Vec<u16> {
+        let total = MEMORY + self.random.pick(&[2, 2, 4, 256, 4096]);
+        shared(total, there as u8, &[LARGEST; PROCESSES]).to_vec()
     }
 
     /// Makes the size of a process wrong, of one that is there if any is.
@@ -198,21 +212,28 @@ impl Comparison {
         }
     }
 
-    /// One store, often into a word under a breakpoint.
+    /// One store, often into a word under a breakpoint. K9: "the machine stores only
+    /// within a process's own bytes"
     fn store(&mut self) {
-        let p = self.random.below(PROCESSES);
-        let process = self.state().processes[p];
-        let a = match self.random.below(3) {
-            0 => self.random.below(SPACE),
-            1 => self.random.below(48),
-            _ => usize::from(used_address(&mut self.random, &process)) + self.random.below(2),
+        let state = self.state();
+        let there: Vec<&Process> = state.processes.iter().filter(|p| p.there).collect();
+        if there.is_empty() {
+            return;
+        }
+        let process = self.random.pick(&there);
+        let last = usize::from(process.size) - 1;
+        let a = match self.random.below(8) {
+            0 | 1 => self.random.below(last + 1),
+            2 | 3 => self.random.below(48).min(last),
+            4 => self.random.pick(&[0, last]),
+            _ => usize::from(used_address(&mut self.random, process)) + self.random.below(2),
         };
-        let byte = self.random.byte();
-        self.pair.change(|side| side.memory.change()[SPACE * p + a] = byte);
+        let (a, byte) = (a.min(last), self.random.byte());
+        self.pair.change(|side| side.memory.change()[process.place()][a] = byte);
         let planted = |b: &Breakpoint| b.planted() && usize::from(b.address) == a & !1;
         let met = self.met();
         met.stores += u64::from(process.breakpoints.iter().any(planted));
-        met.stores_past += u64::from(process.there && a >= usize::from(process.size));
+        met.stores_at_edge += u64::from(a == 0 || a == last);
     }
 
     fn call(&mut self, mood: &Mood) -> Result<(), String> {
@@ -299,7 +320,7 @@ impl Comparison {
         let random = &mut self.random;
         match (random.below(3), call) {
             (0, _) => {
-                let length = random.length(&[0, 1, 4096, 32767, 32769, 65536], 100_000);
+                let length = random.length(&[0, 1, 16_383, 16_385, 32_768, 65_536], 100_000);
                 self.pair.change(|side| side.memory = side.memory.resized(length));
             }
             (1, Call::Report { words, .. }) => {
@@ -349,16 +370,16 @@ impl Comparison {
         println!("\n   fresh  damaged");
         passages::print(&fresh.passages, &damaged.passages);
         println!("{:>8} {:>8}  store into a planted word", fresh.stores, damaged.stores);
-        let past = [fresh.stores_past, damaged.stores_past];
-        println!("{:>8} {:>8}  store past the size of a process", past[0], past[1]);
+        let edge = [fresh.stores_at_edge, damaged.stores_at_edge];
+        println!("{:>8} {:>8}  store into the first or last byte of a process", edge[0], edge[1]);
         self.desk.print();
         self.values.print();
         let mut wrong = passages::wrong(&fresh.passages, &damaged.passages);
         if fresh.stores == 0 || damaged.stores == 0 {
             wrong.push("store into a planted word".to_string());
         }
-        if past.contains(&0) {
-            wrong.push("store past the size of a process".to_string());
+        if edge.contains(&0) {
+            wrong.push("store into the first or last byte of a process".to_string());
         }
         [fresh.table.wrong(), damaged.table.wrong(), self.desk.wrong(), self.values.wrong(), wrong]
             .concat()

@@ -1,6 +1,7 @@
 //! A call made by the model and by the library, each on buffers of its own, and
 //! the comparison of all that they leave. The fuzzer uses this too.
 
+use crate::layout::{accepted_fault, broken_layout};
 use crate::library::*;
 use crate::stack::on_painted;
 use model::*;
@@ -206,12 +207,15 @@ impl Pair {
 
     fn difference(&self, [a, b]: [i64; 2]) -> Option<String> {
         let (model, library) = (&self.model, &self.library);
-        let byte = first_difference("state", &model.state, &library.state)
-            .or_else(|| first_difference("memory", &model.memory, &library.memory))
+        let place = |at: usize| at.to_string();
+        let owner = |at: usize| owner(model.state.bytes(), at);
+        let byte = first_difference("state", in_state, &model.state, &library.state)
+            .or_else(|| first_difference("memory", owner, &model.memory, &library.memory))
             .or_else(|| {
-                first_difference("message, words, string or sizes", &model.input, &library.input)
+                let name = "message, words, string or sizes";
+                first_difference(name, place, &model.input, &library.input)
             })
-            .or_else(|| first_difference("output", &model.output, &library.output));
+            .or_else(|| first_difference("output", place, &model.output, &library.output));
         if a == b && byte.is_none() {
             return None;
         }
@@ -220,7 +224,32 @@ impl Pair {
     }
 }
 
-fn first_difference(name: &str, model: &Lent, library: &Lent) -> Option<String> {
+/// The name of a byte of a state.
+fn in_state(at: usize) -> String {
+    match at.checked_sub(BEGINS_AT) {
+        None => format!("{at} (process {}, byte {})", at / RECORD_BYTES, at % RECORD_BYTES),
+        Some(begin) => format!("{at} (begin of process {})", begin / 2),
+    }
+}
+
+/// The name of a byte of memory, by the process that has it.
+fn owner(state: &[u8], at: usize) -> String {
+    let records = decode(state).unwrap_or(NONE_THERE);
+    let has = |process: &Process| process.there && process.place().contains(&at);
+    match records.processes.iter().position(has) {
+        None => format!("{at} (free)"),
+        Some(p) => {
+            format!("{at} (process {p}, byte {})", at - records.processes[p].place().start)
+        }
+    }
+}
+
+fn first_difference(
+    name: &str,
+    place: impl Fn(usize) -> String,
+    model: &Lent,
+    library: &Lent,
+) -> Option<String> {
     if model == library {
         return None;
     }
@@ -231,13 +260,7 @@ fn first_difference(name: &str, model: &Lent, library: &Lent) -> Option<String> 
         Some(at) if at >= model.bytes().len() => {
             format!("{} behind the buffer", at + 1 - model.bytes().len())
         }
-        Some(at) if name == "state" => {
-            format!("{at} (process {}, byte {})", at / RECORD_BYTES, at % RECORD_BYTES)
-        }
-        Some(at) if name == "memory" => {
-            format!("{at} (process {}, byte {})", at / SPACE, at % SPACE)
-        }
-        Some(at) => at.to_string(),
+        Some(at) => place(at),
     };
     Some(format!("{name}, {place}: model {}, library {}", model.all()[i], library.all()[i]))
 }
@@ -262,7 +285,13 @@ fn broken_rule(call: &Call, answer: i64, before: &Side, after: &Side) -> Option<
     if !refused && on_state && !is_sound(after.state.bytes()) {
         return Some("both: the state is not sound after a granted call");
     }
-    None
+    if accepted_fault(call, answer, before) {
+        return Some("both: a layout that is not sound is accepted");
+    }
+    if refused {
+        return None;
+    }
+    broken_layout(call, before, after)
 }
 
 /// Whether bytes are those of a sound state.

@@ -17,9 +17,10 @@ pub struct Sweep<'a> {
 const OWNER: u8 = 77;
 const P: u8 = 2;
 
-/// The feed process, and the sizes of all: those of 4 to 7 are at the edges.
+/// The feed process, and the sizes of all: those of 4 to 7 are at the edges. With all
+/// but the last there, 4,586 bytes are free.
 const FEED: u8 = 3;
-const SIZES: [u16; PROCESSES] = [4096, 4096, 4096, 1536, 2, 4, 4094, 4096];
+const SIZES: [u16; PROCESSES] = [18, 2048, 4096, 1536, 2, 4, 4094, 4096];
 
 fn message(host: u8, cmd: u8, pid: u8, arg1: u16, arg2: u16, string: usize) -> Vec<u8> {
     let [a, b] = arg1.to_be_bytes();
@@ -65,6 +66,8 @@ impl Sweep<'_> {
         sweep.base = sweep.pair.clone();
         sweep.requests()?;
         sweep.sizes()?;
+        sweep.creates()?;
+        sweep.begins()?;
         sweep.hosts()?;
         sweep.reports()?;
         sweep.lengths()?;
@@ -127,7 +130,9 @@ impl Sweep<'_> {
             sizes[usize::from(P)] = n;
             self.apart(start(1 << P, &sizes))?;
             self.apart(start(1 << FEED, &sizes))?;
-            for p in [P, FEED, 7] {
+            // with 12,290 bytes of others: 4,094 are left
+            self.apart(start(0x1f, &[4096, 4096, n, 4096, 2, 2, 2, 2]))?;
+            for p in [P, FEED, 6, 7] {
                 let at = RECORD_BYTES * usize::from(p) + SIZE_AT;
                 self.pair.change(|side| {
                     side.state.change()[at..at + 2].copy_from_slice(&n.to_le_bytes())
@@ -139,6 +144,63 @@ impl Sweep<'_> {
             self.apart(start(0x7f, &vec![2; count]))?;
         }
         Ok(())
+    }
+
+    /// Each size of a CREATE: with bytes for all, with few of them, and with no number
+    /// free; with each number of free bytes of a kind; and each size of a DESTROY.
+    fn creates(&mut self) -> Result<(), String> {
+        let create =
+            |size: u16| Call::Request { message: message(OWNER, CREATE_PROCESS, 0, size, 0, 0) };
+        for n in 0..=u16::MAX {
+            self.apart(create(n))?;
+        }
+        for (there, sizes) in [(0x0f, [4096, 4096, 4096, 2600, 2, 2, 2, 2]), (0xff, [2; 8])] {
+            self.make(&start(there, &sizes))?;
+            let base = std::mem::replace(&mut self.base, self.pair.clone());
+            for n in 0..=u16::MAX {
+                self.apart(create(n))?;
+            }
+            self.base = base;
+            self.back();
+        }
+        for size in (2..=LARGEST).step_by(2) {
+            self.make(&start(0x0f, &[4096, 4096, 2048, size, 2, 2, 2, 2]))?;
+            // its free bytes at most, two more, and then none is free
+            for asked in [6144 - size, 6146 - size, 2] {
+                self.make(&create(asked.min(LARGEST)))?;
+            }
+            self.back();
+            self.make(&start(0x0c, &[2, 2, size, 4096, 2, 2, 2, 2]))?;
+            for call in [to(DEBUG, 0, 0, 0), to(DESTROY_PROCESS, 0, 0, 0)] {
+                self.make(&call)?;
+            }
+            self.back();
+        }
+        Ok(())
+    }
+
+    /// Each begin of each process that is there, before a call that looks; and of the
+    /// absent one, before that, a DESTROY, which leaves it, and a CREATE.
+    fn begins(&mut self) -> Result<(), String> {
+        for n in 0..=u16::MAX {
+            for p in 0..7 {
+                self.put_begin(p, n);
+                self.apart(to(EXAMINE, 0, 2, 0))?;
+            }
+            self.put_begin(7, n);
+            self.apart(to(DESTROY_PROCESS, 0, 0, 0))?;
+            self.put_begin(7, n);
+            self.make(&to(EXAMINE, 0, 2, 0))?;
+            let message = message(OWNER, CREATE_PROCESS, 0, 2, 0, 0);
+            self.apart(Call::Request { message })?;
+        }
+        Ok(())
+    }
+
+    fn put_begin(&mut self, p: u8, begin: u16) {
+        let at = BEGINS_AT + 2 * usize::from(p);
+        self.pair
+            .change(|side| side.state.change()[at..at + 2].copy_from_slice(&begin.to_le_bytes()));
     }
 
     /// Each host debugs process 0, looks at it, is told that it trapped, and ends.
@@ -174,7 +236,7 @@ impl Sweep<'_> {
 
     /// Each length of each buffer.
     fn lengths(&mut self) -> Result<(), String> {
-        for length in 0..=MEMORY + 16_384 {
+        for length in 0..=MEMORY + 32_768 {
             self.pair.change(|side| side.memory = side.memory.resized(length));
             self.make(&to(EXAMINE, 0, 4, 0))?;
             self.back();
@@ -204,6 +266,8 @@ impl Sweep<'_> {
     fn starts(&mut self) -> Result<(), String> {
         for there in (0..1024).chain((8..64).map(|bit| 4 | 1 << bit)) {
             self.apart(start(there, &SIZES))?;
+            self.apart(start(there, &[LARGEST; PROCESSES]))?;
+            self.apart(start(there, &[2048; PROCESSES]))?;
         }
         Ok(())
     }
@@ -235,6 +299,7 @@ impl Sweep<'_> {
         for n in 0..=u64::from(u16::MAX) {
             self.make(&write([5, EXAMINE.into(), 2, n, 2], 0))?;
             self.make(&write([5, EXAMINE.into(), 2, 2, n], 0))?;
+            self.make(&write([5, CREATE_PROCESS.into(), 0, n, 0], 0))?;
         }
         Ok(())
     }
@@ -267,6 +332,8 @@ impl Sweep<'_> {
         for n in 0..=u16::MAX {
             self.make(&Call::Read { message: message(5, EXAMINE, 2, n, 2, 2) })?;
             self.make(&Call::Read { message: message(5, 134, 2, 2, n, 0) })?;
+            self.make(&Call::Read { message: message(5, CREATE_PROCESS, 2, n, 0, 0) })?;
+            self.make(&Call::Read { message: message(5, 140, 0, n, 0, 0) })?;
         }
         for length in 0..600 {
             self.make(&Call::Read { message: message(5, EXAMINE, 2, 0, length as u16, length) })?;

@@ -2,19 +2,22 @@
 //! field, buffers of any length and at any address: whether each was met.
 
 use crate::calls::{EDGES, HOSTS};
+use crate::damage::STATE_LENGTHS;
+use crate::layout::last_word;
 use crate::sides::{Call, Lent, Side};
-use crate::states::{SIZES, STATE_LENGTHS};
+use crate::sizes::SIZES;
+use crate::values_layout::LAYOUT_VALUES;
 use model::*;
 
 /// A value of one kind, met in a call that got this answer: 0 for granted, or the
 /// refusal's number.
-struct Value {
+pub struct Value {
     name: &'static str,
     by: i64,
     test: fn(&Call, &Side) -> bool,
 }
 
-const fn value(by: i64, name: &'static str, test: fn(&Call, &Side) -> bool) -> Value {
+pub const fn value(by: i64, name: &'static str, test: fn(&Call, &Side) -> bool) -> Value {
     Value { name, by, test }
 }
 
@@ -131,10 +134,10 @@ const VALUES: &[Value] = &[
     }),
     // lengths
     value(WRONG_BUFFER, "memory of any shorter length", |c, s| {
-        on_state(c) && s.memory.bytes().len() % 4096 > 1 && s.memory.bytes().len() < 32_767
+        on_state(c) && s.memory.bytes().len() % 4096 > 1 && s.memory.bytes().len() < 16_383
     }),
     value(WRONG_BUFFER, "memory of any longer length", |c, s| {
-        on_state(c) && s.memory.bytes().len() % 4096 > 1 && s.memory.bytes().len() > 32_769
+        on_state(c) && s.memory.bytes().len() % 4096 > 1 && s.memory.bytes().len() > 16_385
     }),
     value(WRONG_BUFFER, "output of 29 to 264 bytes", |c, s| {
         on_state(c) && (29..265).contains(&s.output.bytes().len())
@@ -190,7 +193,7 @@ fn odd(size: u16) -> bool {
 }
 
 /// Whether a process then there has such a size.
-fn starts(call: &Call, test: impl Fn(u16) -> bool) -> bool {
+pub fn starts(call: &Call, test: impl Fn(u16) -> bool) -> bool {
     let Call::FreshStart { there, sizes } = call else { return false };
     sizes.iter().take(PROCESSES).enumerate().any(|(p, &size)| there >> p & 1 == 1 && test(size))
 }
@@ -215,17 +218,13 @@ fn processes(side: &Side) -> Vec<Process> {
 }
 
 /// Whether there is such a process in a state of which nothing but its size is not
-/// sound.
+/// sound: with the least that its breakpoints need it would be.
 fn sized(call: &Call, side: &Side, test: impl Fn(&Process) -> bool) -> bool {
     let Some(mut state) = decode(side.state.bytes()) else { return false };
     let Some(p) = state.processes.iter().position(test) else { return false };
-    state.processes[p].size = LARGEST;
+    let needed = last_word(&state.processes[p]).map_or(SMALLEST, |a| a.saturating_add(2));
+    state.processes[p].size = needed;
     on_state(call) && sound(&state)
-}
-
-/// The highest address of a process's breakpoints.
-fn last_word(process: &Process) -> Option<u16> {
-    process.breakpoints.iter().filter(|b| b.used).map(|b| b.address).max()
 }
 
 /// Whether the state has a wrong length that is in no list.
@@ -238,7 +237,7 @@ fn other_host(host: u8) -> bool {
     !HOSTS.contains(&host) && ![0, 1, 4, 8, 254, 255].contains(&host)
 }
 
-fn request(call: &Call, test: impl Fn(&[u8]) -> bool) -> bool {
+pub fn request(call: &Call, test: impl Fn(&[u8]) -> bool) -> bool {
     matches!(call, Call::Request { message } if message.len() >= HEAD && test(message))
 }
 
@@ -259,7 +258,7 @@ fn report(call: &Call, test: impl Fn(u64, u64, u64) -> bool) -> bool {
     matches!(*call, Call::Report { process, kind, reason, .. } if test(process, kind, reason))
 }
 
-fn on_state(call: &Call) -> bool {
+pub fn on_state(call: &Call) -> bool {
     matches!(call, Call::Request { .. } | Call::Report { .. })
 }
 
@@ -277,6 +276,11 @@ fn wide(call: &Call, field: usize) -> bool {
 
 // ---------------------------------------------------------------- counting
 
+/// Every value, in the order in which they are counted.
+fn every() -> impl Iterator<Item = &'static Value> {
+    VALUES.iter().chain(LAYOUT_VALUES)
+}
+
 /// How often each value was met, and each buffer at each offset modulo 8.
 pub struct Values {
     counts: Vec<u64>,
@@ -293,13 +297,13 @@ fn of_words(buffer: &str) -> bool {
 
 impl Values {
     pub fn new() -> Values {
-        Values { counts: vec![0; VALUES.len()], offsets: [[0; 8]; BUFFERS.len()] }
+        Values { counts: vec![0; every().count()], offsets: [[0; 8]; BUFFERS.len()] }
     }
 
     /// Counts a call, with the side as it is after it.
     pub fn count(&mut self, call: &Call, side: &Side, answer: i64) {
         let by = answer.min(0).abs();
-        for (value, n) in VALUES.iter().zip(&mut self.counts) {
+        for (value, n) in every().zip(&mut self.counts) {
             *n += u64::from(value.by == by && (value.test)(call, side));
         }
         let mut at = |buffer: usize, lent: &Lent| self.offsets[buffer][lent.offset() % 8] += 1;
@@ -323,7 +327,7 @@ impl Values {
 
     pub fn print(&self) {
         println!("\nvalues of any size, wherever they stand");
-        for (value, n) in VALUES.iter().zip(&self.counts) {
+        for (value, n) in every().zip(&self.counts) {
             let by = match value.by {
                 0 => String::new(),
                 number => format!(", refused by {number}"),
@@ -340,7 +344,7 @@ impl Values {
 
     /// The values never met.
     pub fn wrong(&self) -> Vec<String> {
-        let values = VALUES.iter().zip(&self.counts).filter(|(_, &n)| n == 0);
+        let values = every().zip(&self.counts).filter(|(_, &n)| n == 0);
         let mut wrong: Vec<String> = values.map(|(value, _)| value.name.to_string()).collect();
         for (name, row) in BUFFERS.iter().zip(&self.offsets) {
             let every = if of_words(name) { 2 } else { 1 };

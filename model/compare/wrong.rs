@@ -2,6 +2,8 @@
 //! one of them.
 
 use crate::run::Comparison;
+use crate::wrong_create::WRONG_CREATE;
+use crate::wrong_layout::WRONG_LAYOUT;
 use crate::wrong_sizes::WRONG_SIZES;
 use model::*;
 use std::sync::atomic::{AtomicUsize, Ordering};
@@ -155,7 +157,7 @@ pub struct Wrong {
 
 /// Every wrong library.
 fn every() -> impl Iterator<Item = &'static Wrong> {
-    WRONG.iter().chain(WRONG_SIZES)
+    WRONG.iter().chain(WRONG_SIZES).chain(WRONG_LAYOUT).chain(WRONG_CREATE)
 }
 
 /// Each is the model's answer, but for one error.

@@ -8,7 +8,7 @@ pub const WRONG_SIZES: &[Wrong] = &[
     Wrong {
         name: "a range is held against 4,096",
         answer: |mut made| match made.byte(4) {
-            Some(EXAMINE | DEPOSIT) => resized_sound(made, |_| LARGEST),
+            Some(EXAMINE | DEPOSIT) => in_a_named(made, |_| LARGEST),
             _ => made.right(),
         },
     },
@@ -31,7 +31,7 @@ pub const WRONG_SIZES: &[Wrong] = &[
     Wrong {
         name: "BREAK is held against 4,094",
         answer: |mut made| match made.byte(4) {
-            Some(BREAK) => resized_sound(made, |_| LARGEST),
+            Some(BREAK) => in_a_named(made, |_| LARGEST),
             _ => made.right(),
         },
     },
@@ -40,7 +40,7 @@ pub const WRONG_SIZES: &[Wrong] = &[
         answer: |mut made| match (made.byte(4), made.word(6)) {
             (Some(BREAK), Some(address)) => {
                 let more = |p: &Process| if p.size == address { 2 } else { 0 };
-                resized_sound(made, |p| (p.size + more(p)).min(LARGEST))
+                in_a_named(made, |p| (p.size + more(p)).min(LARGEST))
             }
             _ => made.right(),
         },
@@ -176,7 +176,8 @@ pub const WRONG_SIZES: &[Wrong] = &[
             let answer = made.right();
             if let Made::Start { state, .. } = made {
                 if answer == 0 {
-                    state.chunks_exact_mut(RECORD_BYTES).for_each(|r| r.swap(SIZE_AT, SIZE_AT + 1));
+                    let records = state[..BEGINS_AT].chunks_exact_mut(RECORD_BYTES);
+                    records.for_each(|record| record.swap(SIZE_AT, SIZE_AT + 1));
                 }
             }
             answer
@@ -198,10 +199,11 @@ fn zeroes_the_old_size(mut made: Made) -> i64 {
         _ => Vec::new(),
     };
     let answer = made.right();
-    let Made::Request { memory, reply, .. } = made else { return answer };
+    let Made::Request { state, memory, reply, .. } = made else { return answer };
     if let (Some(CREATE_PROCESS), Some(before), 10) = (cmd, before, answer) {
         let p = usize::from(reply[5]);
-        let kept = SPACE * p + usize::from(before.processes[p].size)..SPACE * (p + 1);
+        let place = decode(state).unwrap_or(NONE_THERE).processes[p].place();
+        let kept = (place.start + usize::from(before.processes[p].size)).min(place.end)..place.end;
         memory[kept.clone()].copy_from_slice(&old[kept]);
     }
     answer
@@ -236,12 +238,30 @@ fn resized(mut made: Made, change: impl Fn(&Process) -> u16) -> i64 {
     answer
 }
 
-/// The same, where the state is sound.
-fn resized_sound(mut made: Made, change: impl Fn(&Process) -> u16) -> i64 {
-    match made.records() {
-        Some(records) if sound(&records) => resized(made, change),
-        _ => made.right(),
+/// An answer to a request that takes the size of the process that it names for another:
+/// what follows its bytes in memory is taken for its own, and after the memory's end zeros
+/// are.
+fn in_a_named(mut made: Made, change: impl Fn(&Process) -> u16) -> i64 {
+    let p = usize::from(made.byte(5).unwrap_or(0)) % PROCESSES;
+    let sound = made.records().filter(|old| sound(old) && old.processes[p].there);
+    let Some(mut records) = sound.filter(|_| made.byte(5) < Some(8)) else { return made.right() };
+    let Made::Request { state, memory, message, reply } = made else { return 0 };
+    if memory.len() != MEMORY {
+        return -1;
     }
+    let Process { begin, size, .. } = records.processes[p];
+    let mut alone = NONE_THERE;
+    let resized = change(&records.processes[p]);
+    alone.processes[p] = Process { begin: 0, size: resized, ..records.processes[p] };
+    let (mut bytes, own) = (encode(&alone), &mut memory[begin.into()..]);
+    let mut alone_memory = own.to_vec();
+    alone_memory.resize(MEMORY, 0);
+    let answer = request_bytes(&mut bytes, &mut alone_memory, message, reply);
+    own.copy_from_slice(&alone_memory[..own.len()]);
+    let after = decode(&bytes).unwrap_or(alone).processes[p];
+    records.processes[p] = Process { begin, size, ..after };
+    state.copy_from_slice(&encode(&records));
+    answer
 }
 
 /// Whether a fresh start has such a size, of a process then there or of any.

@@ -1,101 +1,13 @@
-//! The paper's cases P1 to P12, its other cases and its list of easy errors; and the
-//! edges of the sizes that K2 gives to processes.
+//! The paper's cases P1 to P12, its other cases and its list of easy errors. The desk's end,
+//! and what the change requests add, have files of their own.
+
+mod desk;
+mod gateway;
+mod layout;
+mod sizes;
 
 use super::*;
-
-/// A gateway: a state, its memory and one reply buffer.
-struct Gateway {
-    state: State,
-    memory: Vec<u8>,
-    output: Vec<u8>,
-}
-
-/// A byte that no case writes, to see which bytes are touched.
-const UNTOUCHED: u8 = 0xa5;
-
-/// Sizes of eight processes as large as there are.
-const FULL: [u16; PROCESSES] = [LARGEST; PROCESSES];
-
-/// K2: "The cheap gateway's feed process has 1,536 bytes"
-const FEED: u16 = 1536;
-
-impl Gateway {
-    fn new(there: u8) -> Gateway {
-        Gateway::with_sizes(there, &FULL)
-    }
-
-    fn with_sizes(there: u8, sizes: &[u16; PROCESSES]) -> Gateway {
-        Gateway {
-            state: fresh_start(there, sizes).unwrap(),
-            memory: vec![0; MEMORY],
-            output: vec![UNTOUCHED; LONGEST],
-        }
-    }
-
-    /// Process 2 alone, debugged by host 5.
-    fn debugged() -> Gateway {
-        let mut gateway = Gateway::new(1 << 2);
-        assert_eq!(gateway.ask(5, DEBUG, 2, 0, 0, &[]), 10);
-        gateway
-    }
-
-    /// The feed process alone, as process 2, debugged by host 5. No byte of its slot
-    /// is zero.
-    fn feed() -> Gateway {
-        let mut gateway = Gateway::with_sizes(1 << 2, &[FEED; PROCESSES]);
-        gateway.memory.fill(77);
-        assert_eq!(gateway.ask(5, DEBUG, 2, 0, 0, &[]), 10);
-        gateway
-    }
-
-    fn send(&mut self, message: &[u8]) -> i64 {
-        self.output.fill(UNTOUCHED);
-        request(&mut self.state, &mut self.memory, message, &mut self.output)
-    }
-
-    fn ask(&mut self, host: u8, cmd: u8, pid: u8, arg1: u16, arg2: u16, string: &[u8]) -> i64 {
-        self.send(&message(host, cmd, pid, arg1, arg2, string))
-    }
-
-    fn report(&mut self, process: u64, kind: impl Into<u64>, reason: u64, pc: u16) -> i64 {
-        self.output.fill(UNTOUCHED);
-        let words = words_with(pc);
-        let (state, memory) = (&mut self.state, &mut self.memory);
-        report(state, memory, process, kind.into(), reason, &words, &mut self.output)
-    }
-
-    /// The bytes written, and a test that none past them is touched.
-    fn written(&self, length: usize) -> &[u8] {
-        assert!(self.output[length..].iter().all(|&b| b == UNTOUCHED));
-        &self.output[..length]
-    }
-
-    fn process(&mut self) -> &mut Process {
-        &mut self.state.processes[2]
-    }
-
-    /// The two bytes that memory holds at an address of process 2.
-    fn held(&self, address: usize) -> [u8; 2] {
-        let at = 2 * SPACE + address;
-        [self.memory[at], self.memory[at + 1]]
-    }
-
-    fn store(&mut self, address: usize, bytes: [u8; 2]) {
-        let at = 2 * SPACE + address;
-        self.memory[at..at + 2].copy_from_slice(&bytes);
-    }
-}
-
-fn message(host: u8, cmd: u8, pid: u8, arg1: u16, arg2: u16, string: &[u8]) -> Vec<u8> {
-    let mut bytes = vec![0; HEAD];
-    write_head(&mut bytes, host, cmd, pid, arg1, arg2);
-    bytes.extend_from_slice(string);
-    bytes
-}
-
-fn words_with(pc: u16) -> [u16; WORDS] {
-    [0x0102, 1, 2, 3, 4, 5, 6, pc, 8]
-}
+use gateway::*;
 
 #[test]
 fn p1_nop_comes_back_the_same() {
@@ -177,15 +89,19 @@ fn p10_count_of_two() {
 
 #[test]
 fn p11_create() {
-    let mut g = Gateway::new(0b1011);
-    g.memory.fill(77);
-    assert_eq!(g.ask(5, CREATE_PROCESS, 0, 0, 0, &[]), 10);
-    assert_eq!(g.written(10), [0, 5, 255, 0, 12, 2, 0, 0, 0, 0]);
-    assert_eq!(*g.process(), Process { there: true, host: 5, run: Run::Stopped, ..CLEARED });
-    assert!(g.memory[2 * SPACE..3 * SPACE].iter().all(|&b| b == 0));
-    assert!(g.memory[..2 * SPACE].iter().all(|&b| b == 77));
-    assert!(g.memory[3 * SPACE..].iter().all(|&b| b == 77));
-    let mut g = Gateway::new(255);
+    for sizes in [EIGHT, FULL] {
+        let mut g = Gateway::with_sizes(0b1011, &sizes);
+        g.memory.fill(77);
+        assert_eq!(g.ask(5, CREATE_PROCESS, 0, 0, 0, &[]), 10);
+        assert_eq!(g.written(10), [0, 5, 255, 0, 12, 2, 0, 0, 0, 0]);
+        // K9: "a new one last, zeroed to its size"
+        let begin = 3 * sizes[0];
+        let created = Process { there: true, host: 5, run: Run::Stopped, begin, ..CLEARED };
+        assert_eq!(*g.process(), created);
+        let new = usize::from(begin)..usize::from(begin) + 4096;
+        assert!((0..MEMORY).all(|at| g.memory[at] == if new.contains(&at) { 0 } else { 77 }));
+    }
+    let mut g = Gateway::with_sizes(255, &EIGHT);
     assert_eq!(g.ask(5, CREATE_PROCESS, 0, 0, 0, &[]), -13);
     assert_eq!(g.written(10), [0, 5, 255, 0, 140, 0, 0, 0, 0, 0]);
 }
@@ -251,7 +167,7 @@ fn end_debug_and_create_leave_eight_entries_of_zeros() {
     assert_eq!(*g.process(), Process { there: true, ..CLEARED });
     g.state.processes[0] = Process { vector: [1; WORDS], breakpoints: [OLD; 8], ..CLEARED };
     assert_eq!(g.ask(5, CREATE_PROCESS, 0, 0, 0, &[]), 10);
-    let created = Process { there: true, host: 5, run: Run::Stopped, ..CLEARED };
+    let created = Process { there: true, host: 5, run: Run::Stopped, begin: 4096, ..CLEARED };
     assert_eq!(g.state.processes[0], created);
 }
 
@@ -265,18 +181,19 @@ fn end_debug_leaves_ended_as_it_is() {
 }
 
 #[test]
-fn destroy_leaves_the_memory_and_create_clears_it() {
+fn create_hands_over_no_bytes_of_a_destroyed_process() {
     let mut g = Gateway::debugged();
     g.store(10, [1, 2]);
     g.ask(5, BREAK, 2, 10, 0, &[]);
     assert_eq!(g.ask(5, DESTROY_PROCESS, 2, 0, 0, &[]), 10);
     assert_eq!(*g.process(), CLEARED);
-    assert_eq!(g.held(10), [3, 0]);
+    assert!(g.memory.iter().all(|&b| b == 0));
     for p in 0..3 {
+        g.memory[used_bytes(&g.state)..].fill(77);
         assert_eq!(g.ask(6, CREATE_PROCESS, 0, 0, 0, &[]), 10);
         assert_eq!(g.written(10)[5], p);
+        assert!(g.memory[..used_bytes(&g.state)].iter().all(|&b| b == 0));
     }
-    assert_eq!(g.held(10), [0, 0]);
 }
 
 #[test]
@@ -346,7 +263,7 @@ fn numbers_that_no_field_holds() {
     assert_eq!(fresh_start_bytes(1 << 63, &FULL, &mut state), -7);
     assert_eq!(state, [9; STATE_BYTES]);
     assert_eq!(fresh_start_bytes(256, &FULL, &mut state[1..]), -1);
-    assert_eq!(fresh_start_bytes(255, &FULL, &mut state), 0);
+    assert_eq!(fresh_start_bytes(255, &EIGHT, &mut state), 0);
 }
 
 #[test]
@@ -418,9 +335,10 @@ fn sound_states() {
 #[test]
 fn the_byte_form() {
     let mut bytes = [9; STATE_BYTES];
-    assert_eq!((STATE_BYTES, RECORD_BYTES), (696, 87));
+    assert_eq!((STATE_BYTES, RECORD_BYTES, BEGINS_AT), (712, 87, 696));
     assert_eq!(fresh_start_bytes(0b100, &[FEED; PROCESSES], &mut bytes), 0);
-    for (p, record) in bytes.chunks_exact(RECORD_BYTES).enumerate() {
+    assert_eq!(bytes[BEGINS_AT..], [0; 16]);
+    for (p, record) in bytes[..BEGINS_AT].chunks_exact(RECORD_BYTES).enumerate() {
         let head = if p == 2 { [1, 0, 0, 0, 6] } else { [0, 0, 0, 0, 16] };
         assert_eq!(record[..5], head);
         assert!(record[5..].iter().all(|&b| b == 0));
@@ -428,7 +346,7 @@ fn the_byte_form() {
     assert_eq!(fresh_start_bytes(0, &FULL, &mut bytes[1..]), -1);
     let mut memory = vec![0; MEMORY];
     let mut output = vec![0; LONGEST];
-    memory[2 * SPACE + 256..][..2].copy_from_slice(&[18, 52]);
+    memory[256..][..2].copy_from_slice(&[18, 52]);
     for m in [message(5, DEBUG, 2, 0, 0, &[]), message(5, BREAK, 2, 256, 515, &[])] {
         assert_eq!(request_bytes(&mut bytes, &mut memory, &m, &mut output), 10);
     }
@@ -466,186 +384,4 @@ fn the_bench_programs_input() {
     assert_eq!(g.written(10), [0, 6, 255, 0, 0x81, 2, 0, 0, 0, 0]);
     assert_eq!(g.send(&[0, 6, 255]), -3);
     g.written(0);
-}
-
-#[test]
-fn the_desk_writes() {
-    let mut output = vec![UNTOUCHED; LONGEST];
-    let o = &mut output;
-    let deposit = DEPOSIT.into();
-    assert_eq!(write_request(5, deposit, 2, 256, 2, &[18, 52], o), 12);
-    assert_eq!(o[..13], [0, 5, 255, 0, 4, 2, 1, 0, 0, 2, 18, 52, UNTOUCHED]);
-    assert_eq!(write_request(255, deposit, 255, 65_535, 256, &[7; 256], o), 266);
-    o.fill(UNTOUCHED);
-    assert_eq!(write_request(0, 99, 0, 0, 1, &[7; 257], &mut o[1..]), -1);
-    assert_eq!(write_request(0, 99, 0, 0, 1, &[7; 257], o), -3);
-    assert_eq!(write_request(0, 99, 0, 0, 1, &[], o), -4);
-    assert_eq!(write_request(256, 99, 0, 0, 1, &[], o), -4);
-    assert_eq!(write_request(5, 14, 0, 0, 1, &[], o), -5);
-    assert_eq!(write_request(5, 256, 0, 0, 1, &[], o), -5);
-    assert_eq!(write_request(5, 1, 2, 0, 1, &[], o), -6);
-    assert_eq!(write_request(5, 1, 2, 0, 0, &[1], o), -6);
-    assert_eq!(write_request(5, 1, 256, 0, 0, &[], o), -6);
-    assert_eq!(write_request(5, 9, 2, 65_536, 0, &[], o), -6);
-    assert_eq!(write_request(5, 8, 2, 0, 65_536, &[], o), -6);
-    assert_eq!(write_request(5, 0, 2, 0, 0, &[], o), -6);
-    assert_eq!(write_request(5, 12, 2, 0, 0, &[], o), -6);
-    assert!(o.iter().all(|&b| b == UNTOUCHED));
-}
-
-#[test]
-fn the_desk_reads() {
-    let mut fields = [0; FIELDS];
-    let contents = message(5, EXAMINE, 2, 258, 3, &[97, 98, 99]);
-    assert_eq!(read_answer(&contents, &mut fields), 3);
-    assert_eq!(fields, [5, 6, 2, 258, 3]);
-    let read = |host, cmd, pid, arg1, arg2, string: &[u8]| {
-        let mut fields = [9; FIELDS];
-        let answer = read_answer(&message(host, cmd, pid, arg1, arg2, string), &mut fields);
-        assert_eq!(answer < 0, fields == [9; FIELDS]);
-        answer
-    };
-    assert_eq!(read(5, 64, 2, 0x1234, 0, &[1; 18]), 18);
-    assert_eq!(read(5, 65, 2, 1, 0, &[1; 18]), -6);
-    assert_eq!(read(5, 67, 2, 0, 1, &[1; 18]), -6);
-    assert_eq!(read(5, 66, 255, 0, 0, &[1; 17]), -6);
-    assert_eq!(read(5, CREATE_PROCESS, 7, 0, 0, &[]), 0);
-    assert_eq!(read(5, 140, 7, 0, 0, &[]), -6);
-    assert_eq!(read(5, 134, 2, 65_535, 65_535, &[]), 0);
-    assert_eq!(read(5, 132, 2, 0, 2, &[1, 2]), -6);
-    assert_eq!(read(5, DEPOSIT, 2, 0, 2, &[]), 0);
-    assert_eq!(read(5, EXAMINE, 2, 0, 257, &[1; 256]), -6);
-    assert_eq!(read(0, 128, 0, 0, 0, &[]), -4);
-    for cmd in [14, 63, 68, 127, 128, 142, 255] {
-        assert_eq!(read(5, cmd, 1, 1, 1, &[1]), -5);
-    }
-    assert_eq!(read_answer(&contents[..9], &mut fields), -3);
-    assert_eq!(read_answer(&contents[..9], &mut fields[1..]), -1);
-    assert_eq!(read_answer(&[0; 267], &mut fields), -3);
-}
-
-// ---------------------------------------------------------------- K2: smaller processes
-
-#[test]
-fn k2_examine_and_deposit_end_at_the_size() {
-    let mut g = Gateway::feed();
-    g.store(1534, [7, 8]);
-    assert_eq!(g.ask(5, EXAMINE, 2, 1532, 4, &[]), 14);
-    assert_eq!(g.written(14), [0, 5, 255, 0, 6, 2, 5, 252, 0, 4, 77, 77, 7, 8]);
-    assert_eq!(g.ask(5, EXAMINE, 2, 1533, 4, &[]), -10);
-    assert_eq!(g.written(10), [0, 5, 255, 0, 134, 2, 5, 253, 0, 4]);
-    assert_eq!(g.ask(5, EXAMINE, 2, 1536, 0, &[]), 10);
-    assert_eq!(g.ask(5, EXAMINE, 2, 1537, 0, &[]), -10);
-    assert_eq!(g.ask(5, EXAMINE, 2, 1536, 1, &[]), -10);
-    assert_eq!(g.ask(5, EXAMINE, 2, 1280, 256, &[]), 266);
-    assert_eq!(g.ask(5, EXAMINE, 2, 1281, 256, &[]), -10);
-    assert_eq!(g.ask(5, EXAMINE, 2, 0, 257, &[]), -10);
-    assert_eq!(g.ask(5, DEPOSIT, 2, 1535, 1, &[9]), 10);
-    assert_eq!(g.ask(5, DEPOSIT, 2, 1535, 2, &[9, 9]), -10);
-    assert_eq!(g.ask(5, DEPOSIT, 2, 1536, 0, &[]), 10);
-    assert_eq!(g.ask(5, DEPOSIT, 2, 1536, 1, &[9]), -10);
-    assert_eq!(g.ask(5, DEPOSIT, 2, 65535, 2, &[9, 9]), -10);
-    assert_eq!((g.held(1534), g.held(1536)), ([7, 9], [77, 77]));
-    assert_eq!(g.ask(6, EXAMINE, 2, 1536, 1, &[]), -8);
-}
-
-#[test]
-fn k2_break_at_most_size_less_2() {
-    let mut g = Gateway::feed();
-    assert_eq!(g.ask(5, BREAK, 2, 1533, 0, &[]), -10);
-    assert_eq!(g.ask(5, BREAK, 2, 1534, 0, &[]), 10);
-    assert_eq!(g.held(1534), [3, 0]);
-    for address in [1535, 1536, 1538, 4094, 65534] {
-        assert_eq!(g.ask(5, BREAK, 2, address, 0, &[]), -10);
-        assert_eq!(g.ask(5, UNBREAK, 2, address, 0, &[]), -12);
-    }
-    assert_eq!(g.held(1536), [77, 77]);
-    // A PC past the size is not tested: no breakpoint is there.
-    assert_eq!(g.report(2, BPT, 0, 1536), 28);
-    assert_eq!(g.ask(5, PROCEED_BPT, 2, 0, 0, &[]), 10);
-    assert_eq!((g.held(1534), g.held(1536)), ([3, 0], [77, 77]));
-}
-
-#[test]
-fn k2_a_process_of_two_bytes() {
-    let mut g = Gateway::with_sizes(1 << 2, &[2; PROCESSES]);
-    g.ask(5, DEBUG, 2, 0, 0, &[]);
-    assert_eq!(g.ask(5, EXAMINE, 2, 0, 2, &[]), 12);
-    assert_eq!(g.ask(5, EXAMINE, 2, 0, 3, &[]), -10);
-    assert_eq!(g.ask(5, BREAK, 2, 0, 0, &[]), 10);
-    assert_eq!(g.ask(5, BREAK, 2, 2, 0, &[]), -10);
-}
-
-#[test]
-fn k2_create_and_a_cleared_record_give_4096() {
-    let mut g = Gateway::feed();
-    assert_eq!(g.ask(5, DESTROY_PROCESS, 2, 0, 0, &[]), 10);
-    assert_eq!(*g.process(), CLEARED);
-    assert_eq!(CLEARED.size, 4096);
-    // An absent record of another size is sound, and CREATE looks at none of it.
-    g.state.processes[0].size = FEED;
-    assert_eq!(g.ask(5, CREATE_PROCESS, 0, 0, 0, &[]), 10);
-    assert_eq!(g.state.processes[0].size, 4096);
-    assert!(g.memory[..SPACE].iter().all(|&b| b == 0));
-    assert_eq!(g.memory[SPACE], 77);
-    assert_eq!(g.ask(5, EXAMINE, 0, 4092, 4, &[]), 14);
-}
-
-#[test]
-fn k2_sound_covers_the_size_of_every_record() {
-    let state = fresh_start(1, &FULL).unwrap();
-    for p in [0, 7] {
-        for (size, right) in [(2, true), (4, true), (1536, true), (4094, true), (4096, true)]
-            .into_iter()
-            .chain([0, 1, 3, 1535, 4095, 4097, 4098, 65534, 65535].map(|size| (size, false)))
-        {
-            let mut state = state.clone();
-            state.processes[p].size = size;
-            assert_eq!(sound(&state), right, "process {p} of {size}");
-        }
-    }
-    let mut g = Gateway::feed();
-    g.ask(5, BREAK, 2, 1000, 0, &[]);
-    g.process().size = 1002;
-    assert!(sound(&g.state));
-    g.process().size = 1000;
-    assert!(!sound(&g.state), "a breakpoint past the size");
-    assert_eq!(g.ask(5, NOP, 0, 0, 0, &[]), -2);
-    assert_eq!(g.report(2, HALT, 0, 0), -2);
-    g.written(0);
-}
-
-#[test]
-fn k2_a_fresh_start_with_bad_sizes() {
-    let sizes = |p: usize, size: u16| {
-        let mut sizes = FULL;
-        sizes[p] = size;
-        sizes
-    };
-    for bad in [0, 1, 3, 1537, 4095, 4097, 4098, 65535] {
-        let mut state = [9; STATE_BYTES];
-        assert_eq!(fresh_start_bytes(0b100, &sizes(2, bad), &mut state), -2);
-        // "The lowest-numbered test that fails gives the answer"
-        assert_eq!(fresh_start_bytes(0b1_0000_0100, &sizes(2, bad), &mut state), -2);
-        assert_eq!(fresh_start_bytes(0b100, &sizes(2, bad), &mut state[1..]), -1);
-        assert_eq!(fresh_start_bytes(0b100, &sizes(2, bad)[1..], &mut state), -1);
-        assert_eq!(fresh_start_bytes(0b1_0000_0000, &sizes(2, bad), &mut state), -7);
-        assert_eq!(state, [9; STATE_BYTES]);
-        // A process that is not there then has a cleared record.
-        assert_eq!(fresh_start_bytes(0b11, &sizes(2, bad), &mut state), 0);
-        assert_eq!(state, encode(&fresh_start(0b11, &FULL).unwrap()));
-    }
-    let mut state = [9; STATE_BYTES];
-    assert_eq!(fresh_start_bytes(0, &[], &mut state), -1);
-    assert_eq!(fresh_start_bytes(256, &[2; 9], &mut state), -1);
-}
-
-/// "Slots stay 4,096 bytes apart."
-#[test]
-fn k2_slots_stay_apart() {
-    let mut g = Gateway::with_sizes(0b111, &[2, 4, FEED, 2, 2, 2, 2, 2]);
-    g.store(0, [1, 2]);
-    g.ask(5, DEBUG, 2, 0, 0, &[]);
-    assert_eq!(g.ask(5, EXAMINE, 2, 0, 2, &[]), 12);
-    assert_eq!(g.written(12)[10..], [1, 2]);
 }

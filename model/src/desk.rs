@@ -64,7 +64,8 @@ enum Carries {
 }
 
 /// "a field not zero that the reply or notice does not use (PID is used in
-/// CREATED, ARG1 in TRAP)"
+/// CREATED, ARG1 in TRAP)". ARG1 of CREATED and of CAN'T CREATE is the size asked: "the
+/// request's CMD, PID, ARG1, ARG2".
 struct Answer {
     pid: bool,
     arg1: bool,
@@ -115,7 +116,8 @@ pub fn read_answer(message: &[u8], fields: &mut [u16]) -> i64 {
         Carries::Vector => VECTOR,
     };
     let unused = !answer.pid && pid != 0 || !answer.arg1 && arg1 != 0 || !answer.arg2 && arg2 != 0;
-    if unused || message.len() != HEAD + string {
+    // K9: "6, at the desk too, an odd or greater size"
+    if unused || message.len() != HEAD + string || !size_fits(cmd, arg1) {
         return -WRONG_FIELDS;
     }
     fields.copy_from_slice(&[host.into(), cmd.into(), pid.into(), arg1, arg2]);

@@ -11,7 +11,7 @@ use Rattle.format.specs.declared.outcome.Outcome.{Outcome}
 use Rattle.format.specs.declared.outcome.Outcome.the-variants.{Granted, Refused}
 use Rattle.format.specs.Outcome.{outcome, numberOf, lengthOf}
 use Rattle.format.proofs.OutcomeLaws.{first-passes, rest-passes}
-use Rattle.state.specs.Slot.{capacity}
+use Rattle.state.specs.Layout.{capacity}
 use Rattle.rules.specs.Tests.{State}
 use Rattle.rules.specs.Step.{Answer, Call, request, report, store, step}
 use Rattle.rules.specs.Ready.{Typed}

@@ -9,7 +9,7 @@ use lib.ListN.{length, getD}
 use lib.Dec.{eqb}
 use Rattle.format.specs.Outcome.{outcome, numberOf, lengthOf, isGranted, firstFailing}
 use Rattle.rules.proofs.StepLaws.{by-test}
-use Rattle.state.specs.Records.{freshStart, sizesRight}
+use Rattle.state.specs.Fresh.{freshStart, sizesRight}
 use Rattle.state_bytes.specs.Widths.{processCount, stateWidth}
 use Rattle.state_bytes.specs.State.{stateBytes}
 use Rattle.gateway.specs.Called.{StartResult, started, startOn}

@@ -9,7 +9,7 @@ use lib.Dec.{eqb, ltb}
 use Rattle.lists.specs.Word.{vectorOf}
 use Rattle.format.specs.declared.outcome.Outcome.{Outcome}
 use Rattle.format.specs.Outcome.{outcome, numberOf, lengthOf, isGranted, test, firstFailing}
-use Rattle.state.specs.Records.{freshStart, sizesRight}
+use Rattle.state.specs.Fresh.{freshStart, sizesRight}
 use Rattle.rules.specs.Step.{report}
 use Rattle.state_bytes.specs.Widths.{processCount, stateWidth}
 use Rattle.state_bytes.specs.State.{stateBytes}
@@ -60,8 +60,8 @@ bitsOf n =
     ∷ eqb (n / 128 % 2) 1
     ∷ []
 
--- 1 refuses sizes that are not eight and a state's buffer of the wrong length, 2 'a bad size (at fresh start too, of a process then there)', and 7
--- a process over 7, which a bit above the eighth is
+-- 1 refuses sizes that are not eight and a state's buffer of the wrong length; 2 'a bad size (at fresh start too, of a process then there)' and
+-- 'also more than that at fresh start', which is the memory's 16,384 bytes; and 7 a process over 7, which a bit above the eighth is
 unfoldable pub startNumber : ℕ → List ℕ → List ℕ → ℕ
 startNumber there sizes state =
     firstFailing

@@ -7,9 +7,7 @@ use lib.ListN.{length}
 use Rattle.lists.specs.Word.{vectorOf}
 use Rattle.format.specs.declared.outcome.Outcome.{Outcome}
 use Rattle.format.specs.Outcome.{outcome}
-use Rattle.process.specs.Local.{extent}
-use Rattle.state.specs.Records.{processAt}
-use Rattle.state.specs.Slot.{capacity}
+use Rattle.state.specs.Layout.{capacity, extentAt}
 use Rattle.rules.specs.Step.{Call, request, report, store}
 use Rattle.rules.specs.Run.{TraceItem}
 use Rattle.state_bytes.specs.State.{stateOf}
@@ -31,13 +29,13 @@ pub record Returned : Type 0 where
   pub memory : List ℕ
   pub buffer : List ℕ
 
--- by its contract, or by what the machine does
+-- by its contract, or by what the machine does: it 'stores only within a process's own bytes'
 unfoldable pub DidReturn : List ℕ → List ℕ → LibraryCall → Returned → Type 0
 DidReturn state memory (requested m reply) y = Returns (callOn state memory (request m reply)) (y .result) (y .state) (y .memory) (y .buffer)
 DidReturn state memory (reported p kind reason words notice) y =
     Returns (reportOn state memory p kind reason words notice) (y .result) (y .state) (y .memory) (y .buffer)
 DidReturn state memory (stored p a v) y =
-    (a < extent (processAt (stateOf state) p)) × Returns (machineStored p a v state memory) (y .result) (y .state) (y .memory) (y .buffer)
+    (a < extentAt (stateOf state) p) × Returns (machineStored p a v state memory) (y .result) (y .state) (y .memory) (y .buffer)
 
 -- each on the bytes that the one before it left
 unfoldable pub DoneByLibrary : List ℕ → List ℕ → List LibraryCall → List Returned → Type 0

@@ -1,4 +1,4 @@
-// The gateway and the desk's end for firmware in C and other languages: the state is a lent buffer of 696 bytes, and a call returns the length
+// The gateway and the desk's end for firmware in C and other languages: the state is a lent buffer of 712 bytes, and a call returns the length
 // granted or minus the number of the refusal.
 mod calls;
 mod desk;

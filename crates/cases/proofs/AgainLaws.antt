@@ -2,7 +2,7 @@
 use mathlib.Core.Path.{_≡_, refl, sym, ap, _∙_}
 use mathlib.Core.Bool.{Bool, true, false, not, _&&_, _||_, true≢false}
 use mathlib.Core.List.{List, [], _∷_}
-use Prim.Native.Nat.{ℕ, zero, suc, _<_}
+use Prim.Native.Nat.{ℕ, _<_}
 use native.Mathlib.Omega.{arith}
 use borrow.Author.Tests.{eqb-true, not-true}
 use lib.ListN.{replicate}
@@ -11,13 +11,16 @@ use Rattle.lists.specs.Every.{every, below}
 use Rattle.lists.proofs.Bool.{&&-left, &&-right}
 use Rattle.lists.proofs.Every.{below-at}
 use Rattle.process.specs.Sizes.{validSize}
-use Rattle.state.specs.Records.{freshProcess, freshProcesses, freshStart, soundTest as soundState, lowestAbsent}
+use Rattle.lists.specs.Sum.{total}
+use Rattle.state.specs.Records.{lowestAbsent}
+use Rattle.state.specs.Fresh.{freshProcess, freshProcesses, freshStarts, freshStart}
+use Rattle.state.specs.Sound.{recordsSound, soundTest as soundState}
 use Rattle.lists.specs.Buffer.{overlay}
 use Rattle.lists.specs.Word.{lowFirst}
 use Rattle.format.specs.Answer.{cantOf, createdOf, noticeOf}
 use Rattle.format.specs.Layout.{written, headerOf, stringOf, fixedRight}
 use Rattle.format.specs.Outcome.{numberOf, firstFailing, lengthOf}
-use Rattle.format.specs.Refusal.{unusedZero, carriedLength, wrongLength, wrongHeader, misfits}
+use Rattle.format.specs.Refusal.{fieldsRight, carriedLength, wrongLength, wrongHeader, misfits}
 use Rattle.ops.specs.Table.{rowOf, requestForm}
 use Rattle.breakpoints.specs.EntryQuery.{matches}
 use Rattle.process.specs.Find.{find}
@@ -30,8 +33,9 @@ use Rattle.breakpoints.specs.Seen.{restored, seen, savedFrom, overlaySavedByte,
 use Rattle.process.specs.Request.{sheltered}
 use Rattle.breakpoints.specs.Entry.{validBreakAddress}
 use Rattle.process.specs.Sound.{absentHasNoHost, liftSound, usedSound, entrySound, soundTest, keepsRules}
-use Rattle.state.specs.Slot.{startOf, slot, withSlot}
-use Rattle.rules.specs.Rule.{public, ruleOf, names}
+use Rattle.state.specs.Layout.{used, usedBefore, startIsUnique, placed, laidOut, slot, withSlot, closed, startWithout, startsWithout}
+use Rattle.rules.specs.Rule.{public, ruleOf, names, sizeAsked}
+use Rattle.rules.specs.Window.{putInPlace, putLast, takenOut}
 use Rattle.rules.specs.Step.{put, grantedNamed, grantedCreate, granted, refused, requestStep, noticeTo, notified, reportStep, step}
 use Rattle.rules.specs.Tests.{askedTests, requestNumber, reportNumber}
 use Rattle.rules.specs.Access.{insider}
@@ -43,22 +47,10 @@ use Rattle.rules.specs.Total.{oneOf}
 use Rattle.rules.specs.Isolation.{Processes, namesOne, asker, subject, event, passedOver, fieldsOf, isOne, isGranted, noticed, sentTo, part, heard, struck, withoutData, publicOf, NoneDebugs, theirs}
 use Rattle.rules.specs.Outsider.{only}
 use Rattle.rules.specs.Together.{createdFor, hiddenAfter, Away, strikeRun, AlikeRuns, withoutTheirs, callsOf}
-use Rattle.cases.proofs.PairLaws.{eight, firstByte}
+use Rattle.cases.proofs.PairLaws.{each, eight, firstByte}
 use Rattle.cases.specs.Again.{laptops, sellers, one, other, oneCalls, otherCalls, oneRest, received, CreatedAgain}
 
 -- ---- tests that can be computed, and what they say
-
--- what holds of 0 to 7
-each : (F : ℕ → Type 0) → F 0 → F 1 → F 2 → F 3 → F 4 → F 5 → F 6 → F 7 → (p : ℕ) → p < 8 → F p
-each F a b c d e f g h zero l = a
-each F a b c d e f g h (suc zero) l = b
-each F a b c d e f g h (suc (suc zero)) l = c
-each F a b c d e f g h (suc (suc (suc zero))) l = d
-each F a b c d e f g h (suc (suc (suc (suc zero)))) l = e
-each F a b c d e f g h (suc (suc (suc (suc (suc zero))))) l = f
-each F a b c d e f g h (suc (suc (suc (suc (suc (suc zero)))))) l = g
-each F a b c d e f g h (suc (suc (suc (suc (suc (suc (suc zero))))))) l = h
-each F a b c d e f g h (suc (suc (suc (suc (suc (suc (suc (suc p)))))))) l = absurd (omega arith)
 
 one-of : (f : ℕ → Bool) (ks : List ℕ) (n : ℕ) → oneOf ks n ≡ true → every f ks ≡ true → f n ≡ true
 one-of f [] n e i = absurd (true≢false (sym e))
@@ -107,10 +99,10 @@ record Computed : Type 0 where
   unlike : heard (only 9) (run one oneCalls) ≡ heard (only 9) (run other otherCalls) → ⊥
 
 computed : Computed
-unfolding strikeRun hiddenAfter createdFor withoutTheirs namesOne subject event passedOver fieldsOf isOne isGranted struck withoutData theirs insider heard part asker sentTo noticed stored overlay lowFirst cantOf createdOf noticeOf written headerOf stringOf fixedRight numberOf lengthOf firstFailing unusedZero carriedLength wrongLength wrongHeader misfits rowOf requestForm matches find plantedIn liftedIn removedFrom replanted liftedAt fresh accepts storeVectorAndReplant passes verdictOf recipientOf passed runAfter reported hasBreak hasRoom examined deposited vectorAfter breakSet breakRemoved created cleared restored seen savedFrom sheltered overlaySavedByte overlaySavedWord validBreakAddress absentHasNoHost liftSound usedSound entrySound soundTest validSize keepsRules freshProcess freshProcesses freshStart soundState startOf slot withSlot public ruleOf names run put grantedNamed grantedCreate granted refused requestStep noticeTo notified reportStep step lowestAbsent askedTests requestNumber reportNumber
+unfolding strikeRun hiddenAfter createdFor withoutTheirs namesOne subject event passedOver fieldsOf isOne isGranted struck withoutData theirs insider heard part asker sentTo noticed stored overlay lowFirst cantOf createdOf noticeOf written headerOf stringOf fixedRight numberOf lengthOf firstFailing fieldsRight carriedLength wrongLength wrongHeader misfits rowOf requestForm matches find plantedIn liftedIn removedFrom replanted liftedAt fresh accepts storeVectorAndReplant passes verdictOf recipientOf passed runAfter reported hasBreak hasRoom examined deposited vectorAfter breakSet breakRemoved created cleared restored seen savedFrom sheltered overlaySavedByte overlaySavedWord validBreakAddress absentHasNoHost liftSound usedSound entrySound soundTest validSize keepsRules freshProcess freshProcesses freshStarts freshStart total used usedBefore startIsUnique placed laidOut recordsSound soundState slot withSlot closed startWithout startsWithout public ruleOf names sizeAsked run putInPlace putLast takenOut put grantedNamed grantedCreate granted refused requestStep noticeTo notified reportStep step lowestAbsent askedTests requestNumber reportNumber
 computed = record {
-  one-ready = record { memory = refl; processes = refl; entries = eight one refl; sound = refl };
-  other-ready = record { memory = refl; processes = refl; entries = eight other refl; sound = refl };
+  one-ready = record { memory = refl; processes = refl; starts = refl; entries = eight one refl; sound = refl };
+  other-ready = record { memory = refl; processes = refl; starts = refl; entries = eight other refl; sound = refl };
   shown = each (λ (p : ℕ). publicOf one p ≡ publicOf other p) refl refl refl refl refl refl refl refl;
   others = each (λ (p : ℕ). sellers p ≡ false → localOf one p ≡ localOf other p) (λ n. refl) (λ n. refl) (λ n. absurd (true≢false n)) (λ n. refl)
       (λ n. absurd (true≢false n)) (λ n. refl) (λ n. refl) (λ n. refl);

@@ -5,7 +5,7 @@ use Rattle.lists.specs.Word.{lowFirst, vectorOf}
 use Rattle.format.specs.Answer.{cantOf, createdOf, noticeOf}
 use Rattle.format.specs.Layout.{written, headerOf, stringOf, fixedRight}
 use Rattle.format.specs.Outcome.{firstFailing}
-use Rattle.format.specs.Refusal.{unusedZero, carriedLength, wrongLength, wrongHeader, misfits}
+use Rattle.format.specs.Refusal.{fieldsRight, carriedLength, wrongLength, wrongHeader, misfits}
 use Rattle.ops.specs.Table.{rowOf, requestForm}
 use Rattle.breakpoints.specs.EntryQuery.{matches}
 use Rattle.process.specs.Find.{find}
@@ -19,14 +19,18 @@ use Rattle.process.specs.Request.{sheltered}
 use Rattle.breakpoints.specs.Entry.{validBreakAddress}
 use Rattle.process.specs.Sound.{absentHasNoHost, liftSound, usedSound, entrySound, soundTest, keepsRules}
 use Rattle.process.specs.Sizes.{validSize}
-use Rattle.state.specs.Records.{freshProcess, freshProcesses, freshStart, soundTest as soundState, lowestAbsent}
-use Rattle.state.specs.Slot.{startOf, slot, withSlot}
-use Rattle.rules.specs.Rule.{public, ruleOf, names}
+use Rattle.lists.specs.Sum.{total}
+use Rattle.state.specs.Records.{lowestAbsent}
+use Rattle.state.specs.Fresh.{freshProcess, freshProcesses, freshStarts, freshStart}
+use Rattle.state.specs.Sound.{recordsSound, soundTest as soundState}
+use Rattle.state.specs.Layout.{used, usedBefore, startIsUnique, placed, laidOut, slot, withSlot, closed, startWithout, startsWithout}
+use Rattle.rules.specs.Rule.{public, ruleOf, names, sizeAsked}
+use Rattle.rules.specs.Window.{putInPlace, putLast, takenOut}
 use Rattle.rules.specs.Run.{run}
-use Rattle.rules.specs.Step.{put, grantedNamed, grantedCreate, granted, refused, requestStep, noticeTo, notified, reportStep, step}
+use Rattle.rules.specs.Step.{stored, put, grantedNamed, grantedCreate, granted, refused, requestStep, noticeTo, notified, reportStep, step}
 use Rattle.rules.specs.Tests.{askedTests, requestNumber, reportNumber}
 use Rattle.cases.specs.Cases.{CasesHold}
 
 pub cases-hold : CasesHold
-unfolding CasesHold overlay lowFirst vectorOf cantOf createdOf noticeOf written headerOf stringOf fixedRight firstFailing unusedZero carriedLength wrongLength wrongHeader misfits rowOf requestForm matches find plantedIn liftedIn removedFrom replanted liftedAt fresh accepts storeVectorAndReplant passes verdictOf recipientOf passed runAfter reported hasBreak hasRoom examined deposited vectorAfter breakSet breakRemoved created cleared restored seen savedFrom sheltered overlaySavedByte overlaySavedWord validBreakAddress absentHasNoHost liftSound usedSound entrySound soundTest validSize keepsRules freshProcess freshProcesses freshStart soundState startOf slot withSlot public ruleOf names run put grantedNamed grantedCreate granted refused requestStep noticeTo notified reportStep step lowestAbsent askedTests requestNumber reportNumber
+unfolding CasesHold overlay lowFirst vectorOf cantOf createdOf noticeOf written headerOf stringOf fixedRight firstFailing fieldsRight carriedLength wrongLength wrongHeader misfits rowOf requestForm matches find plantedIn liftedIn removedFrom replanted liftedAt fresh accepts storeVectorAndReplant passes verdictOf recipientOf passed runAfter reported hasBreak hasRoom examined deposited vectorAfter breakSet breakRemoved created cleared restored seen savedFrom sheltered overlaySavedByte overlaySavedWord validBreakAddress absentHasNoHost liftSound usedSound entrySound soundTest validSize keepsRules freshProcess freshProcesses freshStarts freshStart total used usedBefore startIsUnique placed laidOut recordsSound soundState slot withSlot closed startWithout startsWithout public ruleOf names sizeAsked run putInPlace putLast takenOut stored put grantedNamed grantedCreate granted refused requestStep noticeTo notified reportStep step lowestAbsent askedTests requestNumber reportNumber
 cases-hold = refl

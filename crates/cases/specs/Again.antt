@@ -1,6 +1,6 @@
--- Two laptops, hosts 5 and 6, and a seller's, host 9, who debugs the processes 2 and 4. The seller destroys process 2, and it is created again
--- for host 5. Two gateways and two lists that meet every premise of isolation for the two laptops: until that CREATE the reports, stores and
--- deposits of process 2 differ, and those of process 4 to the end.
+-- Two laptops, hosts 5 and 6, and a seller's, host 9, who debugs the processes 2 and 4. The seller destroys process 2, whereupon the processes
+-- 3 and 4 move down, and it is created again for host 5, last in memory. Two gateways and two lists that meet every premise of isolation for
+-- the two laptops: until that CREATE the reports, stores and deposits of process 2 differ, and those of process 4 to the end.
 use mathlib.Core.Path.{_≡_}
 use mathlib.Core.Bool.{Bool, true, false}
 use mathlib.Core.List.{List, [], _∷_, _++_}
@@ -11,7 +11,8 @@ use Rattle.format.specs.Layout.{written}
 use Rattle.run_state.specs.declared.Run.the-variants.{Running, Stopped}
 use Rattle.run_state.specs.ReportKind.{TRAP, HALT}
 use Rattle.process.specs.Record.{fresh}
-use Rattle.state.specs.Records.{freshStart, withProcess}
+use Rattle.state.specs.Records.{Records, withProcess}
+use Rattle.state.specs.Fresh.{freshStart}
 use Rattle.rules.specs.Tests.{State}
 use Rattle.rules.specs.Access.{grants, refuses}
 use Rattle.rules.specs.Step.{Answer, Call, report, store}
@@ -20,7 +21,7 @@ use Rattle.rules.specs.Total.{oneOf}
 use Rattle.rules.specs.Isolation.{Hosts, Processes, heard}
 use Rattle.rules.specs.Outsider.{only}
 use Rattle.rules.specs.Together.{withoutTheirs, callsOf, TwoRuns}
-use Rattle.cases.specs.Case.{whole, buffer, asked}
+use Rattle.cases.specs.Case.{buffer, asked}
 use Rattle.cases.specs.Cases.{zeros}
 
 -- the two laptops
@@ -35,15 +36,23 @@ sellers = oneOf (2 ∷ 4 ∷ [])
 abbrev pub fiveThere : List Bool
 fiveThere = true ∷ true ∷ true ∷ true ∷ true ∷ false ∷ false ∷ false ∷ []
 
+-- with 2,048 bytes each; host 6 debugs process 3
+abbrev pub atStart : Records
+atStart = withProcess 3 (fresh true 6 Stopped 2048) (freshStart fiveThere (replicate 8 2048))
+
+-- the second byte of process 3, which begins at 6,144, is 4
+abbrev pub lent : List ℕ
+lent = set zeros 6145 4
+
 -- the one gateway: the seller's processes run, and their memory is zero
 abbrev pub one : State
-one = record { records = withProcess 4 (fresh true 9 Running 4096) (withProcess 2 (fresh true 9 Running 4096) (freshStart fiveThere whole)); memory = zeros }
+one = record { records = withProcess 4 (fresh true 9 Running 2048) (withProcess 2 (fresh true 9 Running 2048) atStart); memory = lent }
 
 -- the other: they are stopped, and the first byte of each is 7
 abbrev pub other : State
 other = record {
-  records = withProcess 4 (fresh true 9 Stopped 4096) (withProcess 2 (fresh true 9 Stopped 4096) (freshStart fiveThere whole));
-  memory = set (set zeros 8192 7) 16384 7;
+  records = withProcess 4 (fresh true 9 Stopped 2048) (withProcess 2 (fresh true 9 Stopped 2048) atStart);
+  memory = set (set lent 4096 7) 8192 7;
 }
 
 -- ---- the calls
@@ -97,17 +106,18 @@ otherFirst = deposit 9 2 (3 ∷ []) ∷ store 2 9 6 ∷ store 2 0 6 ∷ []
 abbrev pub otherLast : List Call
 otherLast = deposit 9 4 (5 ∷ 6 ∷ []) ∷ store 4 3 3 ∷ examine 9 4 ∷ []
 
--- the list of the one gateway: host 6 asks for process 2 while the seller has it, host 5 when it is gone, and host 6 for process 4
+-- the list of the one gateway: host 6 asks for process 2 while the seller has it, and looks into process 3 when it has moved; host 5 asks for
+-- process 2 when it is gone, and host 6 for process 4
 abbrev pub oneCalls : List Call
-oneCalls = (examine 9 2 ∷ examine 6 2 ∷ oneFirst) ++ (destroy ∷ debug 5 2 ∷ store 2 1 8 ∷ again) ++ (debug 6 4 ∷ oneLast)
+oneCalls = (examine 9 2 ∷ examine 6 2 ∷ oneFirst) ++ (destroy ∷ examine 6 3 ∷ debug 5 2 ∷ store 2 1 8 ∷ again) ++ (debug 6 4 ∷ oneLast)
 
 -- the list of the other
 abbrev pub otherCalls : List Call
-otherCalls = (examine 9 2 ∷ examine 6 2 ∷ otherFirst) ++ (destroy ∷ debug 5 2 ∷ again) ++ (debug 6 4 ∷ otherLast)
+otherCalls = (examine 9 2 ∷ examine 6 2 ∷ otherFirst) ++ (destroy ∷ examine 6 3 ∷ debug 5 2 ∷ again) ++ (debug 6 4 ∷ otherLast)
 
 -- the one list without what the laptops ask of a hidden process: of process 2 before it is created again, of process 4 anywhere
 abbrev pub oneRest : List Call
-oneRest = (examine 9 2 ∷ oneFirst) ++ (destroy ∷ store 2 1 8 ∷ again) ++ oneLast
+oneRest = (examine 9 2 ∷ oneFirst) ++ (destroy ∷ examine 6 3 ∷ store 2 1 8 ∷ again) ++ oneLast
 
 -- ---- what the laptops receive
 
@@ -119,10 +129,12 @@ answered host cmd pid arg2 string = grants (written (record { host = host; cmd =
 abbrev pub cannot : ℕ → ℕ → ℕ → ℕ → ℕ → Answer
 cannot number host cmd pid arg2 = refuses number (written (record { host = host; cmd = CANT + cmd; pid = pid; arg1 = 0; arg2 = arg2 }) []) buffer
 
--- together, in their order: zeros after CREATE whatever was there, the notice, what was deposited and stored
+-- together, in their order: what was in process 3 before it moved, zeros after CREATE whatever was there, the notice, what was deposited and
+-- stored
 abbrev pub received : List Answer
 received =
     cannot 8 6 EXAMINE 2 2
+    ∷ answered 6 EXAMINE 3 2 (0 ∷ 4 ∷ [])
     ∷ cannot 7 5 DEBUG 2 0
     ∷ answered 5 CREATE 2 0 []
     ∷ answered 5 EXAMINE 2 2 (0 ∷ 0 ∷ [])

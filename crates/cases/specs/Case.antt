@@ -11,7 +11,8 @@ use Rattle.breakpoints.specs.declared.entry.Breakpoint.{Breakpoint}
 use Rattle.run_state.specs.RunState.{runNumber}
 use Rattle.process.specs.declared.record.Process.{Process}
 use Rattle.process.specs.Record.{entry}
-use Rattle.state.specs.Records.{Records, processAt, freshStart}
+use Rattle.state.specs.Records.{Records, processAt, startOf}
+use Rattle.state.specs.Fresh.{freshStart}
 use Rattle.rules.specs.Step.{Call, request}
 use Rattle.rules.specs.Run.{TraceItem, run}
 use Rattle.format.specs.Sizes.{messageBytes}
@@ -25,8 +26,9 @@ pub record Seen : Type 0 where
 
 -- a case: how it starts, its calls, and what is to be seen of each
 pub record Case : Type 0 where
-  -- which processes are there at the start, and the lent memory
+  -- which processes are there at the start, their sizes, and the lent memory
   pub there : List Bool
+  pub sizes : List ℕ
   pub lent : List ℕ
   pub calls : List Call
   -- the places of the lent memory that are looked at after each call
@@ -44,13 +46,9 @@ seenOf places looks e = record {
   records = looks (e .after .records);
 }
 
--- every process has 4,096 bytes
-abbrev pub whole : List ℕ
-whole = replicate 8 4096
-
 -- what is seen when the calls of a case are run
 abbrev pub outcomes : Case → List Seen
-outcomes c = map (seenOf (c .places) (c .looks)) (run (record { records = freshStart (c .there) whole; memory = c .lent }) (c .calls))
+outcomes c = map (seenOf (c .places) (c .looks)) (run (record { records = freshStart (c .there) (c .sizes); memory = c .lent }) (c .calls))
 
 -- ---- what to look at in the records
 
@@ -73,6 +71,14 @@ counts g = map (λ (b : Breakpoint). b .count) (processAt g 2 .breaks)
 -- the saved word in the first entry of process 2
 abbrev pub saved : Records → List ℕ
 saved g = entry (processAt g 2) 0 .low ∷ entry (processAt g 2) 0 .high ∷ []
+
+-- where the bytes of each process begin
+abbrev pub begins : Records → List ℕ
+begins g = g .starts
+
+-- where those of the processes 0 and 2 begin, and the saved word in the first entry of process 2
+abbrev pub moves : Records → List ℕ
+moves g = startOf g 0 ∷ startOf g 2 ∷ saved g
 
 -- the run state of process 2, the count of its first entry and whether that is lifted, and its vector
 abbrev pub progress : Records → List ℕ
@@ -100,3 +106,7 @@ answer number bytes memory records = record { outcome = outcome number (length b
 -- the same where the call is granted and its buffer untouched
 abbrev pub silent : List ℕ → List ℕ → Seen
 silent memory records = record { outcome = outcome 0 0; buffer = buffer; memory = memory; records = records }
+
+-- the same of a store, which has no buffer
+abbrev pub stored : List ℕ → List ℕ → Seen
+stored memory records = record { outcome = outcome 0 0; buffer = []; memory = memory; records = records }

@@ -7,17 +7,18 @@ use Prim.Native.Nat.{ℕ}
 use lib.ListN.{set}
 use Rattle.run_state.specs.declared.Run.the-variants.{Running, Stopped}
 use Rattle.process.specs.Record.{fresh}
-use Rattle.state.specs.Records.{freshStart, withProcess}
+use Rattle.state.specs.Records.{withProcess}
+use Rattle.state.specs.Fresh.{freshStart}
 use Rattle.rules.specs.Tests.{State}
 use Rattle.rules.specs.Step.{Call, report, store}
 use Rattle.rules.specs.Ready.{Ready}
 use Rattle.rules.specs.Run.{run}
 use Rattle.rules.specs.Isolation.{Alike, heard}
 use Rattle.rules.specs.Outsider.{only, Differ, Outside}
-use Rattle.cases.specs.Case.{whole, buffer, asked}
-use Rattle.cases.specs.Cases.{zeros}
+use Rattle.cases.specs.Case.{buffer, asked}
+use Rattle.cases.specs.Cases.{whole, zeros}
 
--- processes 2 and 3
+-- processes 2 and 3, which begin at 0 and at 4,096
 abbrev pub twoThere : List Bool
 twoThere = false ∷ false ∷ true ∷ true ∷ false ∷ false ∷ false ∷ false ∷ []
 
@@ -27,7 +28,7 @@ one = record { records = withProcess 2 (fresh true 6 Running 4096) (freshStart t
 
 -- the other gateway
 abbrev pub other : State
-other = record { records = withProcess 2 (fresh true 6 Stopped 4096) (freshStart twoThere whole); memory = set zeros 8192 7 }
+other = record { records = withProcess 2 (fresh true 6 Stopped 4096) (freshStart twoThere whole); memory = set zeros 0 7 }
 
 -- host 5 asks for process 2, which he does not debug, and examines process 3
 abbrev pub closing : List Call

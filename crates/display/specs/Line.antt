@@ -1,5 +1,5 @@
 -- The line that shows a process.
-use mathlib.Core.Bool.{Bool}
+use mathlib.Core.Bool.{Bool, cond}
 use mathlib.Core.List.{List, [], _∷_, _++_}
 use Prim.Native.Nat.{ℕ}
 use Rattle.lists.specs.Flag.{flag}
@@ -31,10 +31,18 @@ named name n = name ++ field 32 n
 abbrev pub sizeName : List ℕ
 sizeName = 32 ∷ 115 ∷ 105 ∷ 122 ∷ 101 ∷ []
 
+-- ' begin'
+abbrev pub beginName : List ℕ
+beginName = 32 ∷ 98 ∷ 101 ∷ 103 ∷ 105 ∷ 110 ∷ []
+
+-- 'where its bytes begin; 0 where it is absent'
+abbrev pub beginShown : Bool → ℕ → ℕ
+beginShown there start = cond there start 0
+
 -- then the nine words, then the eight entries, then the size
 unfoldable pub recordText : Process → List ℕ
 recordText p = ((headText (p .there) (p .host) (p .run) ++ joined wordText (p .vector)) ++ joined entryText (p .breaks)) ++ named sizeName (p .size)
 
--- the same as a line with its newline
-unfoldable pub processLine : Process → List ℕ
-processLine p = recordText p ++ (10 ∷ [])
+-- the record of a process, then where its bytes begin, as a line with its newline
+unfoldable pub processLine : Process → ℕ → List ℕ
+processLine p start = (recordText p ++ named beginName (beginShown (p .there) start)) ++ (10 ∷ [])

@@ -1,4 +1,4 @@
-// A process record as a line.
+// A process as a line: its record, and where its bytes begin.
 use crate::entry::put_entries;
 use decimal::put_field;
 use decimal::put_number;
@@ -13,7 +13,7 @@ ghost use lib.ListN.{length};
 ghost use Rattle.lists.specs.Buffer.{overlay};
 ghost use Rattle.lists.specs.Joined.{joined};
 ghost use Rattle.lines.specs.Scan.{Put};
-ghost use Rattle.display.specs.Line.{wordText, headText, named, recordText, processLine};
+ghost use Rattle.display.specs.Line.{wordText, headText, named, beginShown, recordText, processLine};
 
 // There, host and run state.
 fn put_head(there: bool, host: u8, run: Run, out: &mut [u8]) -> usize
@@ -66,14 +66,22 @@ fn put_record(p: Process, out: &mut [u8]) -> usize
     put_named(b" size", p.size, entries, out)
 }
 
-// All of a record as a line; the length of the line.
-pub fn put_process(p: Process, out: &mut [u8]) -> usize
-    requires { ⌜ 323 ≤ length (now out) ⌝ }
-    ensures { λ r. ⌜ r ≡ length (processLine p) ⌝ }
-    ensures { λ r. ⌜ r ≤ length (now (out .entry)) ⌝ }
-    ensures { λ _. ⌜ now (out .exit) ≡ overlay (processLine p) (now (out .entry)) ⌝ }
+// Where the bytes of a process begin; 0 where it is absent.
+fn begin_shown(there: bool, start: u16) -> u16
+    ensures { λ r. ⌜ r ≡ beginShown there start ⌝ }
 {
-    let end = put_record(p, out);
+    if there { start } else { 0 }
+}
+
+// All of a record and where the bytes of its process begin, as a line; the length of the line.
+pub fn put_process(p: Process, start: u16, out: &mut [u8]) -> usize
+    requires { ⌜ 335 ≤ length (now out) ⌝ }
+    ensures { λ r. ⌜ r ≡ length (processLine p start) ⌝ }
+    ensures { λ r. ⌜ r ≤ length (now (out .entry)) ⌝ }
+    ensures { λ _. ⌜ now (out .exit) ≡ overlay (processLine p start) (now (out .entry)) ⌝ }
+{
+    let record = put_record(p, out);
+    let end = put_named(b" begin", begin_shown(p.there, start), record, out);
     put_mark(10, end, out);
     end + 1
 }

@@ -1,4 +1,4 @@
--- The sizes of a message.
+-- The sizes of a message, and the largest size that a message can ask for.
 use Prim.Native.Nat.{ℕ}
 
 -- the ten bytes that every message starts with
@@ -12,3 +12,7 @@ stringBytes = 256
 -- the longest message, and so the room that every output buffer needs
 abbrev pub messageBytes : ℕ
 messageBytes = 266
+
+-- 'an even size in ARG1, up to 4,096'
+abbrev pub largestSize : ℕ
+largestSize = 4096

@@ -1,13 +1,15 @@
 // The tests of a message's layout, 3 to 6, in their order.
 use crate::header::Header;
 use crate::sizes::HEADER_BYTES;
+use crate::sizes::LARGEST_SIZE;
 use crate::sizes::MESSAGE_BYTES;
+use ops::ArgUse;
 use ops::Carried;
 use ops::Form;
 use ops::Found;
 ghost use mathlib.Core.Path.{_≡_};
 ghost use Rattle.format.specs.Outcome.{firstFailing};
-ghost use Rattle.format.specs.Refusal.{usedOrZero, unusedZero, carriedLength, wrongLength, wrongHeader, misfits, layoutTests};
+ghost use Rattle.format.specs.Refusal.{usedOrZero, sizeFits, argFits, fieldsRight, carriedLength, wrongLength, wrongHeader, misfits, layoutTests};
 
 // The field is used, or it is zero.
 fn used_or_zero(used: bool, value: u16) -> bool
@@ -16,14 +18,33 @@ fn used_or_zero(used: bool, value: u16) -> bool
     if used { true } else { value == 0 }
 }
 
-// Every field that the form does not use is zero.
-fn unused_zero(f: Form, h: Header) -> bool
-    ensures { λ r. ⌜ r ≡ unusedZero f h ⌝ }
+// The size is even, and at most 4,096; 0 stands for 4,096.
+fn size_fits(size: u16) -> bool
+    ensures { λ r. ⌜ r ≡ sizeFits size ⌝ }
+{
+    size % 2 == 0 && size <= LARGEST_SIZE
+}
+
+// ARG1 holds what its use allows.
+fn arg_fits(used: ArgUse, value: u16) -> bool
+    ensures { λ r. ⌜ r ≡ argFits used value ⌝ }
+{
+    match used {
+        ArgUse::Unused => value == 0,
+        ArgUse::Any => true,
+        ArgUse::Size => size_fits(value),
+    }
+}
+
+// Every field that the form does not use is zero, and a size fits.
+fn fields_right(f: Form, h: Header) -> bool
+    ensures { λ r. ⌜ r ≡ fieldsRight f h ⌝ }
 {
     if !used_or_zero(f.pid, h.pid as u16) {
         return false;
     }
-    if !used_or_zero(f.arg1, h.arg1) {
+    let arg1 = f.arg1;
+    if !arg_fits(arg1, h.arg1) {
         return false;
     }
     used_or_zero(f.arg2, h.arg2)
@@ -60,11 +81,11 @@ fn wrong_header(fixed: bool, host: u8) -> bool
     true
 }
 
-// Test 6: an unused field is not zero, or the string has the wrong length.
+// Test 6: an unused field is not zero, a size is odd or over 4,096, or the string has the wrong length.
 fn misfits(f: Form, h: Header, length: usize) -> bool
     ensures { λ r. ⌜ r ≡ misfits f h length ⌝ }
 {
-    if !unused_zero(f, h) {
+    if !fields_right(f, h) {
         return true;
     }
     let carried = f.carried;

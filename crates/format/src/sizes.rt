@@ -1,4 +1,4 @@
-// The sizes of a message.
+// The sizes of a message, and the largest size that a message can ask for.
 
 // The ten bytes that every message starts with.
 pub const HEADER_BYTES: usize = 10;
@@ -8,3 +8,6 @@ pub const STRING_BYTES: usize = 256;
 
 // The longest message, and so the room that every output buffer needs.
 pub const MESSAGE_BYTES: usize = 266;
+
+// The largest size of a process that CREATE asks for.
+pub(crate) const LARGEST_SIZE: u16 = 4096;

@@ -1,14 +1,15 @@
 -- A request that was read, at the process that it goes to. Assumes nothing.
 use mathlib.Core.Path.{_≡_, refl, sym, ap, _∙_, subst}
-use mathlib.Core.Bool.{Bool, true, false, cond}
+use mathlib.Core.Bool.{Bool, true, false, not, cond}
 use mathlib.Core.List.{List, [], _∷_}
 use Prim.Native.Nat.{ℕ, zero, suc, _≤_, _<_}
 use native.Mathlib.Omega.{arith}
-use borrow.Author.Tests.{eqb-true, ne-eqb, lt-ltb, le-ltb, ltb-true, ltb-false, leb-true}
+use borrow.Author.Tests.{eqb-true, ne-eqb, lt-ltb, le-ltb, ltb-true, ltb-false, leb-true, not-true, not-false}
 use lib.ListN.{length}
-use lib.Dec.{ltb, leb}
+use lib.Dec.{eqb, ltb, leb}
 use Rattle.lists.specs.Every.{every}
 use Rattle.lists.proofs.Bool.{&&-left, &&-right}
+use Rattle.lists.proofs.First.{first-passes as first-is}
 use Rattle.format.specs.declared.header.Header.{Header}
 use Rattle.format.specs.declared.outcome.Reading.{Reading}
 use Rattle.format.specs.declared.outcome.Reading.the-variants.{Message, Refused as ReadingRefused}
@@ -20,12 +21,17 @@ use Rattle.message.specs.Exchange.{readNumber, reads}
 use Rattle.message.specs.Incoming.{incoming, received}
 use Rattle.message.specs.declared.request.Incoming.{Incoming}
 use Rattle.message.specs.declared.request.Incoming.the-variants.{Request, Refused as IncomingRefused}
-use Rattle.format.proofs.OutcomeLaws.{message-zero, message-header}
-use Rattle.rules.specs.Rule.{ruleOf, names, creates}
-use Rattle.state.specs.Records.{lowestAbsent}
-use Rattle.rules.specs.Tests.{State, recordOf, askedTests}
+use Rattle.format.proofs.OutcomeLaws.{message-zero, message-header, first-passes}
+use Rattle.ops.specs.Codes.{CREATE}
+use Rattle.process.specs.declared.record.Process.{Process}
+use Rattle.process.specs.Sizes.{memoryBytes}
+use Rattle.state.specs.Records.{nobody, lowestAbsent}
+use Rattle.state.specs.Layout.{freeBytes}
+use Rattle.rules.specs.Rule.{ruleOf, names, creates, sizeAsked}
+use Rattle.rules.specs.Tests.{State, recordOf, ruleTests, noPlace, askedTests}
+use Rattle.rules.specs.Ready.{Ready}
 use Rattle.rules.specs.Step.{Answer, StepResult, replyOf, localOf, put, grantedNamed, grantedCreate, granted, refused}
-use Rattle.rules.proofs.NumberLaws.{envelope, envelope-sent}
+use Rattle.rules.proofs.NumberLaws.{Sent, layout-sent}
 use Rattle.rules.proofs.StateLaws.{put-same, put-over}
 use Rattle.checks.specs.Decision.{processTests}
 use Rattle.service.specs.declared.target.Target.{Target}
@@ -60,12 +66,28 @@ unfolding Found
 refused-found m n e = subst (Found (reads requestForm m)) (sym e) (found m)
 
 module _ (m : List ℕ) (h : Header) (e : reads requestForm m ≡ Message h) where
-  pub carried-short : (buffer : List ℕ) → 266 ≤ length buffer → length (stringOf m) ≤ h .arg2
-  unfolding reads envelope firstFailing readNumber
-  carried-short buffer long =
-      let layout = readNumber (requestForm (headerOf m .cmd)) m in
-      let sent : envelope m buffer ≡ 0 = rw (le-ltb _ _ long) (message-zero layout (headerOf m) h e) in
-      rw (message-header layout (headerOf m) h e) at (envelope-sent m buffer sent .carried)
+  sent : Sent m
+  unfolding reads readNumber
+  sent = layout-sent m (message-zero (readNumber (requestForm (headerOf m .cmd)) m) (headerOf m) h e)
+
+  fields : headerOf m ≡ h
+  unfolding reads
+  fields = message-header (readNumber (requestForm (headerOf m .cmd)) m) (headerOf m) h e
+
+  pub carried-short : length (stringOf m) ≤ h .arg2
+  carried-short = rw fields at (sent .carried)
+
+  -- a CREATE asks for no more than the greatest size
+  pub create-short : creates (h .cmd) ≡ true → sizeAsked h ≤ memoryBytes
+  unfolding sizeAsked
+  create-short c = by-size (eqb (h .arg1) 0)
+    where
+      most : h .arg1 ≤ memoryBytes
+      most = rw fields at (sent .size (rw fields (eqb-true (h .cmd) CREATE c)) .most)
+
+      by-size : (t : Bool) → cond t memoryBytes (h .arg1) ≤ memoryBytes
+      by-size true = omega arith
+      by-size false = most
 
 -- ---- the numbers from 7 on
 
@@ -111,6 +133,13 @@ goes h = by-name (asks (op (h .cmd)) .pid) refl
 pub target-says : (h : Header) (form : Form) (t : Target) → form ≡ asks (op (h .cmd)) → t ≡ targetOf form h → Goes h t
 target-says h form t f e = subst (Goes h) (sym (e ∙ ap (λ (x : Form). targetOf x h) f)) (goes h)
 
+-- the lowest absent process is absent
+pub lowest-is-absent : (s : State) → Ready s → lowestAbsent (s .records) < 8 → recordOf s (lowestAbsent (s .records)) .there ≡ false
+unfolding lowestAbsent
+lowest-is-absent s r low =
+    let eight = r .processes in
+    not-true _ (first-is (λ (p : Process). not (p .there)) (s .records .processes) nobody (omega (arith, low, eight)))
+
 -- ---- at that process
 
 -- what a call at process p answers and leaves
@@ -136,10 +165,11 @@ module _ (h : Header) (string buffer : List ℕ) (s : State) where
     number-high z = high-first (processTests h (recordOf s p)) refl z
 
     by-number : (k : ℕ) → number ≡ k → asked h string buffer s ≡ stepped p (namedBy k h string buffer (localOf s p)) s
-    unfolding asked granted grantedNamed refused namedBy cantBy
+    unfolding asked granted grantedNamed refused namedBy cantBy number
     by-number zero e =
+        let there : recordOf s (h .pid) .there ≡ true = rw here (not-false (recordOf s p .there) (first-passes 6 (not (recordOf s p .there)) (ruleTests (ruleOf (h .cmd)) h (recordOf s p)) e)) in
         rw (number-asked, e, n, ← here)
-        (ap (λ (t : State). record { answer = replyOf h (ruleOf (h .cmd) .shown h (localOf s (h .pid))) buffer; after = t }) (sym (put-over (h .pid) (ruleOf (h .cmd) .effect h string (localOf s (h .pid))) s)))
+        (ap (λ (t : State). record { answer = replyOf h (ruleOf (h .cmd) .shown h (localOf s (h .pid))) buffer; after = t }) (sym (put-over (h .pid) (ruleOf (h .cmd) .effect h string (localOf s (h .pid))) s there)))
     by-number (suc k) e =
         let long = number-high (λ z. omega (arith, sym e ∙ z)) in
         rw (number-asked, e, ne-eqb (suc k) 0 (λ z. omega (arith, z)), le-ltb (suc k) 7 (rw e at long), put-same p s)
@@ -153,13 +183,13 @@ module _ (h : Header) (string buffer : List ℕ) (s : State) where
   asked-beyond g = rw (g .0, le-ltb (h .pid) 8 (g .1))
 
   module _ (g : Goes h New) where
-    pub asked-new : (p : ℕ) → p ≡ lowestAbsent (s .records) → p < 8 → asked h string buffer s ≡ stepped p (createdAt p h buffer) s
+    pub asked-new : (p : ℕ) → p ≡ lowestAbsent (s .records) → p < 8 → sizeAsked h ≤ freeBytes (s .records) → asked h string buffer s ≡ stepped p (createdAt p h buffer) s
     unfolding createdAt asked granted grantedCreate askedTests firstFailing
-    asked-new p e low = rw (g .0, g .1, ← e, lt-ltb p 8 low)
+    asked-new p e low room = rw (g .0, g .1, ← e, lt-ltb p 8 low, le-ltb _ _ room)
 
-    pub asked-full : 8 ≤ lowestAbsent (s .records) → asked h string buffer s ≡ unmoved (cantBy 13 h buffer) s
+    pub asked-full : noPlace h s ≡ true → asked h string buffer s ≡ unmoved (cantBy 13 h buffer) s
     unfolding cantBy asked refused askedTests firstFailing
-    asked-full far = rw (g .0, g .1, le-ltb _ _ far)
+    asked-full full = rw (g .0, g .1, full)
 
   pub asked-nowhere : Goes h Nowhere → asked h string buffer s ≡ unmoved (replyOf h [] buffer) s
   unfolding asked granted askedTests firstFailing

@@ -19,7 +19,11 @@ use Rattle.rules.specs.Together.{withoutTheirs, callsOf}
 use Rattle.rules.proofs.TotalLaws.{total}
 use Rattle.rules.proofs.RightsLaws.{rights}
 use Rattle.rules.proofs.OutsiderLaws.{isolation}
-use Rattle.state_bytes.specs.State.{stateOf, stateFormed, stateSound}
+use Rattle.rules.proofs.FreeLaws.{free-bytes}
+use Rattle.rules.proofs.CreateLaws.{create-rule}
+use Rattle.rules.proofs.DestroyLaws.{destroy-rule, nothing-is-left}
+use Rattle.rules.proofs.LedgerLaws.{ledger}
+use Rattle.state_bytes.specs.State.{stateFormed, stateSound}
 use Rattle.gateway.specs.Called.{Called, called, finished, lentOn, refusedBy, callOn, machineStored, Did}
 use Rattle.gateway.specs.Sequence.{Begins, Made, readFrom}
 use Rattle.gateway.specs.Demands.{TotalOnBytes, ListsOnBytes, Demands}
@@ -144,4 +148,6 @@ demands = record {
   total = total;
   rights = rights;
   isolation = isolation;
+  one-memory = record { free-bytes = free-bytes; create = create-rule; destroy = destroy-rule; nothing-is-left = nothing-is-left };
+  ledger = ledger;
 }

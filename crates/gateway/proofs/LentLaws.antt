@@ -4,23 +4,23 @@ use mathlib.Core.Bool.{Bool, true, false, not, cond}
 use mathlib.Core.List.{List}
 use Prim.Native.Nat.{ℕ}
 use native.Mathlib.Omega.{arith}
-use borrow.Author.Tests.{eqb-true}
 use lib.ListN.{length}
-use lib.Dec.{eqb}
-use Rattle.lists.proofs.Bool.{&&-left}
+use Rattle.lists.proofs.Bool.{&&-both}
 use Rattle.format.specs.declared.outcome.Outcome.{Outcome}
 use Rattle.format.specs.declared.outcome.Outcome.the-variants.{Refused}
 use Rattle.format.specs.Outcome.{firstFailing}
 use Rattle.format.proofs.OutcomeLaws.{outcome-other}
-use Rattle.state.specs.Records.{soundTest}
+use Rattle.state.specs.Sound.{soundTest}
 use Rattle.rules.specs.Tests.{State, lent, noRoom}
 use Rattle.rules.specs.Step.{Call, request, report, answers, step, requestStep, reportStep}
 use Rattle.rules.specs.Turn.{bufferOf}
 use Rattle.rules.specs.Isolation.{isGranted}
+use Rattle.rules.specs.Ready.{Ready}
 use Rattle.state_bytes.specs.Widths.{stateWidth}
 use Rattle.state_bytes.specs.State.{stateOf, stateFormed, stateSound}
 use Rattle.gateway.specs.Stage.{lentNumber}
 use Rattle.gateway.specs.Called.{called, lentOn, finished, callOn}
+use Rattle.gateway.proofs.ReadyLaws.{formed-long, sound-ready}
 use Rattle.gateway.proofs.StageLaws.{Fit, lent-fit, request-lent}
 use Rattle.gateway.proofs.ReportLaws.{report-lent}
 
@@ -57,8 +57,14 @@ module _ (state memory buffer : List ℕ) where
   lent-fits e = lent-fit (stateOf state) memory buffer (lent-passes e)
 
   pub lent-long : lentOn state memory buffer ≡ 0 → length state ≡ stateWidth
-  unfolding stateFormed
-  lent-long e = eqb-true (length state) stateWidth (&&-left (eqb (length state) stateWidth) _ (lent-formed e))
+  lent-long e = formed-long state (lent-formed e)
+
+  pub lent-sound : lentOn state memory buffer ≡ 0 → stateSound state ≡ true
+  unfolding stateSound
+  lent-sound e = &&-both (stateFormed state) (soundTest (stateOf state)) (lent-formed e) (lent-fits e .sound)
+
+  pub lent-ready : lentOn state memory buffer ≡ 0 → Ready (lent (stateOf state) memory)
+  lent-ready e = sound-ready state memory (lent-sound e) (lent-fits e .memory)
 
   -- a refused step leaves the bytes
   pub finished-refused : (n : ℕ) → finished state (answers (Refused n) buffer s) ≡ called (Refused n) state memory buffer

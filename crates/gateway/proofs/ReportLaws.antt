@@ -1,5 +1,5 @@
 -- A machine report stage by stage: refused by what is lent or by its own fields, or heard at its process. Assumes nothing.
-use mathlib.Core.Path.{_≡_, refl, _∙_}
+use mathlib.Core.Path.{_≡_, refl, ap, _∙_}
 use mathlib.Core.Bool.{Bool, true, false, not, cond, _&&_}
 use mathlib.Core.List.{List}
 use Prim.Native.Nat.{ℕ, zero, suc, _<_}
@@ -10,9 +10,12 @@ use Rattle.format.specs.declared.outcome.Outcome.the-variants.{Refused}
 use Rattle.format.specs.Outcome.{firstFailing}
 use Rattle.format.proofs.OutcomeLaws.{outcome-other, first-passes, rest-passes}
 use Rattle.run_state.specs.RunState.{accepts}
+use Rattle.process.specs.Local.{Local}
+use Rattle.rules.specs.Rule.{Public, public}
 use Rattle.rules.specs.Tests.{State, recordOf, noRoom, unsound, badReport, reportNumber}
 use Rattle.rules.specs.Step.{answers, localOf, put, notified, reportStep}
 use Rattle.rules.proofs.NumberLaws.{orElse}
+use Rattle.rules.proofs.RuleLaws.{public-reported}
 use Rattle.rules.proofs.StateLaws.{put-same}
 use Rattle.service.specs.At.{reportAway, reportNumberAt, reportBy, reportAt}
 use Rattle.gateway.specs.Stage.{lentNumber}
@@ -26,6 +29,16 @@ staged false false true d e f = refl
 staged false false false false e f = refl
 staged false false false true false f = refl
 staged false false false true true f = refl
+
+-- a process that is there stays
+stays-by : (n p kind reason : ℕ) (words buffer : List ℕ) (l : Local) → reportBy n p kind reason words buffer l .left .process .there ≡ l .process .there
+unfolding reportBy public
+stays-by zero p kind reason words buffer l = ap (λ (u : Public). u .there) (public-reported kind words l)
+stays-by (suc n) p kind reason words buffer l = refl
+
+pub report-stays : (p kind reason : ℕ) (words buffer : List ℕ) (l : Local) → reportAt p kind reason words buffer l .left .process .there ≡ l .process .there
+unfolding reportAt
+report-stays p kind reason words buffer l = stays-by (reportNumberAt kind (l .process)) p kind reason words buffer l
 
 module _ (s : State) (p kind reason : ℕ) (words buffer : List ℕ) where
   stages : reportNumber s p kind reason buffer ≡ orElse (lentNumber s buffer) (orElse (reportAway p kind reason) (reportNumberAt kind (recordOf s p)))

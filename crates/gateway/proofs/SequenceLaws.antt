@@ -1,6 +1,6 @@
 -- Calls on bytes, one after another, are a run of the rules. Assumes nothing.
 use mathlib.Core.Path.{_≡_, refl, sym, ap, ap₂, _∙_, subst}
-use mathlib.Core.Bool.{Bool, true, false, cond, _&&_, true≢false}
+use mathlib.Core.Bool.{Bool, true, false, cond, true≢false}
 use mathlib.Core.List.{List, [], _∷_}
 use Prim.Native.Nat.{ℕ, _+_, _<_}
 use native.Mathlib.Nat.{not-suc-le-zero}
@@ -9,57 +9,38 @@ use borrow.Author.Tests.{eq-eqb, lt-ltb, ltb-true, ltb-false}
 use lib.ListN.{length, getD, set, List·getD-eq-default}
 use lib.Seq.{set-getD}
 use lib.Dec.{ltb}
-use Rattle.lists.specs.Word.{vectorOf}
-use Rattle.lists.proofs.Bool.{&&-left, &&-right}
-use Rattle.format.specs.declared.outcome.Outcome.{Outcome}
-use Rattle.format.specs.Outcome.{numberOf}
 use Rattle.process.specs.declared.record.Process.{Process}
 use Rattle.process.specs.Record.{fresh}
 use Rattle.process.specs.Request.{cleared}
-use Rattle.process.specs.Local.{extent}
-use Rattle.state.specs.Records.{Records, nobody, processAt, freshProcess, freshStart, sizesRight, SoundState}
-use Rattle.state.specs.Slot.{capacity, startOf}
-use Rattle.state.specs.Theorems.{EightEntries, FreshIsSound}
-use Rattle.state.proofs.SlotLaws.{length-slot, set-slot}
-use Rattle.state.proofs.RecordsLaws.{state-passes, fresh-is-sound, length-freshProcesses, getD-freshProcesses}
-use Rattle.rules.specs.Tests.{State, lent, noRoom}
-use Rattle.rules.specs.Step.{Answer, StepResult, Call, request, report, store, stored, put, step}
+use Rattle.process.specs.Local.{Local, local}
+use Rattle.state.specs.Records.{Records, nobody, processAt, startOf}
+use Rattle.state.specs.Layout.{capacity, extentAt}
+use Rattle.state.specs.Sound.{SoundState}
+use Rattle.state.specs.Fresh.{freshProcess, freshStart, sizesRight}
+use Rattle.state.specs.Theorems.{FreshIsSound}
+use Rattle.state.proofs.MemoryLaws.{set-slot}
+use Rattle.state.proofs.SoundLaws.{state-passes}
+use Rattle.state.proofs.FreshLaws.{fresh-is-sound, length-freshProcesses, getD-freshProcesses, length-freshStarts}
+use Rattle.rules.specs.Tests.{State, lent, recordOf}
+use Rattle.rules.specs.Window.{putInPlace}
+use Rattle.rules.specs.Step.{Answer, StepResult, Call, request, report, store, stored, localOf, step}
 use Rattle.rules.specs.Ready.{Ready, Worded, Typed}
 use Rattle.rules.specs.Run.{TraceItem, traceItem, run}
 use Rattle.rules.specs.Isolation.{isGranted}
-use Rattle.rules.proofs.StateLaws.{extent-low}
+use Rattle.rules.proofs.StateLaws.{put-stays, length-local}
 use Rattle.rules.proofs.StepLaws.{by-test}
 use Rattle.rules.proofs.TotalLaws.{total}
-use Rattle.state_bytes.specs.Chunk.{chunks}
-use Rattle.state_bytes.specs.Process.{processOf}
-use Rattle.state_bytes.specs.Entry.{entryOf}
-use Rattle.state_bytes.specs.State.{stateBytes, stateOf, stateFormed, stateSound}
+use Rattle.state_bytes.specs.State.{stateBytes, stateOf, stateFormed}
 use Rattle.state_bytes.specs.Theorems.{Sized}
-use Rattle.state_bytes.specs.Widths.{processCount, processWidth, stateWidth}
-use Rattle.state_bytes.proofs.ChunkLaws.{length-chunks, getD-chunks}
+use Rattle.state_bytes.specs.Widths.{stateWidth}
 use Rattle.state_bytes.proofs.StateLaws.{inverse, eight-at}
-use Rattle.gateway.specs.Called.{Called, called, finished, callOn, machineStored, lentOn, startOn, Did}
+use Rattle.gateway.specs.Called.{Called, finished, callOn, machineStored, lentOn, startOn, Did}
 use Rattle.gateway.specs.Sequence.{Begins, Done, AllTyped, item, items, readFrom}
-use Rattle.gateway.proofs.LentLaws.{lent-formed, lent-fits}
-
--- ---- what is read from any bytes has the sizes of the code's types
-
-process-sizes : (m : List ℕ) → (length (processOf m .vector) ≡ 9) × (length (processOf m .breaks) ≡ 8)
-unfolding processOf vectorOf chunks
-process-sizes m = (refl, refl)
-
-at-sizes : (m : List ℕ) (p : ℕ) → p < 8 → (length (processAt (stateOf m) p .vector) ≡ 9) × (length (processAt (stateOf m) p .breaks) ≡ 8)
-unfolding stateOf
-at-sizes m p h = rw (getD-chunks processWidth processOf processCount p m nobody h) (process-sizes _)
-
-pub read-worded : (state memory : List ℕ) → Worded (readFrom state memory)
-read-worded state memory p h = at-sizes state p h .0
-
-pub read-eight : (state : List ℕ) → EightEntries (stateOf state)
-read-eight state p h = at-sizes state p h .1
+use Rattle.gateway.proofs.ReadyLaws.{read-worded}
+use Rattle.gateway.proofs.LentLaws.{lent-formed, lent-ready}
 
 sized-of : (s : State) → Ready s → Worded s → Sized (s .records)
-sized-of s r w = record { processes = r .processes; vectors = w; entries = r .entries }
+sized-of s r w = record { processes = r .processes; vectors = w; entries = r .entries; starts = r .starts }
 
 -- ---- one call
 
@@ -100,13 +81,21 @@ module _ (state memory : List ℕ) (b : Begins state memory) (c : Call) (typed :
   unfolding callOn
   call-follows x e = finished-follows x (rw (b .formed) at e)
 
+-- the process that the machine stores into, after it
+abbrev storedAt : ℕ → ℕ → ℕ → State → Local
+storedAt p a v before = local (recordOf before p) (set (localOf before p .bytes) a v)
+
 -- the records stay when the machine stores
 stored-records : (p a v : ℕ) (before : State) → stored p a v before .records ≡ before .records
-unfolding stored put
-stored-records p a v before = by-test (λ (t : State). t .records ≡ before .records) (ltb p 8) (λ e. ap (λ (ps : List Process). record { processes = ps }) (set-getD (before .records .processes) p nobody)) (λ e. refl)
+unfolding stored putInPlace
+stored-records p a v before =
+    by-test (λ (t : State). t .records ≡ before .records) (ltb p 8)
+    (λ e. ap (λ (t : State). t .records) (put-stays p (storedAt p a v before) before refl)
+    ∙ ap (λ (ps : List Process). record { processes = ps; starts = before .records .starts }) (set-getD (before .records .processes) p nobody))
+    (λ e. refl)
 
 -- a process with bytes is one of the eight
-few : (state : List ℕ) (p a : ℕ) → a < extent (processAt (stateOf state) p) → p < 8
+few : (state : List ℕ) (p a : ℕ) → a < extentAt (stateOf state) p → p < 8
 few state p a h = go (ltb p 8) refl
   where
     go : (t : Bool) → ltb p 8 ≡ t → p < 8
@@ -115,16 +104,17 @@ few state p a h = go (ltb p 8) refl
         let none : processAt (stateOf state) p ≡ nobody = List·getD-eq-default (stateOf state .processes) nobody (omega (arith, eight-at state, ltb-false p 8 e)) in
         absurd (not-suc-le-zero (rw none at h))
 
-stored-memory : (state memory : List ℕ) → Begins state memory → (p a v : ℕ) → a < extent (processAt (stateOf state) p)
-    → set memory (startOf p + a) v ≡ stored p a v (readFrom state memory) .memory
-unfolding stored put
+stored-memory : (state memory : List ℕ) → Begins state memory → (p a v : ℕ) → a < extentAt (stateOf state) p
+    → set memory (startOf (stateOf state) p + a) v ≡ stored p a v (readFrom state memory) .memory
+unfolding stored putInPlace
 stored-memory state memory b p a v h =
+    let before = readFrom state memory in
     let low = few state p a h in
-    let n = extent (processAt (stateOf state) p) in
-    let long = length-slot p n memory low (b .ready .memory) (extent-low (readFrom state memory) (b .ready) p low) in
-    rw (lt-ltb p 8 low) (set-slot p n a v memory low (b .ready .memory) (omega (arith, h, long)))
+    rw (lt-ltb p 8 low)
+    (set-slot (startOf (stateOf state) p) (extentAt (stateOf state) p) a v memory (omega (arith, h, length-local before (b .ready) p low))
+    ∙ sym (ap (λ (t : State). t .memory) (put-stays p (storedAt p a v before) before refl)))
 
-store-follows : (state memory : List ℕ) → Begins state memory → (p a v : ℕ) (x : Called) → a < extent (processAt (stateOf state) p) → x ≡ machineStored p a v state memory
+store-follows : (state memory : List ℕ) → Begins state memory → (p a v : ℕ) (x : Called) → a < extentAt (stateOf state) p → x ≡ machineStored p a v state memory
     → Follows state memory (store p a v) x
 unfolding machineStored step
 store-follows state memory b p a v x h e = rw e (record {
@@ -175,6 +165,7 @@ module _ (ts : List Bool) (ns : List ℕ) (long : length ts ≡ 8) (right : size
     processes = length-freshProcesses ts ns ∙ long;
     vectors = λ p h. at-fresh p h .0;
     entries = λ p h. at-fresh p h .1;
+    starts = length-freshStarts 0 ts ns ∙ long;
   }
 
   fresh-sound : SoundState (freshStart ts ns)
@@ -185,6 +176,7 @@ module _ (ts : List Bool) (ns : List ℕ) (long : length ts ≡ 8) (right : size
   fresh-ready memory size = record {
     memory = size;
     processes = fresh-sized .processes;
+    starts = fresh-sized .starts;
     entries = fresh-sized .entries;
     sound = state-passes (freshStart ts ns) (fresh-sized .entries) fresh-sound;
   }
@@ -197,9 +189,4 @@ module _ (ts : List Bool) (ns : List ℕ) (long : length ts ≡ 8) (right : size
   })
 
 pub passed-begins : (state memory buffer : List ℕ) → lentOn state memory buffer ≡ 0 → Begins state memory
-passed-begins state memory buffer e =
-    let fits = lent-fits state memory buffer e in
-    record {
-      formed = lent-formed state memory buffer e;
-      ready = record { memory = fits .memory; processes = eight-at state; entries = read-eight state; sound = fits .sound };
-    }
+passed-begins state memory buffer e = record { formed = lent-formed state memory buffer e; ready = lent-ready state memory buffer e }

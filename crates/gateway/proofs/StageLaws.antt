@@ -19,7 +19,9 @@ use Rattle.message.specs.Exchange.{readNumber, reads}
 use Rattle.format.specs.declared.outcome.Outcome.the-variants.{Refused as OutcomeRefused}
 use Rattle.format.specs.declared.outcome.Reading.the-variants.{Refused as ReadingRefused}
 use Rattle.format.proofs.OutcomeLaws.{outcome-other, message-header, first-passes, rest-passes}
-use Rattle.state.specs.Records.{Records, soundTest}
+use Rattle.state.specs.Records.{Records}
+use Rattle.state.specs.Layout.{capacity}
+use Rattle.state.specs.Sound.{soundTest}
 use Rattle.rules.specs.Tests.{State, lent, noRoom, unsound, askedTests, requestNumber}
 use Rattle.rules.specs.Step.{answers, refused, requestStep}
 use Rattle.rules.proofs.NumberLaws.{orElse}
@@ -105,7 +107,7 @@ module _ (s : State) (m buffer : List ℕ) where
 -- ---- what is lent, where the tests 1 and 2 pass
 
 pub record Fit (g : Records) (m buffer : List ℕ) : Type 0 where
-  pub memory : length m ≡ 32768
+  pub memory : length m ≡ capacity
   pub room : 266 ≤ length buffer
   pub sound : soundTest g ≡ true
 
@@ -114,7 +116,7 @@ unfolding lentNumber
 lent-fit g memory buffer e =
     let one = first-passes 0 _ _ e in
     record {
-      memory = eqb-true (length memory) 32768 (not-false _ (||-left _ _ one));
-      room = ltb-false (length buffer) 266 (||-right (not (eqb (length memory) 32768)) _ one);
+      memory = eqb-true (length memory) capacity (not-false _ (||-left _ _ one));
+      room = ltb-false (length buffer) 266 (||-right (not (eqb (length memory) capacity)) _ one);
       sound = not-false _ (first-passes 1 _ _ (rest-passes 0 _ _ e));
     }

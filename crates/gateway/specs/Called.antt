@@ -7,9 +7,9 @@ use lib.ListN.{length, set}
 use lib.Dec.{eqb}
 use Rattle.format.specs.declared.outcome.Outcome.{Outcome}
 use Rattle.format.specs.Outcome.{outcome}
-use Rattle.state.specs.Records.{processAt, freshStart, sizesRight}
-use Rattle.state.specs.Slot.{startOf}
-use Rattle.process.specs.Local.{extent}
+use Rattle.state.specs.Records.{startOf}
+use Rattle.state.specs.Layout.{extentAt}
+use Rattle.state.specs.Fresh.{freshStart, sizesRight}
 use Rattle.rules.specs.Tests.{lent, noRoom}
 use Rattle.rules.specs.Step.{StepResult, Call, request, report, store, step}
 use Rattle.rules.specs.Turn.{bufferOf}
@@ -47,15 +47,17 @@ callOn state memory c =
     cond (stateFormed state) (finished state (step (lent (stateOf state) memory) c))
     (refusedBy (lentOn state memory (bufferOf c)) state memory (bufferOf c))
 
--- what the machine leaves when it stores a byte at an address of process p: it changes memory alone and is told nothing
+-- what the machine leaves when it stores a byte at an address of process p, whose bytes begin where the state says: it changes memory alone
+-- and is told nothing
 unfoldable pub machineStored : ℕ → ℕ → ℕ → List ℕ → List ℕ → Called
-machineStored p a v state memory = called (outcome 0 0) state (set memory (startOf p + a) v) []
+machineStored p a v state memory = called (outcome 0 0) state (set memory (startOf (stateOf state) p + a) v) []
 
--- a call of the code on these bytes of a state and this memory answered and left this; or the machine stored a byte 'into a process's memory'
+-- a call of the code on these bytes of a state and this memory answered and left this; or the machine stored a byte, 'only within a process's
+-- own bytes'
 unfoldable pub Did : List ℕ → List ℕ → Call → Called → Type 0
 Did state memory (request m buffer) x = x ≡ callOn state memory (request m buffer)
 Did state memory (report p kind reason words buffer) x = x ≡ callOn state memory (report p kind reason words buffer)
-Did state memory (store p a v) x = (a < extent (processAt (stateOf state) p)) × (x ≡ machineStored p a v state memory)
+Did state memory (store p a v) x = (a < extentAt (stateOf state) p) × (x ≡ machineStored p a v state memory)
 
 -- what a fresh start answers, and the bytes of the state after it
 pub record StartResult : Type 0 where
@@ -67,7 +69,7 @@ abbrev pub started : Outcome → List ℕ → StartResult
 started o state = record { outcome = o; state = state }
 
 -- a fresh start with these processes and sizes: refused with 1 where the state's buffer has not its length, and with 2 for a bad size 'of a
--- process then there'
+-- process then there', and for 'more than' the memory holds
 unfoldable pub startOn : List Bool → List ℕ → List ℕ → StartResult
 startOn there sizes state =
     cond (eqb (length state) stateWidth)

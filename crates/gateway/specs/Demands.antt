@@ -5,8 +5,8 @@ use mathlib.Core.List.{List, [], _∷_}
 use Prim.Native.Nat.{ℕ, _<_}
 use lib.ListN.{length}
 use Rattle.format.specs.Outcome.{numberOf}
-use Rattle.state.specs.Records.{sizesRight}
-use Rattle.state.specs.Slot.{capacity}
+use Rattle.state.specs.Layout.{capacity}
+use Rattle.state.specs.Fresh.{sizesRight}
 use Rattle.rules.specs.Step.{Call, request, report, localOf}
 use Rattle.rules.specs.Ready.{Typed}
 use Rattle.rules.specs.Run.{TraceItem, run, leave}
@@ -15,6 +15,8 @@ use Rattle.rules.specs.Rights.{Rights, MayChange}
 use Rattle.rules.specs.Isolation.{Hosts, Processes, Alike, Apart, heard, theirs, publicOf}
 use Rattle.rules.specs.Outsider.{only, Differ, Never}
 use Rattle.rules.specs.Together.{Away, AlikeRuns, withoutTheirs, callsOf, Isolation}
+use Rattle.rules.specs.OneMemory.{OneMemory}
+use Rattle.rules.specs.Ledger.{Ledger}
 use Rattle.state_bytes.specs.Widths.{stateWidth}
 use Rattle.gateway.specs.Called.{Called, Did, lentOn, refusedBy, startOn}
 use Rattle.gateway.specs.Sequence.{Begins, Made, readFrom}
@@ -81,3 +83,7 @@ pub record Demands : Type 0 where
   pub rights : Rights
   -- demand 3, for sets of hosts and processes, and for one host and one process
   pub isolation : Isolation
+  -- what CREATE and DESTROY do to the one memory, and that nothing of a destroyed process is left
+  pub one-memory : OneMemory
+  -- free bytes and sizes always make the whole of it
+  pub ledger : Ledger

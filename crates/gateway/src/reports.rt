@@ -1,10 +1,10 @@
 // A machine report, with the buffer for its notice.
 use crate::kept::keep;
 use crate::lent::check_buffers_and_state;
+use crate::part::start_of;
 use format::Outcome;
 use service::check_report;
 use service::report_for_process;
-use state::start;
 use state_bytes::read_process_at;
 ghost use mathlib.Core.Path.{_≡_};
 ghost use Rattle.rules.specs.Tests.{lent};
@@ -29,9 +29,8 @@ fn report_known(
 {
     let index = pid as usize;
     let process = read_process_at(state, index);
-    let size = process.extent();
-    let start = start(index);
-    let end = start + size;
+    let start = start_of(process.there, index, state);
+    let end = start + process.extent();
     let served = report_for_process(
         pid,
         kind,

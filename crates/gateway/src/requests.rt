@@ -1,31 +1,41 @@
 // A request: any message, with the buffer for its reply.
+use crate::gone::remove;
 use crate::kept::keep;
 use crate::lent::check_buffers_and_state;
+use crate::part::start_of;
 use format::Header;
 use format::Outcome;
 use format::string;
 use message::Incoming;
 use message::read_request;
+use ops::DESTROY;
 use ops::Form;
-use process::MEMORY_BYTES;
 use service::Target;
 use service::answer_create;
 use service::answer_for_process;
 use service::changes;
 use service::refuse;
 use service::reply_plain;
+use service::size_asked;
 use service::target_of;
-use state::start;
+use state::CAPACITY;
 use state_bytes::lowest_absent;
+use state_bytes::put_process_at;
+use state_bytes::put_start;
 use state_bytes::read_process_at;
+use state_bytes::used_bytes;
 ghost use mathlib.Core.Path.{_≡_};
-ghost use mathlib.Core.Bool.{true, false};
+ghost use mathlib.Core.Bool.{true, false, not, _||_};
 ghost use mathlib.Core.List.{List};
-ghost use Prim.Native.Nat.{ℕ, _≤_, _<_};
+ghost use Prim.Native.Nat.{ℕ, _+_, _-_, _≤_, _<_};
 ghost use lib.ListN.{length};
+ghost use lib.Dec.{ltb};
 ghost use Rattle.format.specs.Layout.{stringOf};
 ghost use Rattle.message.specs.Incoming.{incoming, received};
-ghost use Rattle.rules.specs.Rule.{names, creates};
+ghost use Rattle.process.specs.Sizes.{memoryBytes};
+ghost use Rattle.state.specs.Records.{lowestAbsent};
+ghost use Rattle.state.specs.Layout.{capacity, used};
+ghost use Rattle.rules.specs.Rule.{names, creates, sizeAsked};
 ghost use Rattle.rules.specs.Tests.{lent};
 ghost use Rattle.rules.specs.Step.{request};
 ghost use Rattle.state_bytes.specs.State.{stateOf};
@@ -48,35 +58,71 @@ fn answer_named(
 {
     let process = read_process_at(state, pid);
     let size = process.extent();
-    let start = start(pid);
+    let start = start_of(process.there, pid, state);
     let end = start + size;
     let served = answer_for_process(h, process, &mut memory[start..end], string, reply);
     let outcome = served.outcome;
     let next = served.process;
+    if h.cmd == DESTROY {
+        remove(outcome, next, pid, start, size, state, memory);
+        return outcome;
+    }
     if changes(h.cmd) {
         keep(outcome, next, pid, state);
     }
     outcome
 }
 
-// CREATE: of the lowest absent process, or refused where all are there. A CREATE carries no string.
-fn answer_new(h: Header, state: &mut [u8], memory: &mut [u8], reply: &mut [u8]) -> Outcome
+// 13: all numbers are taken, or the free bytes, those from start on, are fewer than the size.
+fn no_place(pid: usize, start: usize, size: u16) -> bool
+    requires { ⌜ start ≤ capacity ⌝ }
+    ensures { λ r. ⌜ r ≡ not (ltb pid 8) || ltb (capacity - start) size ⌝ }
+{
+    if 8 <= pid {
+        return true;
+    }
+    CAPACITY - start < size as usize
+}
+
+// CREATE of process pid, which has this size and the free bytes from start on.
+fn create_last(
+    h: Header,
+    pid: usize,
+    size: u16,
+    start: usize,
+    state: &mut [u8],
+    memory: &mut [u8],
+    reply: &mut [u8],
+) -> Outcome
     requires { ⌜ (names (h .cmd) ≡ false) × (creates (h .cmd) ≡ true) ⌝ }
+    requires { ⌜ lentOn (now state) (now memory) (now reply) ≡ 0 ⌝ }
+    requires { ⌜ (pid ≡ lowestAbsent (stateOf (now state))) × (size ≡ sizeAsked h) × (start ≡ used (stateOf (now state))) ⌝ }
+    requires { ⌜ (pid < 8) × (size ≤ memoryBytes) × (start + size ≤ capacity) ⌝ }
+    ensures { λ r. ⌜ ((string : List ℕ) → called r (now (state .exit)) (now (memory .exit)) (now (reply .exit)) ≡ finished (now (state .entry)) (asked h string (now (reply .entry)) (lent (stateOf (now (state .entry))) (now (memory .entry))))) ⌝ }
+{
+    let process = read_process_at(state, pid);
+    let end = start + size as usize;
+    let served = answer_create(h, pid, size, process, &mut memory[start..end], reply);
+    let outcome = served.outcome;
+    let next = served.process;
+    put_start(start as u16, pid, state);
+    put_process_at(next, pid, state);
+    outcome
+}
+
+// CREATE: the lowest absent process comes, after the last one, or it is refused with 13. A CREATE carries no string.
+fn answer_new(h: Header, state: &mut [u8], memory: &mut [u8], reply: &mut [u8]) -> Outcome
+    requires { ⌜ (names (h .cmd) ≡ false) × (creates (h .cmd) ≡ true) × (sizeAsked h ≤ memoryBytes) ⌝ }
     requires { ⌜ lentOn (now state) (now memory) (now reply) ≡ 0 ⌝ }
     ensures { λ r. ⌜ ((string : List ℕ) → called r (now (state .exit)) (now (memory .exit)) (now (reply .exit)) ≡ finished (now (state .entry)) (asked h string (now (reply .entry)) (lent (stateOf (now (state .entry))) (now (memory .entry))))) ⌝ }
 {
     let pid = lowest_absent(state);
-    if 8 <= pid {
+    let start = used_bytes(state);
+    let size = size_asked(h);
+    if no_place(pid, start, size) {
         return refuse(h, 13, reply);
     }
-    let process = read_process_at(state, pid);
-    let start = start(pid);
-    let end = start + MEMORY_BYTES;
-    let served = answer_create(h, pid, process, &mut memory[start..end], reply);
-    let outcome = served.outcome;
-    let next = served.process;
-    keep(outcome, next, pid, state);
-    outcome
+    create_last(h, pid, size, start, state, memory, reply)
 }
 
 // A message that was read as a request of this form.

@@ -2,7 +2,7 @@
 use mathlib.Core.Path.{_≡_, refl, sym, _∙_}
 use mathlib.Core.Bool.{Bool, true, false, _&&_}
 use mathlib.Core.List.{List, [], _∷_}
-use mathlib.Core.Logic.{⊎-elim}
+use mathlib.Core.Logic.{_⊎_, inl, inr, ⊎-elim}
 use Prim.Native.Nat.{ℕ, zero, suc, _+_, _<_}
 use native.Mathlib.Nat.{not-suc-le-zero, le-of-suc-le-suc, eq-or-lt-of-le}
 use native.Mathlib.Numerals.{add-one}
@@ -50,3 +50,14 @@ every-below p xs d =
     same-truth (every p xs) (below (λ (k : ℕ). p (getD xs k d)) (length xs))
     (λ e. below-all (λ (k : ℕ). p (getD xs k d)) (length xs) (λ k h. every-getD p xs d k e h))
     (λ e. every-all p xs d (λ k h. below-at (λ (i : ℕ). p (getD xs i d)) (length xs) k h e))
+
+-- a number below n that passes, or none does
+pub found-or-none : (f : ℕ → Bool) (n : ℕ) → ((k : ℕ) × (k < n) × (f k ≡ true)) ⊎ ((k : ℕ) → k < n → f k ≡ false)
+found-or-none f zero = inr (λ k h. absurd (not-suc-le-zero h))
+found-or-none f (suc n) = go (f n) refl (found-or-none f n)
+  where
+    go : (t : Bool) → f n ≡ t → ((k : ℕ) × (k < n) × (f k ≡ true)) ⊎ ((k : ℕ) → k < n → f k ≡ false)
+        → ((k : ℕ) × (k < suc n) × (f k ≡ true)) ⊎ ((k : ℕ) → k < suc n → f k ≡ false)
+    go true e r = inl (n, omega arith, e)
+    go false e (inl (k, h, t)) = inl (k, omega arith, t)
+    go false e (inr none) = inr (λ k h. ⊎-elim (λ (q : k ≡ n). rw q e) (λ (l : k < n). none k l) (eq-or-lt-of-le (le-of-suc-le-suc h)))

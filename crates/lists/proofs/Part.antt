@@ -1,11 +1,12 @@
 -- A part of a list, and the list with another in its place, in the shape in which a lent part comes back. Assumes nothing.
-use mathlib.Core.Path.{_≡_, sym, ap, _∙_}
-use mathlib.Core.List.{List, _++_}
+use mathlib.Core.Path.{_≡_, refl, sym, ap, _∙_}
+use mathlib.Core.List.{List, [], _∷_, _++_, append-nil}
 use mathlib.Core.Logic.{_⊎_, ⊎-elim}
-use Prim.Native.Nat.{ℕ, _+_, _-_, _≤_}
+use Prim.Native.Nat.{ℕ, zero, suc, _+_, _-_, _≤_, _<_}
+use native.Mathlib.Nat.{not-suc-le-zero}
 use native.Mathlib.Omega.{arith}
-use lib.ListN.{length, take, drop, length-append, length-drop, take-append-drop}
-use lib.Seq.{length-take-le, take-at, drop-at, take-append-le, drop-append-le, drop-append-add, drop-drop}
+use lib.ListN.{length, take, drop, getD, set, length-append, length-drop, take-append-drop}
+use lib.Seq.{length-take-le, take-at, drop-at, take-append-le, drop-append-le, drop-append-add, drop-drop, getD-append-add}
 
 module _ (at n : ℕ) (m : List ℕ) (inside : at + n ≤ length m) where
   pub length-part : length (take n (drop at m)) ≡ n
@@ -50,3 +51,32 @@ module _ (at n : ℕ) (m : List ℕ) (inside : at + n ≤ length m) where
     -- a part that does not meet it is as it was
     pub part-other : (b k : ℕ) → (b + k ≤ at) ⊎ (at + n ≤ b) → take k (drop b (take at m ++ (s ++ drop n (drop at m)))) ≡ take k (drop b m)
     part-other b k = ⊎-elim (part-before b k) (part-behind b k)
+
+-- ---- the first elements of a list, put back
+
+-- as they were; where fewer are there than asked for, none are left
+pub part-back : (n : ℕ) (xs : List ℕ) → take n xs ++ drop (length (take n xs)) xs ≡ xs
+part-back zero xs = refl
+part-back (suc n) [] = refl
+part-back (suc n) (x ∷ xs) = ap (λ (ys : List ℕ). x ∷ ys) (part-back n xs)
+
+-- with others over their start
+pub part-over : (n : ℕ) (ys xs : List ℕ)
+    → (ys ++ drop (length ys) (take n xs)) ++ drop (length (ys ++ drop (length ys) (take n xs))) xs ≡ ys ++ drop (length ys) xs
+part-over n [] xs = part-back n xs
+part-over zero (y ∷ ys) xs = ap (λ (zs : List ℕ). (y ∷ zs) ++ drop (length (y ∷ zs)) xs) (append-nil ys)
+part-over (suc n) (y ∷ ys) [] = ap (λ (zs : List ℕ). y ∷ (zs ++ [])) (append-nil ys)
+part-over (suc n) (y ∷ ys) (x ∷ xs) = ap (λ (zs : List ℕ). y ∷ zs) (part-over n ys xs)
+
+-- with one of them set
+pub part-set : (n a v : ℕ) (xs : List ℕ) → a < length (take n xs) → set xs a v ≡ set (take n xs) a v ++ drop (length (set (take n xs) a v)) xs
+part-set zero a v xs h = absurd (not-suc-le-zero h)
+part-set (suc n) a v [] h = absurd (not-suc-le-zero h)
+part-set (suc n) zero v (x ∷ xs) h = ap (λ (ys : List ℕ). v ∷ ys) (sym (part-back n xs))
+part-set (suc n) (suc a) v (x ∷ xs) h = ap (λ (ys : List ℕ). x ∷ ys) (part-set n a v xs (omega (arith, h)))
+
+-- an element of the second of two lists
+pub getD-second : (xs ys : List ℕ) (n i : ℕ) → length xs ≡ n → n ≤ i → getD (xs ++ ys) i 0 ≡ getD ys (i - n) 0
+getD-second xs ys n i size h =
+    let at : i ≡ length xs + (i - n) = omega arith in
+    ap (λ (k : ℕ). getD (xs ++ ys) k 0) at ∙ getD-append-add xs ys (i - n) 0

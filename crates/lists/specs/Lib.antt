@@ -5,4 +5,5 @@ pub mod Every
 pub mod First
 pub mod Flag
 pub mod Joined
+pub mod Sum
 pub mod Word

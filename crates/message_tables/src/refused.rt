@@ -8,48 +8,53 @@ pub(crate) fn show_writer() {
         b"\nWhat the desk's writer is given, and what it writes or the number of the first test that fails:\n",
     );
     write_into_a_short_buffer();
-    write_whole(0, 14, 1, 1, 257);
-    write_whole(0, 14, 1, 1, 0);
-    write_whole(5, 14, 1, 1, 0);
-    write_whole(5, 0, 1, 0, 0);
-    write_whole(5, 4, 1, 3, 2);
-    write_whole(5, 4, 1, 3, 4);
-    write_whole(5, 6, 1, 3, 3);
-    write_whole(255, 4, 255, 257, 256);
-    write_whole(255, 4, 255, 256, 256);
+    write_whole(0, 14, 1, 65535, 1, 257);
+    write_whole(0, 14, 1, 65535, 1, 0);
+    write_whole(5, 14, 1, 65535, 1, 0);
+    write_whole(5, 0, 1, 65535, 0, 0);
+    write_whole(5, 4, 1, 65535, 3, 2);
+    write_whole(5, 4, 1, 65535, 3, 4);
+    write_whole(5, 6, 1, 65535, 3, 3);
+    write_whole(255, 4, 255, 65535, 257, 256);
+    write_whole(255, 4, 255, 65535, 256, 256);
+    write_whole(5, 12, 0, 1, 0, 0);
+    write_whole(5, 12, 0, 4095, 0, 0);
+    write_whole(5, 12, 0, 4098, 0, 0);
+    write_whole(5, 12, 0, 4096, 0, 0);
+    write_whole(5, 12, 0, 0, 0, 0);
 }
 
 fn write_into_a_short_buffer() {
     let mut buffer = [0u8; 265];
-    write(0, 14, 1, 1, 257, &mut buffer);
+    write(0, 14, 1, 65535, 1, 257, &mut buffer);
 }
 
-fn write_whole(host: u8, cmd: u8, pid: u8, arg2: u16, count: usize) {
+fn write_whole(host: u8, cmd: u8, pid: u8, arg1: u16, arg2: u16, count: usize) {
     let mut buffer = [0u8; MESSAGE_BYTES];
-    write(host, cmd, pid, arg2, count, &mut buffer);
+    write(host, cmd, pid, arg1, arg2, count, &mut buffer);
 }
 
-// What the desk's writer makes of these fields, ARG1 65,535 and a string of so many x.
-fn write(host: u8, cmd: u8, pid: u8, arg2: u16, count: usize, buffer: &mut [u8]) {
+// What the desk's writer makes of these fields and a string of so many x.
+fn write(host: u8, cmd: u8, pid: u8, arg1: u16, arg2: u16, count: usize, buffer: &mut [u8]) {
     let x = [120u8; 257];
     let string = show::front(&x, count);
     show::numbers(
-        b" HOST % CMD % PID % ARG1 65535 ARG2 % string of % into %\n",
+        b" HOST % CMD % PID % ARG1 % ARG2 % string of % into %\n",
         [
             host as u64,
             cmd as u64,
             pid as u64,
+            arg1 as u64,
             arg2 as u64,
             string.len() as u64,
             buffer.len() as u64,
-            0,
         ],
     );
     let h = Header {
         host: host,
         cmd: cmd,
         pid: pid,
-        arg1: 65535,
+        arg1: arg1,
         arg2: arg2,
     };
     let written = message::write_request(h, string, buffer);
@@ -84,7 +89,10 @@ fn requests() {
         \x0b\x00\x05\xff\x00\x04\x01\x00\x00\x00\x02a\
         \x0d\x00\x05\xff\x00\x04\x01\x00\x00\x00\x02abc\
         \x0b\x00\x05\xff\x00\x06\x01\x00\x00\x00\x01a\
-        \x0b\x00\x05\xff\x00\x04\xc8\xff\xff\x00\x01a",
+        \x0b\x00\x05\xff\x00\x04\xc8\xff\xff\x00\x01a\
+        \x0a\x00\x05\xff\x00\x0c\x00\x00\x01\x00\x00\
+        \x0a\x00\x05\xff\x00\x0c\x00\x10\x02\x00\x00\
+        \x0a\x00\x05\xff\x00\x0c\x00\x10\x00\x00\x00",
         false,
     );
 }
@@ -107,7 +115,13 @@ fn answers() {
         \x1b\x00\x05\xff\x00\x42\x01\x00\x00\x00\x00abcdefghijklmnopq\
         \x1c\x00\x05\xff\x00\x42\x01\x00\x00\x00\x12abcdefghijklmnopqr\
         \x1c\x00\x05\xff\x00\x41\x01\x00\x01\x00\x00abcdefghijklmnopqr\
-        \x1c\x00\x05\xff\x00\x40\x01\x00\x01\x00\x00abcdefghijklmnopqr",
+        \x1c\x00\x05\xff\x00\x40\x01\x00\x01\x00\x00abcdefghijklmnopqr\
+        \x0a\x00\x05\xff\x00\x0c\x07\x00\x01\x00\x00\
+        \x0a\x00\x05\xff\x00\x0c\x07\x10\x02\x00\x00\
+        \x0a\x00\x05\xff\x00\x0c\x07\x10\x00\x00\x00\
+        \x0a\x00\x05\xff\x00\x8c\x00\x00\x01\x00\x00\
+        \x0a\x00\x05\xff\x00\x8c\x00\x10\x02\x00\x00\
+        \x0a\x00\x05\xff\x00\x8c\x00\x10\x00\x00\x00",
         true,
     );
 }

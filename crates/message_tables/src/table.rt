@@ -1,5 +1,6 @@
 // The table of op codes, as the head of the crate ops has it.
 use crate::show;
+use ops::ArgUse;
 use ops::Carried;
 use ops::Form;
 use ops::Found;
@@ -46,7 +47,12 @@ fn row(cmd: u8) -> bool {
 // The used fields, and what is carried.
 fn form(f: Form) {
     used(f.pid, b"PID ", b"--- ");
-    used(f.arg1, b"ARG1 ", b"---- ");
+    let arg1 = f.arg1;
+    match arg1 {
+        ArgUse::Unused => show::text(b"---- "),
+        ArgUse::Any => show::text(b"ARG1 "),
+        ArgUse::Size => show::text(b"size "),
+    }
     used(f.arg2, b"ARG2 ", b"---- ");
     let carried = f.carried;
     match carried {

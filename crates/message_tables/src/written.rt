@@ -4,6 +4,7 @@ use crate::show;
 use format::Header;
 use format::MESSAGE_BYTES;
 use format::Outcome;
+use ops::ArgUse;
 use ops::Carried;
 use ops::Form;
 use ops::Found;
@@ -28,11 +29,13 @@ fn ops() {
 }
 
 fn sample(f: Form, cmd: u8) -> Header {
+    let used = f.arg1;
+    let arg1 = if let ArgUse::Unused = used { 0 } else { 258 };
     Header {
         host: 5,
         cmd: cmd,
         pid: if f.pid { 2 } else { 0 },
-        arg1: if f.arg1 { 258 } else { 0 },
+        arg1: arg1,
         arg2: if f.arg2 { 3 } else { 0 },
     }
 }

@@ -6,6 +6,8 @@ use Prim.Native.Nat.{ℕ, _-_}
 use lib.ListN.{length, getD}
 use lib.Dec.{ltb, eqb}
 use Rattle.ops.specs.Codes.{NOP, NOTICE, CANT}
+use Rattle.ops.specs.declared.table.ArgUse.{ArgUse}
+use Rattle.ops.specs.declared.table.ArgUse.the-variants.{Unused, Any, Size}
 use Rattle.ops.specs.declared.table.Carried.{Carried}
 use Rattle.ops.specs.declared.table.Carried.the-variants.{Nothing, Counted, Vector}
 use Rattle.ops.specs.declared.table.Form.{Form}
@@ -15,37 +17,45 @@ use Rattle.ops.specs.declared.table.Row.the-variants.{Listed, Unlisted}
 use Rattle.ops.specs.declared.table.Found.{Found}
 use Rattle.ops.specs.declared.table.Found.the-variants.{Known, Unknown}
 
--- which of PID, ARG1 and ARG2 are used, and what is carried
-abbrev pub form : Bool → Bool → Bool → Carried → Form
+-- whether PID is used, how ARG1 is, whether ARG2 is, and what is carried
+abbrev pub form : Bool → ArgUse → Bool → Carried → Form
 form p a b c = record { pid = p; arg1 = a; arg2 = b; carried = c }
 
 -- no field
 abbrev pub bare : Form
-bare = form false false false Nothing
+bare = form false Unused false Nothing
 
 -- PID alone
 abbrev pub process : Form
-process = form true false false Nothing
+process = form true Unused false Nothing
 
 -- PID and ARG1
 abbrev pub address : Form
-address = form true true false Nothing
+address = form true Any false Nothing
 
 -- PID, ARG1 and ARG2
 abbrev pub range : Form
-range = form true true true Nothing
+range = form true Any true Nothing
 
 -- all three, and a string of ARG2 bytes
 abbrev pub string : Form
-string = form true true true Counted
+string = form true Any true Counted
 
 -- PID and ARG1, and a state vector
 abbrev pub reason : Form
-reason = form true true false Vector
+reason = form true Any false Vector
 
 -- PID, and a state vector
 abbrev pub stopped : Form
-stopped = form true false false Vector
+stopped = form true Unused false Vector
+
+-- a size in ARG1 alone
+abbrev pub sized : Form
+sized = form false Size false Nothing
+
+-- PID, and a size in ARG1
+abbrev pub sizedProcess : Form
+sizedProcess = form true Size false Nothing
 
 -- a row of the table: the form of the request, and the form of the reply that grants it
 abbrev pub row : Form → Form → Op
@@ -61,6 +71,7 @@ replies op = op .1
 
 -- 'Used fields: all but 0 and 12 use PID ..; 4, 6, 7, 8 use ARG1 and ARG2; 9 uses ARG1. .. Only 4 and 7 carry a string, of exactly ARG2 bytes.'
 -- 'Reply: the request's CMD, PID, ARG1, ARG2 .. CONTENTS (reply to 6) appends the ARG2 bytes. CREATED carries the new number in PID.'
+-- 'CREATE takes an even size in ARG1, up to 4,096'
 abbrev pub ops : List Op
 ops =
     row bare bare  -- 0 NOP
@@ -75,7 +86,7 @@ ops =
     ∷ row address address  -- 9 UNBREAK
     ∷ row process process  -- 10 SINGLE STEP
     ∷ row process process  -- 11 PROCEED BPT
-    ∷ row bare process  -- 12 CREATE PROCESS
+    ∷ row sized sizedProcess  -- 12 CREATE PROCESS
     ∷ row process process  -- 13 DESTROY PROCESS
     ∷ []
 

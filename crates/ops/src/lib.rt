@@ -1,7 +1,8 @@
 // The table of op codes: which fields each message of RFC 643 uses, and what string it carries.
 //
 // As the program message_tables prints it from table.rt: the fields that a message uses, and the string that it carries, which is none,
-// ARG2 bytes, or the 18 bytes of a state vector, low byte first. An unused field is zero.
+// ARG2 bytes, or the 18 bytes of a state vector, low byte first. An unused field is zero, and where the table says size, ARG1 is an even
+// number up to 4,096, 0 included.
 //
 //   CMD  request              reply
 //     0  --- ---- ---- none   --- ---- ---- none   NOP
@@ -16,7 +17,7 @@
 //     9  PID ARG1 ---- none   PID ARG1 ---- none   UNBREAK
 //    10  PID ---- ---- none   PID ---- ---- none   SINGLE STEP
 //    11  PID ---- ---- none   PID ---- ---- none   PROCEED BPT
-//    12  --- ---- ---- none   PID ---- ---- none   CREATE PROCESS
+//    12  --- size ---- none   PID size ---- none   CREATE PROCESS
 //    13  PID ---- ---- none   PID ---- ---- none   DESTROY PROCESS
 //    64                       PID ARG1 ---- 18     TRAP, a notice
 //    65                       PID ---- ---- 18     HALT, a notice
@@ -42,6 +43,7 @@ pub use codes::RESUME;
 pub use codes::SINGLE_STEP;
 pub use codes::STOP;
 pub use codes::UNBREAK;
+pub use table::ArgUse;
 pub use table::Carried;
 pub use table::Form;
 pub use table::Found;

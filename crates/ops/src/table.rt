@@ -15,10 +15,20 @@ pub enum Carried {
     Vector,
 }
 
+// How a message uses ARG1.
+pub enum ArgUse {
+    // It is zero.
+    Unused,
+    // It holds any number.
+    Any,
+    // It holds a size: an even number up to 4,096, 0 included.
+    Size,
+}
+
 // Which fields a message uses, and what it carries. An unused field is zero.
 pub struct Form {
     pub pid: bool,
-    pub arg1: bool,
+    pub arg1: ArgUse,
     pub arg2: bool,
     pub carried: Carried,
 }
@@ -40,51 +50,65 @@ pub enum Found {
 
 const BARE: Form = Form {
     pid: false,
-    arg1: false,
+    arg1: ArgUse::Unused,
     arg2: false,
     carried: Carried::Nothing,
 };
 
 const PROCESS: Form = Form {
     pid: true,
-    arg1: false,
+    arg1: ArgUse::Unused,
     arg2: false,
     carried: Carried::Nothing,
 };
 
 const ADDRESS: Form = Form {
     pid: true,
-    arg1: true,
+    arg1: ArgUse::Any,
     arg2: false,
     carried: Carried::Nothing,
 };
 
 const RANGE: Form = Form {
     pid: true,
-    arg1: true,
+    arg1: ArgUse::Any,
     arg2: true,
     carried: Carried::Nothing,
 };
 
 const STRING: Form = Form {
     pid: true,
-    arg1: true,
+    arg1: ArgUse::Any,
     arg2: true,
     carried: Carried::Counted,
 };
 
 const REASON: Form = Form {
     pid: true,
-    arg1: true,
+    arg1: ArgUse::Any,
     arg2: false,
     carried: Carried::Vector,
 };
 
 const STOPPED: Form = Form {
     pid: true,
-    arg1: false,
+    arg1: ArgUse::Unused,
     arg2: false,
     carried: Carried::Vector,
+};
+
+const SIZED: Form = Form {
+    pid: false,
+    arg1: ArgUse::Size,
+    arg2: false,
+    carried: Carried::Nothing,
+};
+
+const SIZED_PROCESS: Form = Form {
+    pid: true,
+    arg1: ArgUse::Size,
+    arg2: false,
+    carried: Carried::Nothing,
 };
 
 // A row is the request's form, then the form of the reply that grants it.
@@ -101,7 +125,7 @@ const OPS: [Op; 14] = [
     Op(ADDRESS, ADDRESS), // 9 UNBREAK
     Op(PROCESS, PROCESS), // 10 SINGLE STEP
     Op(PROCESS, PROCESS), // 11 PROCEED BPT
-    Op(BARE, PROCESS), // 12 CREATE PROCESS
+    Op(SIZED, SIZED_PROCESS), // 12 CREATE PROCESS
     Op(PROCESS, PROCESS), // 13 DESTROY PROCESS
 ];
 
@@ -118,9 +142,10 @@ impl Form {
     fn without_string(self) -> Form
         ensures { λ r. ⌜ r ≡ withoutString self ⌝ }
     {
+        let arg1 = self.arg1;
         Form {
             pid: self.pid,
-            arg1: self.arg1,
+            arg1: arg1,
             arg2: self.arg2,
             carried: Carried::Nothing,
         }

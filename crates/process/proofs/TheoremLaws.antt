@@ -282,9 +282,9 @@ unbreak-sound a l g e = sound-removed (l .process) (sound-of l g) (g .eight) (fi
 whole-size : SizeRight 4096
 whole-size = record { even = refl; least = omega arith; most = omega arith }
 
-create-sound : (host : ℕ) → Sound (created host .process)
+create-sound : (host size : ℕ) → SizeRight size → Sound (created host size .process)
 unfolding created fresh
-create-sound host = sound-free (fresh true host Stopped 4096) whole-size refl (λ t. absurd (true≢false t))
+create-sound host size right = sound-free (fresh true host Stopped size) right refl (λ t. absurd (true≢false t))
 
 destroy-sound : Sound cleared
 unfolding cleared fresh

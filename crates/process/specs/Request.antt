@@ -117,14 +117,14 @@ breakRemoved a l = removedFrom (find (At a) (l .process)) l
 
 -- ---- CREATE and DESTROY
 
--- 'all 4,096 bytes of its memory are zero, vector zero, stopped, debugged by the asker'
-unfoldable pub created : ℕ → Local
-created host = local (fresh true host Stopped memoryBytes) (replicate memoryBytes 0)
+-- 'zeroed to its size', 'vector zero, stopped, debugged by the asker'
+unfoldable pub created : ℕ → ℕ → Local
+created host size = local (fresh true host Stopped size) (replicate size 0)
 
 -- a cleared record: 'absent, running, all else zero', but 'a cleared record give[s] 4,096'
 unfoldable pub cleared : Process
 cleared = fresh false 0 Running memoryBytes
 
--- 'the process is absent, its record cleared': it has no bytes, so 'memory bytes stay'
+-- 'the process is absent, its record cleared', and it has no bytes
 abbrev pub destroyed : Local → Local
 destroyed l = local cleared []

@@ -10,7 +10,7 @@ use Rattle.process.specs.declared.record.Process.{Process}
 use Rattle.run_state.specs.declared.Run.the-variants.{Running}
 use Rattle.process.specs.Sizes.{entryCount}
 use Rattle.process.specs.Record.{entry, withHost, withRun, withVector}
-use Rattle.process.specs.Sound.{Sound, NoBreakpoints, soundTest}
+use Rattle.process.specs.Sound.{Sound, SizeRight, NoBreakpoints, soundTest}
 use Rattle.breakpoints.specs.Seen.{isPlanted, seen}
 use Rattle.process.specs.Local.{Local, Proper}
 use Rattle.run_state.specs.RunState.{stoppedOrAtBreak, atBreak, accepts}
@@ -67,6 +67,6 @@ pub record SoundStays : Type 0 where
   pub break : (a n : ℕ) (l : Local) → Proper l → (l .process .host ≡ 0 → ⊥) → a % 2 ≡ 0 → a + 2 ≤ l .process .size
       → (hasBreak a (l .process) ≡ false → hasRoom (l .process) ≡ true) → Sound (breakSet a n l .process)
   pub unbreak : (a : ℕ) (l : Local) → Proper l → hasBreak a (l .process) ≡ true → Sound (breakRemoved a l .process)
-  pub create : (host : ℕ) → Sound (created host .process)
+  pub create : (host size : ℕ) → SizeRight size → Sound (created host size .process)
   pub destroy : Sound cleared
   pub report : (kind : ℕ) (words : List ℕ) (l : Local) → Proper l → accepts kind (l .process .run) ≡ true → Sound (reported kind words l .process)

@@ -18,9 +18,9 @@ use Rattle.rules.specs.Step.{Answer, StepResult, localOf, put, Call, ste
 use Rattle.rules.specs.Turn.{turnOf, bufferOf}
 use Rattle.rules.specs.Ready.{Ready}
 use Rattle.rules.specs.Run.{TraceItem, traceItem}
-use Rattle.rules.specs.Isolation.{Hosts, Processes, asker, subject, fieldsOf, isOne, isGranted, toldOf, withoutData, Apart, NoneDebugs}
+use Rattle.rules.specs.Isolation.{Hosts, Processes, asker, subject, fieldsOf, isOne, isGranted, toldOf, withoutData, Apart, NoneDebugs, publicOf}
 use Rattle.rules.specs.Together.{createdFor, hiddenAfter}
-use Rattle.rules.proofs.StateLaws.{local-proper, put-changed}
+use Rattle.rules.proofs.StateLaws.{local-proper, Fits, fits-shown, put-changed}
 use Rattle.rules.proofs.CallLaws.{Shown, There, Nowhere, Placed}
 use Rattle.format.proofs.OutcomeLaws.{isGranted-outcome}
 use Rattle.rules.proofs.LawfulLaws.{lawful}
@@ -49,12 +49,18 @@ module _ (s₁ s₂ : State) (r₁ : Ready s₁) (r₂ : Ready s₂) (c : Call) 
   Made x y =
       isGranted (x .answer .outcome) ≡ true → isGranted (y .answer .outcome) ≡ true → getD (x .answer .buffer) 5 0 ≡ p → localOf (x .after) p ≡ localOf (y .after) p
 
-  made-there : (q : ℕ) (a : Access) → There s₁ c q a → Made (reached (atProcess q a) (bufferOf c) s₁) (reached (atProcess q a) (bufferOf c) s₂)
+  made-there : Shown s₁ s₂ → (q : ℕ) (a : Access) → There s₁ c q a → Made (reached (atProcess q a) (bufferOf c) s₁) (reached (atProcess q a) (bufferOf c) s₂)
   unfolding reached isGranted
-  made-there q a t = go (eqb (numberAt a (localOf s₁ q)) 0) refl (eqb (numberAt a (localOf s₂ q)) 0) refl
+  made-there shown q a t = go (eqb (numberAt a (localOf s₁ q)) 0) refl (eqb (numberAt a (localOf s₂ q)) 0) refl
     where
-      left : (s : State) → Ready s → numberAt a (localOf s q) ≡ 0 → localOf (put q (a .effect (localOf s q)) s) q ≡ a .effect (localOf s q)
-      left s r z = put-changed s r q (t .low) (a .effect (localOf s q)) (t .fair .keeps (localOf s q) (local-proper s r q (t .low)) z) .here
+      left : (s : State) → Ready s → Fits s q (t .then (publicOf s q)) → numberAt a (localOf s q) ≡ 0
+          → localOf (put q (a .effect (localOf s q)) s) q ≡ a .effect (localOf s q)
+      left s r fits z =
+          put-changed s r q (t .low) (a .effect (localOf s q)) (t .fair .keeps (localOf s q) (local-proper s r q (t .low)) z)
+          (subst (Fits s q) (sym (t .fair .publicly (localOf s q) z)) fits) .here
+
+      other-fits : Fits s₂ q (t .then (publicOf s₂ q))
+      other-fits = subst (λ (u : Public). Fits s₂ q (t .then u)) (shown q (t .low)) (fits-shown s₁ s₂ shown q (t .low) (t .then (publicOf s₁ q)) (t .fits))
 
       go : (t₁ : Bool) → eqb (numberAt a (localOf s₁ q)) 0 ≡ t₁ → (t₂ : Bool) → eqb (numberAt a (localOf s₂ q)) 0 ≡ t₂
           → Made (reached (atProcess q a) (bufferOf c) s₁) (reached (atProcess q a) (bufferOf c) s₂)
@@ -64,12 +70,12 @@ module _ (s₁ s₂ : State) (r₁ : Ready s₁) (r₂ : Ready s₂) (c : Call) 
           rw (e₁, e₂)
           (λ g₁ g₂ n.
           subst (λ (k : ℕ). localOf (put q (a .effect (localOf s₁ q)) s₁) k ≡ localOf (put q (a .effect (localOf s₂ q)) s₂) k) (sym (t .carries (localOf s₁ q) is) ∙ n)
-          (left s₁ r₁ (eqb-true _ 0 e₁) ∙ t .anew is (localOf s₁ q) (localOf s₂ q) ∙ sym (left s₂ r₂ (eqb-true _ 0 e₂))))
+          (left s₁ r₁ (t .fits) (eqb-true _ 0 e₁) ∙ t .anew is (localOf s₁ q) (localOf s₂ q) ∙ sym (left s₂ r₂ other-fits (eqb-true _ 0 e₂))))
 
-  made-placed : (place : Place) → Placed s₁ c place → Made (reached place (bufferOf c) s₁) (reached place (bufferOf c) s₂)
+  made-placed : Shown s₁ s₂ → (place : Place) → Placed s₁ c place → Made (reached place (bufferOf c) s₁) (reached place (bufferOf c) s₂)
   unfolding Placed
-  made-placed (nowhere bytes) n = absurd (create-goes c is bytes n)
-  made-placed (atProcess q a) t = made-there q a t
+  made-placed shown (nowhere bytes) n = absurd (create-goes c is bytes n)
+  made-placed shown (atProcess q a) t = made-there shown q a t
 
   made : Shown s₁ s₂ → Made (step s₁ c) (step s₂ c)
   unfolding taken isGranted
@@ -78,7 +84,7 @@ module _ (s₁ s₂ : State) (r₁ : Ready s₁) (r₂ : Ready s₂) (c : Call) 
       (go (eqb (firstFailing (turnOf s₁ c .tests)) 0) refl)
     where
       go : (t : Bool) → eqb (firstFailing (turnOf s₁ c .tests)) 0 ≡ t → Made (taken (turnOf s₁ c) (bufferOf c) s₁) (taken (turnOf s₁ c) (bufferOf c) s₂)
-      go true e = rw e (made-placed (turnOf s₁ c .place) (lawful c .placed s₁ r₁ (eqb-true _ 0 e)))
+      go true e = rw e (made-placed shown (turnOf s₁ c .place) (lawful c .placed s₁ r₁ (eqb-true _ 0 e)))
       go false e = rw e (λ g₁. absurd (true≢false (sym g₁ ∙ isGranted-outcome (firstFailing (turnOf s₁ c .tests)) 0 ∙ e)))
 
 -- ---- what is hidden after a call

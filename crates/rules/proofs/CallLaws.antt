@@ -19,6 +19,7 @@ use Rattle.rules.specs.Turn.{turnOf, bufferOf}
 use Rattle.rules.specs.Ready.{Ready, NineWords, Typed}
 use Rattle.rules.specs.Isolation.{Processes, asker, subject, event, passedOver, fieldsOf, toldOf, publicOf}
 use Rattle.rules.specs.Total.{testsOf, numbersOf, oneOf}
+use Rattle.rules.proofs.StateLaws.{extentOf, Fits}
 use Rattle.rules.proofs.RuleLaws.{Turns}
 use Rattle.rules.proofs.TurnLaws.{turnNumber}
 use Rattle.rules.proofs.AccessLaws.{Fair}
@@ -31,10 +32,6 @@ Shown s t = (p : ℕ) → p < 8 → publicOf s p ≡ publicOf t p
 abbrev pub Silent : Call → Type 0
 Silent c = (d : ℕ → Public) (a : Answer) (q : ℕ) → toldOf d c a q ≡ d q
 
--- how many bytes a process has, by its public part
-abbrev pub extentOf : Public → ℕ
-extentOf u = cond (u .there) (u .size) 0
-
 -- a call that goes to process p
 pub record There (s : State) (c : Call) (p : ℕ) (a : Access) : Type 0 where
   pub low : p < 8
@@ -42,6 +39,8 @@ pub record There (s : State) (c : Call) (p : ℕ) (a : Access) : Type 0 where
   pub fair : Fair (asker c) a then
   -- the vector keeps its nine words
   pub words : Typed c → (l : Local) → NineWords (l .process) → NineWords (a .effect l .process)
+  -- there is a place for what is left of it
+  pub fits : Fits s p (then (publicOf s p))
   -- only a CREATE gives it more bytes
   pub narrows : (fieldsOf c .cmd ≡ CREATE → ⊥) → (u : Public) → extentOf (then u) ≤ extentOf u
   -- it goes to the process that it names, or it is a CREATE

@@ -19,7 +19,7 @@ use Rattle.rules.specs.Turn.{turnOf, bufferOf}
 use Rattle.rules.specs.Ready.{Ready}
 use Rattle.rules.specs.Run.{traceItem}
 use Rattle.rules.specs.Isolation.{Hosts, Processes, asker, subject, event, passedOver, isOne, publicOf, Debuggers, noticed, sentTo, part, struck, withoutData, Apart, NoneDebugs, theirs}
-use Rattle.rules.proofs.StateLaws.{local-proper, Changed, unchanged, put-changed}
+use Rattle.rules.proofs.StateLaws.{local-proper, Changed, Fits, unchanged, fits-shown, put-changed}
 use Rattle.rules.proofs.AccessLaws.{saidAt, leftAt, Taking, May, Discreet, Fair, outer-zero, said-stranger, left-alike, quiet}
 use Rattle.rules.proofs.CallLaws.{Silent, There, Placed}
 use Rattle.rules.proofs.LawfulLaws.{lawful}
@@ -158,12 +158,16 @@ reached-answer p a buffer s = go (eqb (numberAt a (localOf s p)) 0) refl
     go false e = rw e
 
 pub reached-changed : (w : Asker) (p : ℕ) → p < 8 → (a : Access) (then : Public → Public) → Fair w a then → (buffer : List ℕ) (s : State) → Ready s
-    → Changed s (reached (atProcess p a) buffer s .after) p (leftAt a (localOf s p))
+    → Fits s p (then (publicOf s p)) → Changed s (reached (atProcess p a) buffer s .after) p (leftAt a (localOf s p))
 unfolding reached leftAt
-reached-changed w p low a then f buffer s r = go (eqb (numberAt a (localOf s p)) 0) refl
+reached-changed w p low a then f buffer s r fits = go (eqb (numberAt a (localOf s p)) 0) refl
   where
     go : (t : Bool) → eqb (numberAt a (localOf s p)) 0 ≡ t → Changed s (reached (atProcess p a) buffer s .after) p (leftAt a (localOf s p))
-    go true e = rw e (put-changed s r p low (a .effect (localOf s p)) (f .keeps (localOf s p) (local-proper s r p low) (eqb-true _ 0 e)))
+    go true e =
+        let z = eqb-true _ 0 e in
+        rw e
+        (put-changed s r p low (a .effect (localOf s p)) (f .keeps (localOf s p) (local-proper s r p low) z)
+        (subst (Fits s p) (sym (f .publicly (localOf s p) z)) fits))
     go false e = rw e (unchanged s p)
 
 module _ (H : Hosts) (P : Processes) (s₁ s₂ : State) (r₁ : Ready s₁) (r₂ : Ready s₂) (a : Apart P s₁ s₂) where
@@ -173,16 +177,19 @@ module _ (H : Hosts) (P : Processes) (s₁ s₂ : State) (r₁ : Ready s₁) (r�
     pub same : NoneDebugs H P s₁ → isOne H w ≡ true → x .answer ≡ y .answer
     pub parts : NoneDebugs H P s₁ → heardOf H w (x .answer) ≡ heardOf H w (y .answer)
 
-  both-there : (w : Asker) (p : ℕ) (low : p < 8) (i : Access) (then : Public → Public) → Fair w i then → (buffer : List ℕ)
+  both-there : (w : Asker) (p : ℕ) (low : p < 8) (i : Access) (then : Public → Public) → Fair w i then → Fits s₁ p (then (publicOf s₁ p)) → (buffer : List ℕ)
       → Both w (reached (atProcess p i) buffer s₁) (reached (atProcess p i) buffer s₂)
   unfolding isOne sentTo
-  both-there w p low i then f buffer = record {
-    apart = apart-changed P s₁ _ s₂ _ p (leftAt i l₁) (leftAt i l₂) low (reached-changed w p low i then f buffer s₁ r₁) (reached-changed w p low i then f buffer s₂ r₂) a
+  both-there w p low i then f fits buffer = record {
+    apart = apart-changed P s₁ _ s₂ _ p (leftAt i l₁) (leftAt i l₂) low (reached-changed w p low i then f buffer s₁ r₁ fits) (reached-changed w p low i then f buffer s₂ r₂ other-fits) a
         (left-alike w i then f l₁ l₂ (a .shown p low)) (λ n. ap (leftAt i) (a .others p low n));
     same = λ free h. reached-answer p i buffer s₁ ∙ same w f free h (P p) refl ∙ sym (reached-answer p i buffer s₂);
     parts = λ free. rw (reached-answer p i buffer s₁, reached-answer p i buffer s₂) (parts w f free (P p) refl);
   }
     where
+      other-fits : Fits s₂ p (then (publicOf s₂ p))
+      other-fits = subst (λ (u : Public). Fits s₂ p (then u)) (a .shown p low) (fits-shown s₁ s₂ (a .shown) p low (then (publicOf s₁ p)) fits)
+
       l₁ : Local
       l₁ = localOf s₁ p
 
@@ -207,7 +214,7 @@ module _ (H : Hosts) (P : Processes) (s₁ s₂ : State) (r₁ : Ready s₁) (r�
   both-placed : (c : Call) (place : Place) → Placed s₁ c place → Both (asker c) (reached place (bufferOf c) s₁) (reached place (bufferOf c) s₂)
   unfolding Placed reached
   both-placed c (nowhere bytes) n = record { apart = a; same = λ f h. refl; parts = λ f. refl }
-  both-placed c (atProcess p i) t = both-there (asker c) p (t .low) i (t .then) (t .fair) (bufferOf c)
+  both-placed c (atProcess p i) t = both-there (asker c) p (t .low) i (t .then) (t .fair) (t .fits) (bufferOf c)
 
   pub both : (c : Call) → Both (asker c) (step s₁ c) (step s₂ c)
   unfolding asker taken

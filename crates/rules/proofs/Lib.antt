@@ -19,4 +19,7 @@ pub mod TraceLaws
 pub mod TogetherLaws
 pub mod ListLaws
 pub mod OutsiderLaws
-pub mod PastLaws
+pub mod FreeLaws
+pub mod CreateLaws
+pub mod DestroyLaws
+pub mod LedgerLaws

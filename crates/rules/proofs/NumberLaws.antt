@@ -1,5 +1,5 @@
 -- The number of a request, stage by stage: what the message says by itself, and what is asked of the process. Assumes nothing.
-use mathlib.Core.Path.{_≡_, refl, sym}
+use mathlib.Core.Path.{_≡_, refl, sym, subst}
 use mathlib.Core.Bool.{Bool, true, false, not, cond, true≢false}
 use mathlib.Core.List.{List, [], _∷_, _++_}
 use Prim.Native.Nat.{ℕ, zero, suc, _+_, _≤_}
@@ -14,11 +14,12 @@ use Rattle.ops.specs.declared.table.Carried.{Carried}
 use Rattle.ops.specs.declared.table.Carried.the-variants.{Nothing, Counted, Vector}
 use Rattle.ops.specs.declared.table.Op.{Op}
 use Rattle.format.specs.Outcome.{Test, test, firstFailing}
+use Rattle.ops.specs.Codes.{CREATE}
 use Rattle.ops.specs.Table.{bare, row, ops, op, asks, requestForm}
 use Rattle.format.specs.Layout.{headerOf, stringOf, fixedRight}
-use Rattle.format.specs.Refusal.{carriedLength, unusedZero, misfits, layoutTests}
+use Rattle.format.specs.Refusal.{carriedLength, fieldsRight, misfits, layoutTests}
 use Rattle.format.proofs.OutcomeLaws.{rest-passes}
-use Rattle.format.proofs.TestLaws.{zero-passed, sized-between}
+use Rattle.format.proofs.TestLaws.{Passed, FittingSize, zero-passed, sized-between, sizeFits-fitting, create-size}
 use Rattle.format.proofs.LayoutLaws.{length-stringOf}
 use Rattle.message.proofs.AnswerLaws.{Asked, asked-passed, requestForm-known}
 
@@ -101,6 +102,7 @@ pub record Sent (m : List ℕ) : Type 0 where
   pub asked : Asked (headerOf m)
   pub long : 10 ≤ length m
   pub carried : length (stringOf m) ≤ headerOf m .arg2
+  pub size : headerOf m .cmd ≡ CREATE → FittingSize (headerOf m .arg1)
 
 pub layout-sent : (m : List ℕ) → firstFailing (layoutTests (fixedRight m) (requestForm (headerOf m .cmd)) (headerOf m) (length m)) ≡ 0 → Sent m
 unfolding misfits
@@ -111,10 +113,15 @@ layout-sent m e =
     let long = sized-between (length m) (p .sized) .0 in
     let f = asks (op (h .cmd)) in
     let formed = rw (requestForm-known (h .cmd) (a .known)) at (p .formed) in
-    let size = eqb-true (length m) (10 + carriedLength (f .carried) (h .arg2)) (not-false _ (||-right (not (unusedZero f h)) _ formed)) in
+    let counted = eqb-true (length m) (10 + carriedLength (f .carried) (h .arg2)) (not-false _ (||-right (not (fieldsRight f h)) _ formed)) in
     let short = carried-short (f .carried) (h .arg2)
     (every-getD (λ (o : Op). uncounted (asks o .carried)) ops (row bare bare) (h .cmd) requests-counted (a .known)) in
-    record { asked = a; long = long; carried = omega (arith, length-stringOf m long) }
+    record {
+      asked = a;
+      long = long;
+      carried = omega (arith, length-stringOf m long);
+      size = λ create. sizeFits-fitting (h .arg1) (create-size (fixedRight m) h (length m) (subst (λ (cmd : ℕ). Passed (fixedRight m) (requestForm cmd) h (length m)) create p));
+    }
 
 pub envelope-sent : (m buffer : List ℕ) → envelope m buffer ≡ 0 → Sent m
 unfolding envelope

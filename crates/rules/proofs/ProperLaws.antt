@@ -13,7 +13,7 @@ use Rattle.breakpoints.specs.declared.entry.Breakpoint.{Breakpoint}
 use Rattle.breakpoints.specs.Entry.{breakpointAt, withCount}
 use Rattle.process.specs.Record.{fresh, entry, withRun, withHost, withVector, withEntry}
 use Rattle.process.specs.Find.{find}
-use Rattle.process.specs.Sound.{Sound}
+use Rattle.process.specs.Sound.{Sound, SizeRight}
 use Rattle.run_state.specs.RunState.{moving, stoppedOrAtBreak, atBreak, accepts}
 use Rattle.breakpoints.specs.Seen.{seen, savedFrom}
 use Rattle.process.specs.Request.{sheltered}
@@ -144,13 +144,13 @@ module _ (l : Local) (g : Proper l) where
 -- ---- a new process, and one that is gone
 
 -- whatever its bytes are
-pub new-proper : (host : ℕ) (bytes : List ℕ) → length bytes ≡ 4096 → Proper (local (created host .process) bytes)
+pub new-proper : (host size : ℕ) (bytes : List ℕ) → SizeRight size → length bytes ≡ size → Proper (local (created host size .process) bytes)
 unfolding created fresh
-new-proper host bytes size = proper-of (local (created host .process) bytes) (sound-stays .create host) refl size
+new-proper host size bytes right long = proper-of (local (created host size .process) bytes) (sound-stays .create host size right) refl long
 
-pub create-size : (host : ℕ) → length (created host .bytes) ≡ 4096
+pub create-size : (host size : ℕ) → length (created host size .bytes) ≡ size
 unfolding created
-create-size host = length-replicate {A = ℕ} 4096 0
+create-size host size = length-replicate {A = ℕ} size 0
 
 pub destroy-proper : Proper (local cleared [])
 unfolding cleared fresh

@@ -20,10 +20,11 @@ use Rattle.rules.specs.Tests.{State, reportTests, reportNumber}
 use Rattle.rules.specs.Access.{nobody, insider, numberAt}
 use Rattle.rules.specs.Step.{told, Call, report, store, step}
 use Rattle.rules.specs.Turn.{reportAccess, reportTurn, storeAccess, storeTurn, turnOf, bufferOf}
-use Rattle.rules.specs.Ready.{Typed}
+use Rattle.rules.specs.Ready.{Ready, Typed}
 use Rattle.rules.specs.Isolation.{asker, subject, event, passedOver, fieldsOf, isGranted, toldOf}
 use Rattle.rules.specs.Total.{testsOf, numbersOf, oneOf}
 use Rattle.rules.proofs.ProperLaws.{report-proper, store-proper}
+use Rattle.rules.proofs.StateLaws.{fits-kept}
 use Rattle.rules.proofs.RuleLaws.{public-reported, count-reported}
 use Rattle.rules.proofs.NumberLaws.{by-test, same-cond, first-listed, orElse-zero}
 use Rattle.rules.proofs.TurnLaws.{report-number, report-turn, store-number, store-turn}
@@ -74,13 +75,14 @@ module _ (p kind reason : ℕ) (words : List ℕ) where
     unfolding toldOf fieldsOf names
     report-silent d a q = same-cond (isGranted (a .outcome)) (d q)
 
-    report-there : (s : State) → p < 8 → There s here p (reportAccess p kind reason words)
+    report-there : (s : State) → Ready s → p < 8 → There s here p (reportAccess p kind reason words)
     unfolding asker subject fieldsOf reportAccess Typed
-    report-there s low = record {
+    report-there s r low = record {
       low = low;
       then = kept;
       fair = report-fair;
       words = λ t l n. count-reported kind words l ∙ t;
+      fits = fits-kept s r p;
       narrows = λ e u. omega arith;
       named = λ P e. e;
       reaches = inl (eq-eqb p p refl);
@@ -98,7 +100,7 @@ module _ (p kind reason : ℕ) (words : List ℕ) where
       listed = λ s. first-listed (oneOf (numbersOf here)) (reportTests s p kind reason buffer) refl refl;
       alike = λ s t r q a. rw (r .memory, q .memory, r .sound, q .sound);
       placed = λ s r z.
-          report-there s (ltb-true p 8 (not-false _ (first-passes 6 _ _ (rest-passes 13 _ _ (rest-passes 1 _ _ (rest-passes 0 _ _ z))))));
+          report-there s r (ltb-true p 8 (not-false _ (first-passes 6 _ _ (rest-passes 13 _ _ (rest-passes 1 _ _ (rest-passes 0 _ _ z))))));
       subject-creates = λ P e. refl;
       event-asker = λ e. refl;
       event-silent = λ e. report-silent;
@@ -125,13 +127,14 @@ module _ (p x v : ℕ) where
   unfolding toldOf fieldsOf names
   store-silent d a q = same-cond (isGranted (a .outcome)) (d q)
 
-  store-there : (s : State) → p < 8 → There s (store p x v) p (storeAccess x v)
+  store-there : (s : State) → Ready s → p < 8 → There s (store p x v) p (storeAccess x v)
   unfolding asker subject fieldsOf storeAccess
-  store-there s low = record {
+  store-there s r low = record {
     low = low;
     then = kept;
     fair = store-fair;
     words = λ t l n. n;
+    fits = fits-kept s r p;
     narrows = λ e u. omega arith;
     named = λ P e. e;
     reaches = inl (eq-eqb p p refl);
@@ -149,7 +152,7 @@ module _ (p x v : ℕ) where
     listed = λ s. refl;
     alike = λ s t r q a. refl;
     placed = λ s r z.
-        by-test (Placed s (store p x v)) (ltb p 8) (λ e. store-there s (ltb-true p 8 e)) (λ e. record { told = λ d q. store-silent d _ q; quiet = λ i. refl });
+        by-test (Placed s (store p x v)) (ltb p 8) (λ e. store-there s r (ltb-true p 8 e)) (λ e. record { told = λ d q. store-silent d _ q; quiet = λ i. refl });
     subject-creates = λ P e. refl;
     event-asker = λ e. refl;
     event-silent = λ e. store-silent;

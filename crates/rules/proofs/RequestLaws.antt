@@ -1,16 +1,16 @@
 -- The law of requests. Assumes nothing.
 use mathlib.Core.Path.{_≡_, refl, sym, ap, _∙_}
-use mathlib.Core.Bool.{Bool, true, false, not, _&&_, _||_, true≢false}
+use mathlib.Core.Bool.{Bool, true, false, not, cond, _&&_, _||_, true≢false}
 use mathlib.Core.List.{List, [], _∷_, _++_}
 use mathlib.Core.Logic.{_⊎_, inl, inr}
 use Prim.Native.Nat.{ℕ, zero, suc, _≤_, _<_}
 use native.Mathlib.Omega.{arith}
-use borrow.Author.Tests.{eq-eqb, ne-eqb, eqb-true, ltb-true, leb-true, le-leb, not-true, not-false}
+use borrow.Author.Tests.{eq-eqb, ne-eqb, eqb-true, eqb-false, ltb-true, ltb-false, leb-true, le-leb, not-true, not-false}
 use lib.ListN.{length, take, getD, length-append}
-use lib.Dec.{eqb, leb, lit<}
+use lib.Dec.{eqb, leb, ltb, lit<}
 use lib.Seq.{length-take-le}
 use Rattle.lists.specs.Buffer.{overlay}
-use Rattle.lists.proofs.Bool.{&&-left, &&-right, &&-both}
+use Rattle.lists.proofs.Bool.{&&-left, &&-right, &&-both, ||-left, ||-right}
 use Rattle.lists.proofs.First.{first-passes, first-alike}
 use Rattle.format.specs.declared.header.Header.{Header}
 use Rattle.lists.specs.Every.{every}
@@ -18,15 +18,17 @@ use Rattle.format.specs.Outcome.{Test, firstFailing}
 use Rattle.format.specs.Layout.{written, headerOf, stringOf}
 use Rattle.format.specs.Answer.{createdOf}
 use Rattle.format.proofs.OutcomeLaws.{rest-passes}
+use Rattle.format.proofs.TestLaws.{FittingSize}
 use Rattle.format.proofs.OutcomeLaws.{first-passes as head-passes}
 use Rattle.process.specs.declared.record.Process.{Process}
 use Rattle.process.specs.Record.{fresh}
+use Rattle.process.specs.Sound.{SizeRight}
 use Rattle.process.specs.Local.{Local, Proper}
 use Rattle.process.specs.Request.{created}
 use Rattle.state.specs.Records.{lowestAbsent, nobody as noProcess}
-use Rattle.state.proofs.RecordsLaws.{state-sound}
-use Rattle.rules.specs.Rule.{Rule, Public, public, ruleOf, names, creates}
-use Rattle.rules.specs.Tests.{State, askedTests, requestTests, requestNumber}
+use Rattle.state.specs.Layout.{freeBytes}
+use Rattle.rules.specs.Rule.{Rule, Public, public, ruleOf, names, creates, sizeAsked}
+use Rattle.rules.specs.Tests.{State, recordOf, noPlace, askedTests, requestTests, requestNumber}
 use Rattle.rules.specs.Access.{by, insider, numberAt}
 use Rattle.rules.specs.Step.{Call, request, step}
 use Rattle.rules.specs.Turn.{ruleAccess, createAccess, placeTests, requestPlace, messageTests, requestTurn, turnOf, bufferOf}
@@ -34,12 +36,13 @@ use Rattle.rules.specs.Ready.{Ready}
 use Rattle.rules.specs.Isolation.{Processes, namesOne, deposits, withoutString, asker, subject, event, passedOver, fieldsOf, isGranted, publicThen, toldOf, publicOf}
 use Rattle.rules.specs.Total.{testsOf, numbersOf, oneOf}
 use Rattle.rules.proofs.ProperLaws.{new-proper, create-size}
+use Rattle.rules.proofs.StateLaws.{extentOf, Fits, each-sound, layout-of, used-shown, fits-kept}
 use Rattle.rules.proofs.RuleLaws.{Open, Kept, Row, rule-row}
 use Rattle.rules.proofs.RuleLaws.{Taking as RowTaking}
 use Rattle.rules.proofs.NumberLaws.{by-test, same-cond, first-listed, orElse-zero, first-append, Sent, layout-sent}
 use Rattle.rules.proofs.TurnLaws.{request-number, request-turn}
 use Rattle.rules.proofs.AccessLaws.{Taking, May, Discreet, Fair, outerNumber}
-use Rattle.rules.proofs.CallLaws.{extentOf, Shown, Silent, There, Nowhere, Placed, Lawful}
+use Rattle.rules.proofs.CallLaws.{Shown, Silent, There, Nowhere, Placed, Lawful}
 
 -- ---- an op code that names a process
 
@@ -113,27 +116,63 @@ then-narrows cmd asker u =
     (λ e. by-test (λ (v : Public). extentOf v ≤ extentOf u) (eqb cmd 2) (λ i. omega arith)
     (λ i. by-test (λ (v : Public). extentOf v ≤ extentOf u) (eqb cmd 13) (λ j. omega arith) (λ j. omega arith)))
 
-abbrev createdThen : Header → Public → Public
-createdThen h u = record { there = true; host = h .host; size = 4096 }
+abbrev pub createdThen : Header → Public → Public
+createdThen h u = record { there = true; host = h .host; size = sizeAsked h }
 
-create-fair : (h : Header) (p : ℕ) → (h .host ≡ 0 → ⊥) → Fair (by (h .host)) (createAccess h p) (createdThen h)
+-- the size that a CREATE asks for is right
+pub asked-right : (h : Header) → FittingSize (h .arg1) → SizeRight (sizeAsked h)
+unfolding sizeAsked
+asked-right h f = go (eqb (h .arg1) 0) refl
+  where
+    go : (t : Bool) → eqb (h .arg1) 0 ≡ t → SizeRight (cond t 4096 (h .arg1))
+    go true e = record { even = refl; least = omega arith; most = omega arith }
+    go false e = record { even = f .even; least = omega (arith, f .even, eqb-false (h .arg1) 0 e); most = f .most }
+
+create-fair : (h : Header) (p : ℕ) → (h .host ≡ 0 → ⊥) → SizeRight (sizeAsked h) → Fair (by (h .host)) (createAccess h p) (createdThen h)
 unfolding createAccess May Discreet insider firstFailing public created fresh
-create-fair h p asked = record {
+create-fair h p asked right = record {
   publicly = λ l z. refl;
-  keeps = λ l g z. new-proper (h .host) (createAccess h p .effect l .bytes) (omega (arith, g .tested .size, create-size (h .host)));
+  keeps = λ l g z. new-proper (h .host) (sizeAsked h) (createAccess h p .effect l .bytes) right (create-size (h .host) (sizeAsked h));
   guarded = λ u z. inr (record { none = λ l. refl; blind = λ l k. refl; takes = λ v. rw (ne-eqb (h .host) 0 asked, eq-eqb (h .host) (h .host) refl) });
   hides = inr (λ l. refl);
   plain = λ l k e. refl;
   discreet = λ l. tt;
 }
 
+-- the process that CREATE takes is absent
+pub lowest-absent : (s : State) → Ready s → lowestAbsent (s .records) < 8 → recordOf s (lowestAbsent (s .records)) .there ≡ false
+unfolding lowestAbsent
+lowest-absent s r low =
+    let e = r .processes in
+    not-true _ (first-passes (λ (p : Process). not (p .there)) (s .records .processes) noProcess (omega (arith, low, e)))
+
+-- and has a place
+pub has-place : (h : Header) (s : State) → noPlace h s ≡ false → (lowestAbsent (s .records) < 8) × (sizeAsked h ≤ freeBytes (s .records))
+has-place h s e =
+    (ltb-true _ 8 (not-false _ (||-left (not (ltb (lowestAbsent (s .records)) 8)) _ e)), ltb-false _ _ (||-right (not (ltb (lowestAbsent (s .records)) 8)) _ e))
+
+pub fits-created : (s : State) → Ready s → (h : Header) → lowestAbsent (s .records) < 8 → sizeAsked h ≤ freeBytes (s .records)
+    → Fits s (lowestAbsent (s .records)) (createdThen h (publicOf s (lowestAbsent (s .records))))
+unfolding public
+fits-created s r h low free = record {
+  kept = λ e i. absurd (true≢false (sym e ∙ lowest-absent s r low));
+  room = λ e. let all = layout-of s r .fits in omega arith;
+}
+
+-- a request that names a process keeps its size, or ends it
+fits-named : (s : State) → Ready s → (cmd asker p : ℕ) → Fits s p (publicThen cmd asker (publicOf s p))
+unfolding publicThen
+fits-named s r cmd asker p =
+    by-test (Fits s p) (eqb cmd 1) (λ e. same (fits-kept s r p)) (λ e. by-test (Fits s p) (eqb cmd 2) (λ i. same (fits-kept s r p))
+    (λ i. by-test (Fits s p) (eqb cmd 13) (λ j. record { kept = λ b a. absurd (true≢false (sym a)); room = λ b. let all = layout-of s r .fits in omega arith }) (λ j. fits-kept s r p)))
+  where
+    same : {host : ℕ} → Fits s p (publicOf s p) → Fits s p (record { there = publicOf s p .there; host = host; size = publicOf s p .size })
+    same f = record { kept = f .kept; room = f .room }
+
 -- the record that CREATE takes has no host
 absent-unheld : (s : State) → Ready s → lowestAbsent (s .records) < 8 → publicOf s (lowestAbsent (s .records)) .host ≡ 0
-unfolding lowestAbsent public
-absent-unheld s r low =
-    let e = r .processes in
-    let gone = first-passes (λ (p : Process). not (p .there)) (s .records .processes) noProcess (omega (arith, low, e)) in
-    state-sound (s .records) (r .sound) (lowestAbsent (s .records)) low .absent (not-true _ gone) .0
+unfolding public
+absent-unheld s r low = each-sound s r (lowestAbsent (s .records)) low .absent (lowest-absent s r low) .0
 
 same-absent : (s t : State) → Ready s → Ready t → Shown s t → lowestAbsent (s .records) ≡ lowestAbsent (t .records)
 unfolding lowestAbsent public
@@ -173,6 +212,7 @@ module _ (m buffer : List ℕ) (s : State) (r : Ready s) (sent : Sent m) where
     then = publicThen (h .cmd) (h .host);
     fair = rule-fair (h .cmd) (ruleOf (h .cmd)) known h (stringOf m) (sent .asked .hosted) (sent .carried);
     words = λ t l n. known .words h (stringOf m) l n;
+    fits = fits-named s r (h .cmd) (h .host) (h .pid);
     narrows = λ e u. then-narrows (h .cmd) (h .host) u;
     named = λ P e. &&-right (names (h .cmd)) (P (h .pid)) (&&-right (leb 10 (length m)) (names (h .cmd) && P (h .pid)) e);
     reaches = inl (&&-both (leb 10 (length m)) _ long (&&-both (names (h .cmd)) _ n (eq-eqb (h .pid) (h .pid) refl)));
@@ -182,13 +222,14 @@ module _ (m buffer : List ℕ) (s : State) (r : Ready s) (sent : Sent m) where
     turns = λ z. known .turns h refl (publicOf s (h .pid)) (not-false _ (head-passes 7 _ _ (rest-passes 6 _ _ z)));
   }
 
-  place-created : names (headerOf m .cmd) ≡ false → creates (headerOf m .cmd) ≡ true → lowestAbsent (s .records) < 8
+  place-created : names (headerOf m .cmd) ≡ false → creates (headerOf m .cmd) ≡ true → (lowestAbsent (s .records) < 8) × (sizeAsked (headerOf m) ≤ freeBytes (s .records))
       → There s here (lowestAbsent (s .records)) (createAccess h (lowestAbsent (s .records)))
   unfolding asker subject namesOne fieldsOf bufferOf toldOf isGranted createAccess overlay written createdOf created fresh
-  place-created n c low = record {
-    low = low;
+  place-created n c placed = record {
+    low = placed .0;
     then = createdThen h;
-    fair = create-fair h (lowestAbsent (s .records)) (sent .asked .hosted);
+    fair = create-fair h (lowestAbsent (s .records)) (sent .asked .hosted) (asked-right h (sent .size (eqb-true (h .cmd) 12 c)));
+    fits = fits-created s r h (placed .0) (placed .1);
     words = λ t l n. refl;
     narrows = λ e u. absurd (e (eqb-true (h .cmd) 12 c));
     named = λ P e. absurd (true≢false (sym (&&-left (names (h .cmd)) (P (h .pid)) (&&-right (leb 10 (length m)) (names (h .cmd) && P (h .pid)) e)) ∙ n));
@@ -196,7 +237,7 @@ module _ (m buffer : List ℕ) (s : State) (r : Ready s) (sent : Sent m) where
     carries = λ l e. refl;
     anew = λ e l k. refl;
     told = λ d l q. rw (n, c);
-    turns = λ z. inr (inl (record { op = inr (eqb-true (h .cmd) 12 c); before = absent-unheld s r low; after = refl }));
+    turns = λ z. inr (inl (record { op = inr (eqb-true (h .cmd) 12 c); before = absent-unheld s r (placed .0); after = refl }));
   }
 
   place-idle : names (headerOf m .cmd) ≡ false → creates (headerOf m .cmd) ≡ false → Nowhere here (written h [])
@@ -209,7 +250,7 @@ module _ (m buffer : List ℕ) (s : State) (r : Ready s) (sent : Sent m) where
     where
       go : (t : Bool) → names (h .cmd) ≡ t → (u : Bool) → creates (h .cmd) ≡ u → Placed s here (requestPlace h (stringOf m) s)
       go true n u c = rw n (place-named n (ltb-true _ 8 (not-false _ (head-passes 6 _ _ (rw n at z)))))
-      go false n true c = rw (n, c) (place-created n c (ltb-true _ 8 (not-false _ (head-passes 12 _ _ (rw (n, c) at z)))))
+      go false n true c = rw (n, c) (place-created n c (has-place h s (head-passes 12 _ _ (rw (n, c) at z))))
       go false n false c = rw (n, c) (place-idle n c)
 
 -- ---- a request without its string
@@ -265,7 +306,7 @@ over-long m e =
 module _ (m buffer : List ℕ) where
   request-alike : (s t : State) → Ready s → Ready t → Shown s t → requestTurn m buffer s ≡ requestTurn m buffer t
   unfolding requestTurn placeTests requestPlace
-  request-alike s t r q a = rw (r .memory, q .memory, r .sound, q .sound, same-absent s t r q a)
+  request-alike s t r q a = rw (r .memory, q .memory, r .sound, q .sound, same-absent s t r q a, used-shown s t a)
 
   request-placed : (s : State) → Ready s → firstFailing (requestTurn m buffer s .tests) ≡ 0 → Placed s (request m buffer) (requestTurn m buffer s .place)
   unfolding requestTurn

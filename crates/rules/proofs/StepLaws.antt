@@ -7,12 +7,13 @@ use borrow.Author.Tests.{eqb-true, eqb-false}
 use lib.Dec.{eqb}
 use Rattle.format.specs.Outcome.{firstFailing}
 use Rattle.process.specs.Local.{Local, Proper}
+use Rattle.rules.specs.Rule.{public}
 use Rattle.rules.specs.Tests.{State}
 use Rattle.rules.specs.Access.{Access, Place, nowhere, atProcess, numberAt, grants, refuses, reached, taken}
 use Rattle.rules.specs.Step.{StepResult, localOf, put, Call, step}
 use Rattle.rules.specs.Turn.{turnOf, bufferOf}
 use Rattle.rules.specs.Ready.{Ready, NineWords, Worded, Typed}
-use Rattle.rules.proofs.StateLaws.{local-proper, Changed, put-changed, put-ready}
+use Rattle.rules.proofs.StateLaws.{local-proper, Changed, Fits, put-changed, put-ready}
 pub use Rattle.rules.proofs.NumberLaws.{by-test}
 use Rattle.rules.proofs.CallLaws.{There, Nowhere, Placed}
 use Rattle.rules.proofs.LawfulLaws.{lawful}
@@ -49,11 +50,14 @@ module _ (s : State) (r : Ready s) (c : Call) (p : ℕ) (a : Access) (t : There 
   pub left-proper : Proper (a .effect (localOf s p))
   left-proper = t .fair .keeps (localOf s p) (local-proper s r p (t .low)) z
 
+  left-fits : Fits s p (public (a .effect (localOf s p) .process))
+  left-fits = subst (Fits s p) (sym (t .fair .publicly (localOf s p) z)) (t .fits)
+
   pub acts-changed : Changed s (put p (a .effect (localOf s p)) s) p (a .effect (localOf s p))
-  acts-changed = put-changed s r p (t .low) (a .effect (localOf s p)) left-proper
+  acts-changed = put-changed s r p (t .low) (a .effect (localOf s p)) left-proper left-fits
 
   pub acts-ready : Ready (put p (a .effect (localOf s p)) s)
-  acts-ready = put-ready s r p (t .low) (a .effect (localOf s p)) left-proper
+  acts-ready = put-ready s r p (t .low) (a .effect (localOf s p)) left-proper left-fits
 
 pub step-ready : (s : State) → Ready s → (c : Call) → Ready (step s c .after)
 step-ready s r c = go (done s r c)

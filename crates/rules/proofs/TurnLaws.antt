@@ -16,7 +16,7 @@ use Rattle.process.specs.Report.{recipientOf}
 use Rattle.run_state.specs.RunState.{accepts}
 use Rattle.state.specs.Records.{lowestAbsent}
 use Rattle.rules.specs.Rule.{Rule, public, ruleOf, names, creates}
-use Rattle.rules.specs.Tests.{State, recordOf, noRoom, unsound, outerTests, innerTests, ruleTests, askedTests, requestNumber, badReport, reportNumber}
+use Rattle.rules.specs.Tests.{State, recordOf, noRoom, unsound, outerTests, innerTests, ruleTests, noPlace, askedTests, requestNumber, badReport, reportNumber}
 use Rattle.rules.specs.Access.{Access, Place, nowhere, atProcess, Turn, numberAt, reached, taken}
 use Rattle.rules.specs.Step.{answers, localOf, grantedNamed, grantedCreate, granted, refused, requestStep, told, noticeTo, notified, reportStep, stored}
 use Rattle.rules.specs.Turn.{cantBytes, ruleAccess, createAccess, placeTests, requestPlace, messageTests, requestTurn, reportAccess, reportTurn, storeAccess, storeTurn}
@@ -59,7 +59,7 @@ module _ (h : Header) (string : List ℕ) (s : State) where
       go : (t : Bool) → names (h .cmd) ≡ t → (u : Bool) → creates (h .cmd) ≡ u
           → orElse (firstFailing (placeTests h s)) (placeNumber (requestPlace h string s) s) ≡ firstFailing (askedTests h s)
       go true e u i = rw e (named-number (ltb (h .pid) 8) (ruleOf (h .cmd)) h string (localOf s (h .pid)))
-      go false e true i = rw (e, i) (or-none (not (ltb (lowestAbsent (s .records)) 8)))
+      go false e true i = rw (e, i) (or-none (noPlace h s))
       go false e false i = rw (e, i)
 
 pub request-number : (m buffer : List ℕ) (s : State) → turnNumber (requestTurn m buffer s) s ≡ requestNumber s m buffer

@@ -11,7 +11,7 @@ use Rattle.format.specs.Outcome.{lengthOf}
 unfoldable pub use Rattle.format.specs.Outcome.{isGranted}
 use Rattle.format.specs.Layout.{headerOf}
 use Rattle.process.specs.Sizes.{memoryBytes}
-use Rattle.rules.specs.Rule.{Public, public, names, creates}
+use Rattle.rules.specs.Rule.{Public, public, names, creates, sizeAsked}
 use Rattle.rules.specs.Tests.{State, recordOf}
 use Rattle.rules.specs.Access.{Asker, nobody, by, insider}
 use Rattle.rules.specs.Step.{Answer, Call, request, report, store, step, localOf}
@@ -96,7 +96,7 @@ isOne H (by host) = H host
 
 -- ---- who debugs, as the calls and their answers tell it
 
--- 'from a granted DEBUG .. the asker; from a granted END DEBUG or DESTROY nobody'; 'CREATE and a cleared record give 4,096'
+-- 'from a granted DEBUG .. the asker; from a granted END DEBUG or DESTROY nobody'; 'a cleared record give[s] 4,096'
 unfoldable pub publicThen : ℕ → ℕ → Public → Public
 publicThen cmd asker u =
     cond (eqb cmd DEBUG) (record { there = u .there; host = asker; size = u .size })
@@ -108,7 +108,7 @@ unfoldable pub toldOf : (ℕ → Public) → Call → Answer → ℕ → Public
 toldOf d c a p =
     cond (isGranted (a .outcome))
     (cond (names (fieldsOf c .cmd) && eqb p (fieldsOf c .pid)) (publicThen (fieldsOf c .cmd) (fieldsOf c .host) (d p))
-    (cond (creates (fieldsOf c .cmd) && eqb p (getD (a .buffer) 5 0)) (record { there = true; host = fieldsOf c .host; size = memoryBytes }) (d p)))
+    (cond (creates (fieldsOf c .cmd) && eqb p (getD (a .buffer) 5 0)) (record { there = true; host = fieldsOf c .host; size = sizeAsked (fieldsOf c) }) (d p)))
     (d p)
 
 -- the public part of a process in a state

@@ -12,4 +12,5 @@ pub mod Outsider
 pub mod Together
 pub mod Total
 pub mod Rights
-pub mod PastSizes
+pub mod OneMemory
+pub mod Ledger

@@ -5,9 +5,8 @@ use Prim.Native.Nat.{ℕ, _<_}
 use lib.ListN.{length}
 use Rattle.process.specs.declared.record.Process.{Process}
 use Rattle.process.specs.Sizes.{vectorWords}
-use Rattle.state.specs.Records.{soundTest}
-use Rattle.state.specs.Slot.{capacity}
-use Rattle.state.specs.Theorems.{EightEntries}
+use Rattle.state.specs.Layout.{capacity}
+use Rattle.state.specs.Sound.{EightEntries, soundTest}
 use Rattle.rules.specs.Tests.{State, recordOf}
 use Rattle.rules.specs.Step.{Call, request, report, store}
 
@@ -15,6 +14,7 @@ use Rattle.rules.specs.Step.{Call, request, report, store}
 pub record Ready (s : State) : Type 0 where
   pub memory : length (s .memory) ≡ capacity
   pub processes : length (s .records .processes) ≡ 8
+  pub starts : length (s .records .starts) ≡ 8
   pub entries : EightEntries (s .records)
   pub sound : soundTest (s .records) ≡ true
 

@@ -1,5 +1,5 @@
 -- What the rules say of each op code that names a process: who may ask it, when, and what it does. One row for each op code.
-use mathlib.Core.Bool.{Bool, true, _&&_, _||_}
+use mathlib.Core.Bool.{Bool, true, cond, _&&_, _||_}
 use mathlib.Core.List.{List, [], _∷_}
 use Prim.Native.Nat.{ℕ, _+_}
 use lib.ListN.{getD}
@@ -13,6 +13,7 @@ use Rattle.process.specs.Local.{Local}
 use Rattle.run_state.specs.RunState.{stoppedOrAtBreak, atBreak}
 use Rattle.process.specs.Request.{hasBreak, hasRoom, debugged, endDebugged, stopped, resumed, stepped, proceeded, examined, deposited, vectorDeposited, breakSet, breakRemoved, destroyed}
 use Rattle.ops.specs.Codes.{CREATE}
+use Rattle.process.specs.Sizes.{memoryBytes}
 
 -- all that anyone may know of a process: 'which processes are there, who debugs each'; 'Sizes are public'
 pub record Public : Type 0 where
@@ -175,3 +176,7 @@ names cmd = asks (op cmd) .pid
 -- CREATE PROCESS
 abbrev pub creates : ℕ → Bool
 creates cmd = eqb cmd CREATE
+
+-- 'CREATE takes an even size in ARG1, up to 4,096, 0 meaning 4,096.'
+unfoldable pub sizeAsked : Header → ℕ
+sizeAsked h = cond (eqb (h .arg1) 0) memoryBytes (h .arg1)

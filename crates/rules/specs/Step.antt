@@ -14,7 +14,7 @@ use Rattle.format.specs.Answer.{cantOf, createdOf, noticeOf}
 use Rattle.process.specs.Local.{Local, local}
 use Rattle.process.specs.Request.{created}
 use Rattle.process.specs.Report.{reported, recipientOf}
-use Rattle.rules.specs.Rule.{ruleOf, names, creates}
+use Rattle.rules.specs.Rule.{ruleOf, names, creates, sizeAsked}
 use Rattle.state.specs.Records.{lowestAbsent}
 use Rattle.rules.specs.Tests.{State, recordOf, requestNumber, reportNumber}
 pub use Rattle.rules.specs.Window.{Answer, StepResult, localOf}
@@ -41,7 +41,7 @@ grantedNamed h string buffer s =
 -- CREATE: 'the lowest absent number'
 unfoldable pub grantedCreate : Header → List ℕ → State → StepResult
 grantedCreate h buffer s =
-    replied (createdOf h (lowestAbsent (s .records))) [] buffer (put (lowestAbsent (s .records)) (created (h .host)) s)
+    replied (createdOf h (lowestAbsent (s .records))) [] buffer (put (lowestAbsent (s .records)) (created (h .host) (sizeAsked h)) s)
 
 -- a request whose tests all pass; NOP changes nothing
 unfoldable pub granted : Header → List ℕ → List ℕ → State → StepResult
@@ -80,7 +80,7 @@ reportStep p kind reason words buffer s =
     (notified p kind reason words buffer (localOf s p) (put p (reported kind words (localOf s p)) s))
     (answers (outcome (reportNumber s p kind reason buffer) 0) buffer s)
 
--- a store by the machine: 'one byte into a process's memory', within its size
+-- a store by the machine, 'only within a process's own bytes'
 unfoldable pub stored : ℕ → ℕ → ℕ → State → State
 stored p a v s = cond (ltb p 8) (put p (local (recordOf s p) (set (localOf s p .bytes) a v)) s) s
 

@@ -12,9 +12,10 @@ use Rattle.format.specs.Refusal.{layoutTests}
 use Rattle.process.specs.declared.record.Process.{Process}
 use Rattle.run_state.specs.ReportKind.{TRAP, TTRAP}
 use Rattle.run_state.specs.RunState.{accepts}
-use Rattle.state.specs.Records.{Records, processAt, lowestAbsent, soundTest}
-use Rattle.state.specs.Slot.{capacity}
-use Rattle.rules.specs.Rule.{Rule, Public, public, ruleOf, names, creates}
+use Rattle.state.specs.Records.{Records, processAt, lowestAbsent}
+use Rattle.state.specs.Layout.{capacity, freeBytes}
+use Rattle.state.specs.Sound.{soundTest}
+use Rattle.rules.specs.Rule.{Rule, Public, public, ruleOf, names, creates, sizeAsked}
 use Rattle.format.specs.Sizes.{messageBytes}
 
 -- the gateway's eight records and the lent memory
@@ -26,7 +27,7 @@ pub record State : Type 0 where
 abbrev pub lent : Records → List ℕ → State
 lent g memory = record { records = g; memory = memory }
 
--- 1: 'memory not 32,768 bytes, or reply or notice buffer under 266'
+-- 1: 'memory not' 16,384 'bytes, or reply or notice buffer under 266'
 abbrev pub noRoom : List ℕ → List ℕ → Bool
 noRoom memory buffer = not (eqb (length memory) capacity) || ltb (length buffer) messageBytes
 
@@ -59,11 +60,15 @@ innerTests r h p =
 abbrev pub ruleTests : Rule → Header → Process → List Test
 ruleTests r h p = outerTests r h (public p) ++ innerTests r h p
 
--- the tests 7 to 12 of a request that names a process, and 13 of CREATE: 'all eight processes are there'
+-- 13: 'all numbers are taken or free bytes are fewer than the size'
+abbrev pub noPlace : Header → State → Bool
+noPlace h s = not (ltb (lowestAbsent (s .records)) 8) || ltb (freeBytes (s .records)) (sizeAsked h)
+
+-- the tests 7 to 12 of a request that names a process, and 13 of CREATE
 unfoldable pub askedTests : Header → State → List Test
 askedTests h s =
     cond (names (h .cmd)) (test 7 (absent s (h .pid)) ∷ ruleTests (ruleOf (h .cmd)) h (recordOf s (h .pid)))
-    (cond (creates (h .cmd)) (test 13 (not (ltb (lowestAbsent (s .records)) 8)) ∷ []) [])
+    (cond (creates (h .cmd)) (test 13 (noPlace h s) ∷ []) [])
 
 -- the tests of a request, in document 01's order
 abbrev pub requestTests : State → List ℕ → List ℕ → List Test

@@ -16,8 +16,8 @@ use Rattle.process.specs.Request.{created}
 use Rattle.run_state.specs.RunState.{accepts}
 use Rattle.process.specs.Report.{reported, recipientOf}
 use Rattle.state.specs.Records.{lowestAbsent}
-use Rattle.rules.specs.Rule.{Rule, ruleOf, names, creates}
-use Rattle.rules.specs.Tests.{State, noRoom, unsound, outerTests, innerTests, badReport}
+use Rattle.rules.specs.Rule.{Rule, ruleOf, names, creates, sizeAsked}
+use Rattle.rules.specs.Tests.{State, noRoom, unsound, outerTests, innerTests, noPlace, badReport}
 use Rattle.rules.specs.Access.{Access, Place, nowhere, atProcess, Turn}
 use Rattle.rules.specs.Step.{told, Call, request, report, store}
 
@@ -44,14 +44,14 @@ createAccess h p = record {
   inner = λ l. [];
   reply = λ l. written (createdOf h p) [];
   refusal = λ l. cantBytes h;
-  effect = λ l. created (h .host);
+  effect = λ l. created (h .host) (sizeAsked h);
 }
 
 -- 7, 'number over 7', and 13
 unfoldable pub placeTests : Header → State → List Test
 placeTests h s =
     cond (names (h .cmd)) (test 7 (not (ltb (h .pid) 8)) ∷ [])
-    (cond (creates (h .cmd)) (test 13 (not (ltb (lowestAbsent (s .records)) 8)) ∷ []) [])
+    (cond (creates (h .cmd)) (test 13 (noPlace h s) ∷ []) [])
 
 -- NOP looks at no process
 unfoldable pub requestPlace : Header → List ℕ → State → Place

@@ -2,7 +2,8 @@
 // includes it.
 ghost use Rattle.rules.specs.Total.{Total};
 ghost use Rattle.rules.specs.Rights.{Rights};
-ghost use Rattle.rules.specs.PastSizes.{PastSizes};
+ghost use Rattle.rules.specs.OneMemory.{OneMemory};
+ghost use Rattle.rules.specs.Ledger.{Ledger};
 ghost use Rattle.rules.specs.Together.{Isolation};
 
 // Every call is answered by the number of the first test that fails, or granted where none does; a refusal changes nothing; a sound state
@@ -23,7 +24,13 @@ pub fn isolation()
     ensures { λ _. ⌜ Isolation ⌝ }
 {}
 
-// No call reads or changes a byte of a slot past its process's size, but a CREATE, which writes the whole slot of an absent process.
-pub fn past_sizes()
-    ensures { λ _. ⌜ PastSizes ⌝ }
+// All processes lie in one memory: free bytes are not read, CREATE is refused with 13 exactly where there is no place, a DESTROY moves the
+// others unchanged and zeroes what it frees, and nothing of a destroyed process is left.
+pub fn one_memory()
+    ensures { λ _. ⌜ OneMemory ⌝ }
+{}
+
+// Free bytes and the sizes that calls and answers tell make 16,384, over lists of any length.
+pub fn ledger()
+    ensures { λ _. ⌜ Ledger ⌝ }
 {}

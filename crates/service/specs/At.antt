@@ -14,7 +14,7 @@ use Rattle.process.specs.Local.{Local, local}
 use Rattle.process.specs.Request.{created}
 use Rattle.run_state.specs.RunState.{accepts}
 use Rattle.process.specs.Report.{reported, recipientOf}
-use Rattle.rules.specs.Rule.{ruleOf, creates}
+use Rattle.rules.specs.Rule.{ruleOf, creates, sizeAsked}
 use Rattle.rules.specs.Tests.{badReport}
 use Rattle.rules.specs.Step.{Answer, replyOf, noticeTo}
 use Rattle.checks.specs.Decision.{processTests}
@@ -42,7 +42,8 @@ served o p bytes buffer = leaving (answer o buffer) (local p bytes)
 
 -- ---- requests
 
--- the process after a request, its bytes laid over those that it had: one that is destroyed has none, and leaves them as they are
+-- the process after a request, its bytes laid over those that it had: one that is destroyed has none, and leaves them as they are until those
+-- above it move down
 abbrev pub laidOver : Local → Local → Local
 laidOver after l = local (after .process) (overlay (after .bytes) (l .bytes))
 
@@ -68,9 +69,9 @@ namedAt h string buffer l = namedBy (firstFailing (processTests h (l .process)))
 unfoldable pub changes : ℕ → Bool
 changes cmd = not (eqb cmd EXAMINE)
 
--- CREATE, of process p
+-- CREATE, of process p, with the size that is asked for
 unfoldable pub createdAt : ℕ → Header → List ℕ → ProcessResult
-createdAt p h buffer = leaving (replyOf (createdOf h p) [] buffer) (created (h .host))
+createdAt p h buffer = leaving (replyOf (createdOf h p) [] buffer) (created (h .host) (sizeAsked h))
 
 -- ---- reports
 

@@ -13,6 +13,7 @@ pub use report::check_report;
 pub use report::report_for_process;
 pub use request::answer_create;
 pub use request::answer_for_process;
+pub use request::size_asked;
 pub use served::ServiceResult;
 pub use target::Target;
 pub use target::target_of;

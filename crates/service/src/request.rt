@@ -13,7 +13,7 @@ ghost use Prim.Native.Nat.{_≤_, _<_};
 ghost use lib.ListN.{length};
 ghost use Rattle.format.specs.Outcome.{firstFailing};
 ghost use Rattle.process.specs.Local.{local, Tested, Present};
-ghost use Rattle.rules.specs.Rule.{ruleOf};
+ghost use Rattle.rules.specs.Rule.{ruleOf, sizeAsked};
 ghost use Rattle.rules.specs.Tests.{ruleTests};
 ghost use Rattle.checks.specs.Decision.{entryOf};
 ghost use Rattle.service.specs.At.{served, namedBy, namedAt, createdAt};
@@ -67,20 +67,31 @@ pub fn answer_for_process(
     }
 }
 
-// CREATE, of the process with this number.
+// The size that a CREATE asks for; 0 asks for the greatest.
+pub fn size_asked(h: Header) -> u16
+    ensures { λ r. ⌜ r ≡ sizeAsked h ⌝ }
+{
+    if h.arg1 == 0 {
+        return 4096;
+    }
+    h.arg1
+}
+
+// CREATE, of the process with this number, with these bytes: as many as it asks for.
 pub fn answer_create(
     h: Header,
     pid: usize,
+    size: u16,
     process: Process,
     bytes: &mut [u8],
     reply: &mut [u8],
 ) -> ServiceResult
     requires { ⌜ pid < 8 ⌝ }
-    requires { ⌜ length (now bytes) ≡ memoryBytes ⌝ }
+    requires { ⌜ (size ≡ sizeAsked h) × (length (now bytes) ≡ size) × (size ≤ memoryBytes) ⌝ }
     requires { ⌜ messageBytes ≤ length (now reply) ⌝ }
     ensures { λ r. ⌜ served (r .outcome) (r .process) (now (bytes .exit)) (now (reply .exit)) ≡ createdAt pid h (now (reply .entry)) ⌝ }
 {
-    let created = process.create(h.host, bytes);
+    let created = process.create(h.host, size, bytes);
     let number = pid as u8;
     let outcome = reply_plain(h.created(number), reply);
     ServiceResult {

@@ -1,3 +1,7 @@
 -- Laws that several proofs of this crate, and of the crates above, cite.
 pub mod RecordsLaws
-pub mod SlotLaws
+pub mod LayoutLaws
+pub mod MemoryLaws
+pub mod SoundLaws
+pub mod FreshLaws
+pub mod ApartLaws

@@ -1,4 +1,7 @@
--- The definitions that the contracts of this crate, and of those above it, cite. Words in quotation marks are document 01's.
+-- The definitions that the contracts of this crate, and of those above it, cite. Words in quotation marks are those of document 01 or of a
+-- change request.
 pub mod Records
-pub mod Slot
+pub mod Layout
+pub mod Sound
+pub mod Fresh
 pub mod Theorems

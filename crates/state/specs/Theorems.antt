@@ -2,15 +2,13 @@
 use mathlib.Core.Path.{_≡_}
 use mathlib.Core.Bool.{Bool, true}
 use mathlib.Core.List.{List}
-use Prim.Native.Nat.{ℕ, _*_, _≤_, _<_}
+use mathlib.Core.Logic.{_⊎_}
+use Prim.Native.Nat.{ℕ, _+_, _≤_, _<_}
 use lib.ListN.{length}
-use Rattle.state.specs.Records.{Records, processAt, SoundState, soundTest, freshStart, sizesRight}
-use Rattle.process.specs.Sizes.{memoryBytes}
-use Rattle.state.specs.Slot.{capacity, startOf, slot, withSlot}
-
--- every record has its eight entries, as every record of the code does
-abbrev pub EightEntries : Records → Type 0
-EightEntries g = (p : ℕ) → p < 8 → length (processAt g p .breaks) ≡ 8
+use Rattle.state.specs.Records.{Records, processAt, startOf}
+use Rattle.state.specs.Layout.{capacity, extentAt, used, LaidOut}
+use Rattle.state.specs.Sound.{SoundState, EightEntries, soundTest}
+use Rattle.state.specs.Fresh.{freshStart, sizesRight}
 
 -- the test passes exactly the sound states
 pub record TestIsSound : Type 0 where
@@ -21,13 +19,14 @@ pub record TestIsSound : Type 0 where
 unfoldable pub FreshIsSound : Type 0
 FreshIsSound = (there : List Bool) (sizes : List ℕ) → length there ≡ 8 → sizesRight there sizes ≡ true → SoundState (freshStart there sizes)
 
--- each process has its own bytes
-pub record SlotsApart : Type 0 where
-  -- 'process p from byte 4,096 × p'
-  pub starts : (p : ℕ) → p < 8 → startOf p ≡ memoryBytes * p
-  pub size : (p n : ℕ) (memory : List ℕ) → p < 8 → length memory ≡ capacity → n ≤ memoryBytes → length (slot p n memory) ≡ n
-  pub kept : (p : ℕ) (bytes memory : List ℕ) → p < 8 → length memory ≡ capacity → length bytes ≤ memoryBytes → length (withSlot p bytes memory) ≡ capacity
-  pub same : (p : ℕ) (bytes memory : List ℕ) → p < 8 → length memory ≡ capacity → length bytes ≤ memoryBytes
-      → slot p (length bytes) (withSlot p bytes memory) ≡ bytes
-  pub other : (p q n : ℕ) (bytes memory : List ℕ) → p < 8 → q < 8 → (q ≡ p → ⊥) → length memory ≡ capacity → length bytes ≤ memoryBytes → n ≤ memoryBytes
-      → slot q n (withSlot p bytes memory) ≡ slot q n memory
+-- 'One memory for all': in a state that is laid out each process has its own bytes
+pub record ProcessesApart : Type 0 where
+  -- they lie before the free ones, which are within the memory
+  pub inside : (g : Records) → LaidOut g → (p : ℕ) → p < 8 → processAt g p .there ≡ true
+      → (startOf g p + extentAt g p ≤ used g) × (used g ≤ capacity)
+  -- no byte is in two processes
+  pub apart : (g : Records) → LaidOut g → (p q : ℕ) → p < 8 → q < 8 → (q ≡ p → ⊥) → processAt g p .there ≡ true → processAt g q .there ≡ true
+      → (startOf g q + extentAt g q ≤ startOf g p) ⊎ (startOf g p + extentAt g p ≤ startOf g q)
+  -- 'without gaps': every byte before the free ones is in a process
+  pub no-gaps : (g : Records) → LaidOut g → (i : ℕ) → i < used g
+      → (p : ℕ) × (p < 8) × (processAt g p .there ≡ true) × (startOf g p ≤ i) × (i < startOf g p + extentAt g p)

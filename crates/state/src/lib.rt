@@ -1,8 +1,8 @@
-// The state of the gateway as the definitions have it, eight process records, and where in the lent memory each process's bytes lie.
+// The state of the gateway as the definitions have it: eight process records, and where in the one memory each process's bytes lie.
+mod memory;
 mod sizes;
-mod slot;
 pub mod theorems;
 
+pub use memory::CAPACITY;
+pub use memory::close;
 pub use sizes::size_of;
-pub use slot::CAPACITY;
-pub use slot::start;

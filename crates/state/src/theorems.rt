@@ -1,6 +1,6 @@
 // What is proved of the state. These functions do nothing: each one's contract is a theorem, so that the check of this crate
 // includes it.
-ghost use Rattle.state.specs.Theorems.{TestIsSound, FreshIsSound, SlotsApart};
+ghost use Rattle.state.specs.Theorems.{TestIsSound, FreshIsSound, ProcessesApart};
 
 // The test of soundness passes exactly the sound states.
 pub fn test_is_sound()
@@ -12,7 +12,7 @@ pub fn fresh_is_sound()
     ensures { λ _. ⌜ FreshIsSound ⌝ }
 {}
 
-// Each process has its own bytes of the lent memory, at most 4,096.
-pub fn slots_are_apart()
-    ensures { λ _. ⌜ SlotsApart ⌝ }
+// Each process has its own bytes of the one memory, and there are no gaps between them.
+pub fn processes_are_apart()
+    ensures { λ _. ⌜ ProcessesApart ⌝ }
 {}

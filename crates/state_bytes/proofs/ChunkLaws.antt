@@ -6,7 +6,7 @@ use Prim.Native.Nat.{ℕ, zero, suc, _+_, _-_, _*_, _≤_, _<_}
 use native.Mathlib.Omega.{arith}
 use borrow.Author.Tests.{ltb-true, ltb-false}
 use lib.ListN.{length, take, drop, getD, set, replicate, length-append, length-drop, take-append-drop, List·getD-eq-default}
-use lib.Seq.{take-at, drop-at, take-all, length-take-le, getD-take, getD-drop, drop-drop, take-add}
+use lib.Seq.{take-at, drop-at, take-all, length-take-le, take-append-le, drop-append-le, take-append-add, drop-append-add, getD-take, getD-drop, drop-drop, take-add}
 use lib.Dec.{ltb}
 use Rattle.lists.specs.Buffer.{Bytes, overlay}
 use Rattle.lists.proofs.Buffer.{part-overlay}
@@ -83,9 +83,30 @@ module _ {A : Type 0} (w : ℕ) (f : List ℕ → A) where
   every-read t zero m = refl
   every-read t (suc n) m = ap (λ (b : Bool). t (f (take w m)) && b) (every-read t n (drop w m))
 
+  -- what stands after the pieces is not read
+  pub chunks-front : (n : ℕ) (a b : List ℕ) → w * n ≤ length a → chunks w f n (a ++ b) ≡ chunks w f n a
+  unfolding chunks
+  chunks-front zero a b h = refl
+  chunks-front (suc n) a b h =
+      let one : w ≤ length a = omega arith in
+      rw (take-append-le w a b one, drop-append-le w a b one, chunks-front n (drop w a) b (simp length-drop (omega arith)))
+
 -- ---- tests
 
 module _ (w : ℕ) (t : List ℕ → Bool) where
+  pub every-front : (n : ℕ) (a b : List ℕ) → w * n ≤ length a → everyChunk w t n (a ++ b) ≡ everyChunk w t n a
+  unfolding everyChunk
+  every-front zero a b h = refl
+  every-front (suc n) a b h =
+      let one : w ≤ length a = omega arith in
+      rw (take-append-le w a b one, drop-append-le w a b one, every-front n (drop w a) b (simp length-drop (omega arith)))
+
+  -- a test that all pass
+  pub every-any : ((c : List ℕ) → t c ≡ true) → (n : ℕ) (m : List ℕ) → everyChunk w t n m ≡ true
+  unfolding everyChunk
+  every-any all zero m = refl
+  every-any all (suc n) m = &&-both (t (take w m)) (everyChunk w t n (drop w m)) (all (take w m)) (every-any all n (drop w m))
+
   mul-more : (k : ℕ) → w + w * k ≡ w * suc k
   mul-more k = omega arith
 
@@ -138,6 +159,19 @@ module _ {A : Type 0} (f : A → List ℕ) where
   length-joined w [] d h = omega arith
   length-joined w (x ∷ xs) d h =
       length-append (f x) (joined f xs) ∙ omega (arith, h 0 (omega arith), length-joined w xs d (λ k i. h (suc k) (omega (arith, i))))
+
+  -- another in place of one
+  pub joined-set : (w : ℕ) → ((x : A) → length (f x) ≡ w) → (xs : List A) (k : ℕ) (x : A) → k < length xs
+      → joined f (set xs k x) ≡ take (w * k) (joined f xs) ++ (f x ++ drop w (drop (w * k) (joined f xs)))
+  unfolding joined
+  joined-set w wide [] k x h = absurd (omega arith)
+  joined-set w wide (y ∷ xs) zero x h =
+      let none : w * 0 ≡ 0 = omega arith in
+      rw (none, drop-at (f y) (joined f xs) w (wide y))
+  joined-set w wide (y ∷ xs) (suc k) x h =
+      let more : w * suc k ≡ length (f y) + w * k = omega (arith, wide y) in
+      rw (more, take-append-add (f y) (joined f xs) (w * k), drop-append-add (f y) (joined f xs) (w * k), joined-set w wide xs k x (omega arith))
+      (sym (append-assoc (f y) (take (w * k) (joined f xs)) (f x ++ drop w (drop (w * k) (joined f xs)))))
 
 -- ---- reading and writing
 

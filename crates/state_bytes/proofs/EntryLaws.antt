@@ -63,6 +63,10 @@ pub &&-true : (b : Bool) → b && true ≡ b
 &&-true true = refl
 &&-true false = refl
 
+pub &&-false : (b : Bool) → b && false ≡ false
+&&-false true = refl
+&&-false false = refl
+
 pub &&-assoc : (a b c : Bool) → (a && b) && c ≡ a && (b && c)
 &&-assoc true b c = refl
 &&-assoc false b c = refl

@@ -2,5 +2,7 @@
 pub mod ChunkLaws
 pub mod EntryLaws
 pub mod NumberLaws
+pub mod OrderLaws
 pub mod ProcessLaws
+pub mod StartLaws
 pub mod StateLaws

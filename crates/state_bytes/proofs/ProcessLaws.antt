@@ -32,7 +32,7 @@ use Rattle.state_bytes.specs.Number.{flagOf}
 use Rattle.state_bytes.specs.Process.{headBytes, sizeOf, processBytes, processOf, headFormed, processFormed, headSound, processPlain, processSound}
 use Rattle.state_bytes.specs.Widths.{entryCount, entryWidth, thereAt, hostAt, runAt, sizeAt, headWidth, vectorAt, vectorWidth, entriesAt, entriesWidth, processWidth}
 use Rattle.state_bytes.proofs.ChunkLaws.{bytes-take, bytes-drop, length-joined, chunks-joined, every-joined, joined-chunks, chunks-same, every-weaker}
-use Rattle.state_bytes.proofs.EntryLaws.{&&-true, &&-assoc, length-entryBytes, entry-back, entry-formed, entry-forth, entryZero, zero-bits, flags-bits, zero-free, zero-formed}
+use Rattle.state_bytes.proofs.EntryLaws.{&&-true, &&-false, &&-assoc, length-entryBytes, entry-back, entry-formed, entry-forth, entryZero, zero-bits, flags-bits, zero-free, zero-formed}
 use Rattle.state_bytes.proofs.NumberLaws.{flag-back, flag-formed, flag-forth, by-elements}
 
 -- ---- lengths
@@ -120,10 +120,6 @@ head-both zero host run size = refl
 head-both (suc zero) host run size = refl
 head-both (suc (suc there)) host run size =
     rw (lt-leb (suc (suc there)) 1 (omega arith), ne-eqb (suc (suc there)) 1 (λ e. omega (arith, e)), ne-eqb (suc (suc there)) 0 (λ e. omega (arith, e)), &&-false size) (&&-false run)
-  where
-    &&-false : (b : Bool) → b && false ≡ false
-    &&-false true = refl
-    &&-false false = refl
 
 no-breaks-sound : (p : Process) → p .breaks ≡ noBreaks → below (entrySound p) entryCount ≡ true
 unfolding entrySound

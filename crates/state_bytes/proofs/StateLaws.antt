@@ -1,16 +1,15 @@
 -- Laws of the bytes of a state. Assumes nothing.
 use mathlib.Core.Path.{_≡_, refl, sym, ap, _∙_}
 use mathlib.Core.Bool.{Bool, true, false, not, _&&_}
-use mathlib.Core.List.{List, [], _∷_, _++_}
-use Prim.Native.Nat.{ℕ, zero, suc, _+_, _-_, _*_, _/_, _%_, _<_}
+use mathlib.Core.List.{List, _++_, append-assoc}
+use Prim.Native.Nat.{ℕ, suc, _+_, _-_, _*_, _/_, _%_, _≤_, _<_}
 use native.Mathlib.Omega.{arith}
 use borrow.Author.Tests.{eqb-true, eq-eqb, ne-eqb}
-use lib.ListN.{length, take, drop, getD}
-use lib.Seq.{getD-take, getD-drop}
+use lib.ListN.{length, take, drop, getD, set, length-append, length-drop, take-append-drop}
+use lib.Seq.{length-take-le, take-at, drop-at, take-append-le, drop-append-le, getD-take, getD-drop}
 use lib.Dec.{eqb}
 use Rattle.lists.specs.Buffer.{Bytes, overlay}
 use Rattle.lists.specs.Elements.{elements}
-use Rattle.lists.specs.Every.{every, below}
 use Rattle.lists.specs.Joined.{joined}
 use Rattle.lists.specs.Word.{high, low, word}
 use Rattle.lists.proofs.Bool.{&&-left, &&-right, &&-both}
@@ -21,23 +20,29 @@ use Rattle.lists.proofs.Part.{length-replaced}
 use Rattle.lists.proofs.Short.{take-short}
 use Rattle.lists.proofs.Word.{word-high-low, length-lowFirst}
 use Rattle.process.specs.declared.record.Process.{Process}
+use Rattle.process.specs.Local.{extent}
 use Rattle.process.specs.Sound.{soundTest as soundProcess}
-use Rattle.state.specs.Records.{Records, nobody, processAt, withProcess, soundTest, freshProcess, freshProcesses}
+use Rattle.state.specs.Records.{Records, nobody, processAt, withProcess, withStart}
+use Rattle.state.specs.Layout.{extentAt, laidOut}
+use Rattle.state.specs.Fresh.{freshProcesses, freshStarts, freshStart}
+use Rattle.state.specs.Sound.{recordsSound, soundTest}
 use Rattle.state_bytes.specs.Chunk.{chunks, everyChunk}
 use Rattle.state_bytes.specs.Number.{flagOf}
 use Rattle.state_bytes.specs.Process.{processBytes, processOf, processFormed, processSound}
-use Rattle.state_bytes.specs.State.{stateBytes, withProcessBytes, stateOf, stateFormed, stateSound, SoundBefore}
+use Rattle.state_bytes.specs.State.{startsBytes, stateBytes, withProcessBytes, withStartBytes, withStartsBytes, stateOf, stateFormed, stateSound, SoundBefore}
 use Rattle.state_bytes.specs.Theorems.{Sized, Inverse}
-use Rattle.state_bytes.specs.Widths.{thereAt, processCount, processWidth, stateWidth}
-use Rattle.state_bytes.proofs.ChunkLaws.{length-joined, length-chunks, getD-chunks, chunks-joined, every-joined, joined-chunks, joined-with, every-read, every-both, every-snoc}
+use Rattle.state_bytes.specs.Widths.{thereAt, processCount, processWidth, startsAt, stateWidth}
+use Rattle.state_bytes.proofs.ChunkLaws.{bytes-take, length-joined, length-chunks, getD-chunks, chunks-front, chunks-joined, every-front, every-joined, joined-chunks, joined-with, every-read, every-both, every-snoc}
+use Rattle.state_bytes.proofs.EntryLaws.{&&-assoc}
 use Rattle.state_bytes.proofs.ProcessLaws.{length-processBytes, process-back, process-formed, process-forth}
+use Rattle.state_bytes.proofs.StartLaws.{length-startsBytes, starts-back, eight-starts, same-starts, put-with-starts}
 
 -- ---- one process
 
--- byte p of a table of the starts' bytes is that byte of the start
-pub start-at : (p r : ℕ) → p < processCount
+-- byte p of a table of the bytes of the records' places is that byte of the place
+pub record-place : (p r : ℕ) → p < processCount
     → r ≡ word (getD (elements (λ (k : ℕ). high (processWidth * k)) processCount) p 0) (getD (elements (λ (k : ℕ). low (processWidth * k)) processCount) p 0) → r ≡ processWidth * p
-start-at p r h e =
+record-place p r h e =
     let highs = getD-elements (λ (k : ℕ). high (processWidth * k)) processCount p h in
     let lows = getD-elements (λ (k : ℕ). low (processWidth * k)) processCount p h in
     rw (highs, lows) at e ∙ word-high-low (processWidth * p)
@@ -53,6 +58,10 @@ read-at m p at r h start e =
     ∙ ap (λ (n : ℕ). processOf (take n (drop at m))) (one-piece at)
     ∙ ap (λ (n : ℕ). processOf (take processWidth (drop n m))) start
     ∙ sym (getD-chunks processWidth processOf processCount p m nobody h)
+
+-- and so is the number of its bytes
+pub extent-at : (m : List ℕ) (p at r : ℕ) → p < processCount → at ≡ processWidth * p → r ≡ extent (processOf (take (at + processWidth - at) (drop at m))) → r ≡ extentAt (stateOf m) p
+extent-at m p at r h place e = e ∙ ap extent (read-at m p at _ h place refl)
 
 -- a record written over a process's bytes, in the shape in which the part comes back
 pub put-at : (m last : List ℕ) (p at : ℕ) (q : Process) → at ≡ processWidth * p → length (processBytes q) ≡ processWidth
@@ -81,6 +90,10 @@ module _ (m : List ℕ) (p at : ℕ) (h : p < processCount) (e : at ≡ processW
       ap (λ (q : Process). q .there) (getD-chunks processWidth processOf processCount p m nobody h)
       ∙ ap flagOf (getD-take processWidth (drop (processWidth * p) m) thereAt 0 (omega arith) ∙ getD-drop (processWidth * p) m thereAt 0 ∙ ap (λ (n : ℕ). getD m n 0) (sym e))
 
+  pub is-there-at : flagOf (getD m at 0) ≡ processAt (stateOf m) p .there
+  unfolding stateOf
+  is-there-at = sym there-at
+
   pub absent-at : getD m at 0 % 2 ≡ 0 → not (getD (stateOf m .processes) p nobody .there) ≡ true
   unfolding stateOf
   absent-at z =
@@ -95,17 +108,26 @@ module _ (m : List ℕ) (p at : ℕ) (h : p < processCount) (e : at ≡ processW
 
 -- ---- soundness
 
--- every process by itself
-pub each-sound : (m : List ℕ) → length m ≡ stateWidth → stateSound m ≡ everyChunk processWidth processSound processCount m
-unfolding stateSound stateFormed soundTest stateOf processSound chunks
-each-sound m size =
+-- the bytes of every process are formed, and its record is sound
+each-process : (m : List ℕ) → everyChunk processWidth processSound processCount m ≡ everyChunk processWidth processFormed processCount m && recordsSound (stateOf m)
+unfolding recordsSound stateOf processSound chunks
+each-process m =
     let all = every-both processWidth (λ (c : List ℕ). soundProcess (processOf c)) processFormed processSound (λ c. refl) processCount m in
     let reads = every-read processWidth processOf soundProcess processCount m in
     let count = every-below soundProcess (chunks processWidth processOf processCount m) nobody in
-    rw (eq-eqb _ _ size) (sym (all ∙ ap (λ (b : Bool). everyChunk processWidth processFormed processCount m && b) (reads ∙ count)))
+    all ∙ ap (λ (b : Bool). everyChunk processWidth processFormed processCount m && b) (reads ∙ count)
+
+pub each-record : (m : List ℕ) → everyChunk processWidth processSound processCount m ≡ true → recordsSound (stateOf m) ≡ true
+each-record m e = &&-right (everyChunk processWidth processFormed processCount m) (recordsSound (stateOf m)) (sym (each-process m) ∙ e)
+
+-- every process by itself, and the layout
+pub each-sound : (m : List ℕ) → length m ≡ stateWidth → stateSound m ≡ everyChunk processWidth processSound processCount m && laidOut (stateOf m)
+unfolding stateSound stateFormed soundTest
+each-sound m size =
+    rw (eq-eqb _ _ size, each-process m) (sym (&&-assoc (everyChunk processWidth processFormed processCount m) (recordsSound (stateOf m)) (laidOut (stateOf m))))
 
 -- one more, at an index
-pub sound-next : (at : ℕ) (m : List ℕ) → SoundBefore at m → at < stateWidth → processSound (take processWidth (drop (processWidth * (at / processWidth)) m)) ≡ true → SoundBefore (at + processWidth) m
+pub sound-next : (at : ℕ) (m : List ℕ) → SoundBefore at m → at < startsAt → processSound (take processWidth (drop (processWidth * (at / processWidth)) m)) ≡ true → SoundBefore (at + processWidth) m
 sound-next at m s h e =
     let n = at / processWidth in
     let more : (at + processWidth) / processWidth ≡ suc n = omega arith in
@@ -113,41 +135,123 @@ sound-next at m s h e =
 
 -- ---- there and back
 
-state-back : (g : Records) → Sized g → stateOf (stateBytes g) ≡ g
-unfolding stateOf stateBytes
-state-back g s =
-    let sizes = s .processes in
-    let all = ap (λ (n : ℕ). chunks processWidth processOf n (joined processBytes (g .processes))) (sym sizes)
-    ∙ chunks-joined processWidth processOf processBytes (g .processes) nobody (λ k h. sized g s k (omega (arith, h, sizes)))
-    (λ k h. process-back _ (s .vectors k (omega (arith, h, sizes))) (s .entries k (omega (arith, h, sizes)))) in
-    rw all
-  where
-    sized : (g : Records) → Sized g → (k : ℕ) → k < processCount → length (processBytes (getD (g .processes) k nobody)) ≡ processWidth
-    sized g s k h = length-processBytes _ (length-lowFirst _ ∙ omega (arith, s .vectors k h)) (s .entries k h)
+module _ (g : Records) (s : Sized g) where
+  wide : (k : ℕ) → k < length (g .processes) → length (processBytes (getD (g .processes) k nobody)) ≡ processWidth
+  wide k h = let i : k < processCount = omega (arith, s .processes) in length-processBytes _ (length-lowFirst _ ∙ omega (arith, s .vectors k i)) (s .entries k i)
 
-state-formed : (g : Records) → Sized g → stateFormed (stateBytes g) ≡ true
-unfolding stateFormed stateBytes
-state-formed g s =
-    let sizes = s .processes in
-    let sized : (k : ℕ) → k < length (g .processes) → length (processBytes (getD (g .processes) k nobody)) ≡ processWidth =
-    λ k h. length-processBytes _ (length-lowFirst _ ∙ omega (arith, s .vectors k (omega (arith, h, sizes)))) (s .entries k (omega (arith, h, sizes))) in
-    let long : length (joined processBytes (g .processes)) ≡ stateWidth = length-joined processBytes processWidth (g .processes) nobody sized ∙ omega (arith, sizes) in
-    &&-both (eqb (length (joined processBytes (g .processes))) stateWidth) _ (eq-eqb _ stateWidth long)
-    (ap (λ (n : ℕ). everyChunk processWidth processFormed n (joined processBytes (g .processes))) (sym sizes)
-    ∙ every-joined processWidth processOf processBytes processFormed (g .processes) nobody sized
-    (λ k h. process-formed _ (s .vectors k (omega (arith, h, sizes))) (s .entries k (omega (arith, h, sizes)))))
+  records-long : length (joined processBytes (g .processes)) ≡ startsAt
+  records-long = length-joined processBytes processWidth (g .processes) nobody wide ∙ omega (arith, s .processes)
 
-state-forth : (m : List ℕ) → Bytes m → stateFormed m ≡ true → stateBytes (stateOf m) ≡ m
-unfolding stateFormed stateBytes stateOf
-state-forth m b e =
-    let long = eqb-true (length m) stateWidth (&&-left (eqb (length m) stateWidth) _ e) in
-    joined-chunks processWidth processOf processBytes processFormed process-forth processCount m long b (&&-right (eqb (length m) stateWidth) (everyChunk processWidth processFormed processCount m) e)
+  state-back : stateOf (stateBytes g) ≡ g
+  unfolding stateOf stateBytes
+  state-back =
+      let records = joined processBytes (g .processes) in
+      let processes : chunks processWidth processOf processCount (records ++ startsBytes (g .starts)) ≡ g .processes =
+      chunks-front processWidth processOf processCount records (startsBytes (g .starts)) (omega (arith, records-long))
+      ∙ ap (λ (n : ℕ). chunks processWidth processOf n records) (sym (s .processes))
+      ∙ chunks-joined processWidth processOf processBytes (g .processes) nobody wide
+      (λ k h. process-back _ (s .vectors k (omega (arith, s .processes))) (s .entries k (omega (arith, s .processes)))) in
+      rw (processes, drop-at records (startsBytes (g .starts)) startsAt records-long, starts-back (g .starts) (s .starts))
 
-state-with : (m : List ℕ) → Bytes m → stateFormed m ≡ true → (p : ℕ) (q : Process) → p < processCount → stateBytes (withProcess p q (stateOf m)) ≡ withProcessBytes p q m
-unfolding stateFormed stateBytes stateOf withProcessBytes
-state-with m b e p q h =
-    let long = eqb-true (length m) stateWidth (&&-left (eqb (length m) stateWidth) _ e) in
-    joined-with processWidth processOf processBytes processFormed process-forth processCount m long b (&&-right (eqb (length m) stateWidth) (everyChunk processWidth processFormed processCount m) e) p q h
+  state-formed : stateFormed (stateBytes g) ≡ true
+  unfolding stateFormed stateBytes
+  state-formed =
+      let records = joined processBytes (g .processes) in
+      let long : length (records ++ startsBytes (g .starts)) ≡ stateWidth = length-append records (startsBytes (g .starts)) ∙ omega (arith, records-long, length-startsBytes (g .starts) (s .starts)) in
+      &&-both (eqb (length (records ++ startsBytes (g .starts))) stateWidth) _ (eq-eqb _ stateWidth long)
+      (every-front processWidth processFormed processCount records (startsBytes (g .starts)) (omega (arith, records-long))
+      ∙ ap (λ (n : ℕ). everyChunk processWidth processFormed n records) (sym (s .processes))
+      ∙ every-joined processWidth processOf processBytes processFormed (g .processes) nobody wide
+      (λ k h. process-formed _ (s .vectors k (omega (arith, s .processes))) (s .entries k (omega (arith, s .processes)))))
+
+-- a record in the bytes before others
+with-before : (p : ℕ) (q : Process) (a b : List ℕ) → p < processCount → length a ≡ startsAt → withProcessBytes p q (a ++ b) ≡ withProcessBytes p q a ++ b
+unfolding withProcessBytes
+with-before p q a b h long =
+    let at = processWidth * p in
+    let rest : processWidth ≤ length (drop at a) = simp length-drop (omega arith) in
+    rw (take-append-le at a b (omega arith), drop-append-le at a b (omega arith), drop-append-le processWidth (drop at a) b rest)
+    (simp append-assoc)
+
+module _ (m : List ℕ) (b : Bytes m) (e : stateFormed m ≡ true) where
+  abbrev records : List ℕ
+  records = take startsAt m
+
+  abbrev formed : Bool
+  formed = everyChunk processWidth processFormed processCount m
+
+  long : length m ≡ stateWidth
+  unfolding stateFormed
+  long = eqb-true (length m) stateWidth (&&-left (eqb (length m) stateWidth) _ e)
+
+  front : length records ≡ startsAt
+  front = length-take-le startsAt m (omega (arith, long))
+
+  each : everyChunk processWidth processFormed processCount records ≡ true
+  unfolding stateFormed
+  each =
+      sym (every-front processWidth processFormed processCount records (drop startsAt m) (omega (arith, front)))
+      ∙ ap (everyChunk processWidth processFormed processCount) (take-append-drop startsAt m)
+      ∙ &&-right (eqb (length m) stateWidth) formed e
+
+  same-processes : chunks processWidth processOf processCount m ≡ chunks processWidth processOf processCount records
+  same-processes =
+      ap (chunks processWidth processOf processCount) (sym (take-append-drop startsAt m))
+      ∙ chunks-front processWidth processOf processCount records (drop startsAt m) (omega (arith, front))
+
+  -- other starts
+  pub state-starts : (starts : List ℕ) → stateBytes (record { processes = stateOf m .processes; starts = starts }) ≡ withStartsBytes starts m
+  unfolding stateBytes stateOf withStartsBytes
+  state-starts starts =
+      ap (λ (l : List ℕ). l ++ startsBytes starts)
+      (ap (joined processBytes) same-processes
+      ∙ joined-chunks processWidth processOf processBytes processFormed process-forth processCount records front (bytes-take startsAt m b) each)
+
+  state-forth : stateBytes (stateOf m) ≡ m
+  state-forth = state-starts (stateOf m .starts) ∙ same-starts m b long
+
+  state-start : (p start : ℕ) → p < processCount → stateBytes (withStart p start (stateOf m)) ≡ withStartBytes p start m
+  state-start p start h =
+      state-starts (set (stateOf m .starts) p start)
+      ∙ sym (put-with-starts (stateOf m .starts) (eight-starts m) m long p start h)
+      ∙ ap (withStartBytes p start) (same-starts m b long)
+
+  with-records : (p : ℕ) (q : Process) → p < processCount → joined processBytes (set (chunks processWidth processOf processCount records) p q) ≡ withProcessBytes p q records
+  unfolding withProcessBytes
+  with-records p q h = joined-with processWidth processOf processBytes processFormed process-forth processCount records front (bytes-take startsAt m b) each p q h
+
+  -- another record of process p, and other starts: the starts are written first
+  pub state-both : (starts : List ℕ) (p : ℕ) (q : Process) → p < processCount
+      → stateBytes (record { processes = set (stateOf m .processes) p q; starts = starts }) ≡ withProcessBytes p q (withStartsBytes starts m)
+  unfolding stateBytes stateOf withStartsBytes
+  state-both starts p q h =
+      ap (λ (l : List ℕ). l ++ startsBytes starts)
+      (ap (λ (l : List Process). joined processBytes (set l p q)) same-processes ∙ with-records p q h)
+      ∙ sym (with-before p q records (startsBytes starts) h front)
+
+  state-with : (p : ℕ) (q : Process) → p < processCount → stateBytes (withProcess p q (stateOf m)) ≡ withProcessBytes p q m
+  state-with p q h = state-both (stateOf m .starts) p q h ∙ ap (withProcessBytes p q) (same-starts m b long)
+
+  -- a new record of process p, and its start: the start is written first
+  pub state-new : (start p : ℕ) (q : Process) → p < processCount → stateBytes (withStart p start (withProcess p q (stateOf m))) ≡ withProcessBytes p q (withStartBytes p start m)
+  state-new start p q h =
+      state-both (set (stateOf m .starts) p start) p q h
+      ∙ ap (withProcessBytes p q) (sym (put-with-starts (stateOf m .starts) (eight-starts m) m long p start h) ∙ ap (withStartBytes p start) (same-starts m b long))
+
+-- the records and then the starts, written at a fresh start
+pub fresh-bytes : (ts : List Bool) (ns m now : List ℕ) {last : List ℕ} → length (joined processBytes (freshProcesses ts ns)) ≡ startsAt
+    → now ≡ overlay (joined processBytes (freshProcesses ts ns)) m → last ≡ withStartsBytes (freshStarts 0 ts ns) now → last ≡ stateBytes (freshStart ts ns)
+unfolding withStartsBytes stateBytes freshStart overlay
+fresh-bytes ts ns m now size e l =
+    let records = joined processBytes (freshProcesses ts ns) in
+    l ∙ rw (e, take-at records (drop (length records) m) startsAt size)
 
 pub inverse : Inverse
-inverse = record { written-is-read = state-back; written-is-formed = state-formed; read-is-written = state-forth; put-is-with = state-with }
+inverse = record {
+  written-is-read = state-back;
+  written-is-formed = state-formed;
+  read-is-written = state-forth;
+  put-is-with = state-with;
+  put-start = state-start;
+  put-starts = state-starts;
+}

@@ -4,6 +4,15 @@ use mathlib.Core.List.{List, [], _∷_}
 use Prim.Native.Nat.{ℕ, _+_, _*_, _/_, _%_}
 use lib.ListN.{drop, getD}
 use lib.Dec.{eqb}
+use Rattle.lists.specs.Word.{high, low, word}
+
+-- two bytes as a number
+abbrev pub u16Le : List ℕ → ℕ
+u16Le m = word (getD m 1 0) (getD m 0 0)
+
+-- a number as two bytes
+abbrev pub u16LeBytes : ℕ → List ℕ
+u16LeBytes w = low w ∷ high w ∷ []
 
 -- four bytes as a number
 abbrev pub u32Le : List ℕ → ℕ

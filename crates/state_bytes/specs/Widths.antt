@@ -61,6 +61,18 @@ processWidth = entriesAt + entriesWidth
 abbrev pub processCount : ℕ
 processCount = 8
 
--- all processes
+-- where a process's bytes begin in memory, two bytes, low byte first
+abbrev pub startWidth : ℕ
+startWidth = 2
+
+-- the starts lie after all processes
+abbrev pub startsAt : ℕ
+startsAt = processWidth * processCount
+
+-- all starts
+abbrev pub startsWidth : ℕ
+startsWidth = startWidth * processCount
+
+-- processes and starts
 abbrev pub stateWidth : ℕ
-stateWidth = processWidth * processCount
+stateWidth = startsAt + startsWidth

@@ -1,4 +1,4 @@
-// The byte form of a state: 696 bytes, integers low byte first. Its widths and places stand in widths.rt.
+// The byte form of a state: 712 bytes, integers low byte first. Its widths and places stand in widths.rt.
 //
 //     87 bytes for each of the eight processes, from process 0 on:
 //         0        there: 0 or 1
@@ -12,18 +12,26 @@
 //             2, 3     address
 //             4, 5     remaining count
 //             6, 7     the saved word, as it stood in memory
+//     2 bytes for each of the eight processes, from byte 696 on: where it begins in memory
 mod entry;
+mod layout;
 mod number;
 mod place;
 mod process_form;
 mod sound;
+mod starts;
 mod state_form;
 pub mod theorems;
 mod widths;
 
+pub use layout::used_bytes;
 pub use place::lowest_absent;
 pub use place::put_process_at;
+pub use place::read_extent_at;
 pub use place::read_process_at;
 pub use sound::state_sound;
+pub use starts::put_start;
+pub use starts::put_starts_without;
+pub use starts::read_start;
 pub use state_form::put_fresh_start;
 pub use widths::STATE_BYTES;

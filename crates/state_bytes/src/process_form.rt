@@ -21,6 +21,7 @@ ghost use Prim.Native.Nat.{_≤_};
 ghost use lib.ListN.{length};
 ghost use Rattle.lists.specs.Buffer.{overlay};
 ghost use Rattle.lists.specs.Word.{lowFirst, vectorOf};
+ghost use Rattle.process.specs.Local.{extent};
 ghost use Rattle.state_bytes.specs.Process.{headBytes, sizeOf, processBytes, processOf, headSound};
 ghost use Rattle.state_bytes.specs.Widths.{headWidth, vectorWidth, processWidth};
 
@@ -48,6 +49,17 @@ fn read_size(bytes: &[u8]) -> u16
     ensures { λ r. ⌜ r ≡ sizeOf (now (bytes .entry)) ⌝ }
 {
     word_of(bytes[SIZE_AT + 1], bytes[SIZE_AT])
+}
+
+// How many bytes of memory the process has: its size, or none where it is absent.
+pub(crate) fn read_extent(bytes: &[u8]) -> u16
+    requires { ⌜ headWidth ≤ length (now bytes) ⌝ }
+    ensures { λ r. ⌜ r ≡ extent (processOf (now (bytes .entry))) ⌝ }
+{
+    if bytes[THERE_AT] % 2 == 0 {
+        return 0;
+    }
+    read_size(bytes)
 }
 
 // The record that these bytes are the form of.

@@ -2,10 +2,12 @@
 // is read.
 use crate::entry::entries_bits;
 use crate::entry::flags_formed;
+use crate::layout::layout_sound;
 use crate::process_form::head_sound;
 use crate::process_form::read_process;
 use crate::widths::ENTRIES_AT;
 use crate::widths::PROCESS_BYTES;
+use crate::widths::STARTS_AT;
 use crate::widths::STATE_BYTES;
 ghost use mathlib.Core.Path.{_≡_};
 ghost use Prim.Native.Nat.{_≤_};
@@ -31,7 +33,7 @@ fn plain_before(state: &[u8]) -> usize
     ensures { λ r. ⌜ SoundBefore r (now (state .entry)) ⌝ }
 {
     let mut at = 0;
-    while at < STATE_BYTES {
+    while at < STARTS_AT {
         let end = at + PROCESS_BYTES;
         if !process_plain(&state[at..end]) {
             return at;
@@ -66,13 +68,13 @@ pub fn state_sound(state: &[u8]) -> bool
     if state.len() != STATE_BYTES {
         return false;
     }
-    let mut start = plain_before(state);
-    while start < STATE_BYTES {
-        let end = start + PROCESS_BYTES;
-        if !process_sound(&state[start..end]) {
+    let mut next = plain_before(state);
+    while next < STARTS_AT {
+        let end = next + PROCESS_BYTES;
+        if !process_sound(&state[next..end]) {
             return false;
         }
-        start = end;
+        next = end;
     }
-    true
+    layout_sound(state)
 }

@@ -30,11 +30,15 @@ pub(crate) const PROCESS_BYTES: usize = ENTRIES_AT + ENTRIES_BYTES;
 // A state.
 pub(crate) const PROCESS_COUNT: usize = 8;
 
-pub const STATE_BYTES: usize = PROCESS_BYTES * PROCESS_COUNT;
+pub(crate) const START_BYTES: usize = 2;
 
-// The index of each process's first byte, as its low and its high byte. Byte p of a table is found by an addition alone; an element of two
+pub(crate) const STARTS_AT: usize = PROCESS_BYTES * PROCESS_COUNT;
+
+pub const STATE_BYTES: usize = STARTS_AT + START_BYTES * PROCESS_COUNT;
+
+// The index of the first byte of each process's record, as its low and its high byte. Byte p of a table is found by an addition alone; an element of two
 // bytes or more would be found by p times its size.
-pub(crate) const STARTS_LOW: [u8; 8] = [
+pub(crate) const RECORD_AT_LOW: [u8; 8] = [
     0,
     (PROCESS_BYTES % 256) as u8,
     (2 * PROCESS_BYTES % 256) as u8,
@@ -45,7 +49,7 @@ pub(crate) const STARTS_LOW: [u8; 8] = [
     (7 * PROCESS_BYTES % 256) as u8,
 ];
 
-pub(crate) const STARTS_HIGH: [u8; 8] = [
+pub(crate) const RECORD_AT_HIGH: [u8; 8] = [
     0,
     (PROCESS_BYTES / 256) as u8,
     (2 * PROCESS_BYTES / 256) as u8,

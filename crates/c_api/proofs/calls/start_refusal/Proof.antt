@@ -4,7 +4,7 @@ use mathlib.Core.Bool.{true, false}
 use borrow.Author.Tests.{eq-eqb, ne-eqb, le-ltb}
 use lib.ListN.{length}
 use Rattle.format.specs.Outcome.{firstFailing}
-use Rattle.state.specs.Records.{sizesRight}
+use Rattle.state.specs.Fresh.{sizesRight}
 use Rattle.state_bytes.specs.Widths.{processCount, stateWidth}
 use Rattle.c_api.specs.Called.{bitsOf, startNumber}
 use borrow.Author.Needs.{needs}

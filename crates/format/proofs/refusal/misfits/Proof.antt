@@ -7,12 +7,12 @@ use Rattle.format.proofs.TestLaws.{carriedLength-≤}
 use Rattle.format.proofs.refusal.misfits.Statement.{statement}
 use Rattle.format.proofs.refusal.misfits.Tie as tie
 
-unused-zero-requires : tie.Need-unused-zero-requires
-unused-zero-requires c κs = search needs
+fields-right-requires : tie.Need-fields-right-requires
+fields-right-requires c κs = search needs
 
 returns : tie.Need-returns
 unfolding misfits
-returns c = rw (← c .before .unused-zero .ensures, not-true (c .before .unused-zero .result) (c .if1 .taken))
+returns c = rw (← c .before .fields-right .ensures, not-true (c .before .fields-right .result) (c .if1 .taken))
 
 carried-length-requires : tie.Need-carried-length-requires
 carried-length-requires c κs = search needs
@@ -26,8 +26,8 @@ returns-2 : tie.Need-returns-2
 unfolding misfits
 returns-2 c =
     let u = c .before .before in
-    rw (← u .unused-zero .ensures, not-false (u .unused-zero .result) (c .before .if1 .left), c .carried-length .ensures)
+    rw (← u .fields-right .ensures, not-false (u .fields-right .result) (c .before .if1 .left), c .carried-length .ensures)
 
 pub misfits-spec : {M : Type 1} → statement M
 misfits-spec =
-    tie.close (tie.spec unused-zero-requires returns carried-length-requires add-result returns-2)
+    tie.close (tie.spec fields-right-requires returns carried-length-requires add-result returns-2)

@@ -1,5 +1,5 @@
 -- `gateway::fresh::fresh_start` meets its contract, by the length of the buffer. Assumes nothing.
-use mathlib.Core.Path.{refl, ap}
+use mathlib.Core.Path.{refl, sym, ap, _∙_}
 use lib.ListN.{length}
 use borrow.Author.Tests.{eq-eqb, ne-eqb, not-true, not-false}
 use Rattle.format.specs.Outcome.{outcome}
@@ -24,7 +24,10 @@ returns-2 c =
     rw (eq-eqb (length (a .state .now)) stateWidth (c .before .before .if1 .left), ← x .sizes-right .ensures, not-true (x .sizes-right .result) (c .if2 .taken)) refl
 
 put-fresh-start-requires : tie.Need-put-fresh-start-requires
-put-fresh-start-requires c κs = search needs
+put-fresh-start-requires c κs =
+    let i = c .before in
+    let x = i .before .sizes-right in
+    (sym (x .ensures) ∙ not-false (x .result) (i .if2 .left), search needs)
 
 same-length : tie.Need-same-length
 same-length c = search needs

@@ -1,12 +1,12 @@
 -- `gateway::requests::answer` meets its contract, by where the request goes. Assumes nothing.
-use mathlib.Core.Path.{_≡_, ap, sym, _∙_}
+use mathlib.Core.Path.{sym, _∙_}
 use native.Mathlib.Omega.{arith}
 use Rattle.lists.specs.Buffer.{Bytes}
 use Rattle.format.specs.Layout.{stringOf}
 use Rattle.rules.specs.Tests.{lent}
 use Rattle.state_bytes.specs.State.{stateOf}
 use Rattle.service.specs.declared.target.Target.the-variants.{Named, OutOfRange, New, Nowhere}
-use Rattle.gateway.proofs.AskedLaws.{request-found, carried-short, target-says, asked-beyond, asked-nowhere}
+use Rattle.gateway.proofs.AskedLaws.{request-found, carried-short, create-short, target-says, asked-beyond, asked-nowhere}
 use Rattle.gateway.proofs.LentLaws.{lent-formed, lent-fits}
 use Rattle.gateway.proofs.FinishLaws.{finished-unmoved}
 use borrow.Author.Needs.{needs}
@@ -28,8 +28,7 @@ answer-named-requires c κs =
     let a = s .args in
     let read = request-found (a .message .now) (a .h) (a .form) (s .pre .0) in
     let goes = target-says (a .h) (a .form) (Named _) (read .1) (sym (c .before .before .before .before .before .target .given .1) ∙ c .before .before .before .before .before .before .before .target-of .ensures) in
-    let fit = lent-fits (a .state .now) (a .memory .now) (a .reply .now) (s .pre .1) in
-    let short = carried-short (a .message .now) (a .h) (read .0) (a .reply .now) (fit .room) in
+    let short = carried-short (a .message .now) (a .h) (read .0) in
     (goes, (s .pre .1, rw (c .before .string .ensures) short))
 
 enum-told : tie.Need-enum-told
@@ -49,7 +48,8 @@ answer-new-requires c κs =
     let s = c .before .before .before .before .before .before .before .before .before .before in
     let a = s .args in
     let read = request-found (a .message .now) (a .h) (a .form) (s .pre .0) in
-    (target-says (a .h) (a .form) New (read .1) (sym (c .before .before .before .enum-told2 .given .1) ∙ c .before .before .before .before .before .target-of .ensures), s .pre .1)
+    let goes = target-says (a .h) (a .form) New (read .1) (sym (c .before .before .before .enum-told2 .given .1) ∙ c .before .before .before .before .before .target-of .ensures) in
+    ((goes .0, goes .1, create-short (a .message .now) (a .h) (read .0) (goes .1)), s .pre .1)
 
 enum-told-3 : tie.Need-enum-told-3
 enum-told-3 c = search needs

@@ -1,4 +1,4 @@
--- `service::request::answer_create` meets its contract: a new process, and its number in the reply. Assumes nothing.
+-- `service::request::answer_create` meets its contract: a new process of the size asked for, and its number in the reply. Assumes nothing.
 use mathlib.Core.Path.{ap₂, refl}
 use Rattle.service.specs.At.{leaving, createdAt}
 use borrow.Author.Needs.{needs}
@@ -29,7 +29,8 @@ returns c =
     let w = c .before .before in
     let k = c .before .before .before .before in
     let n = c .before .before .before .before .before .before .before in
-    rw (n .create .ensures .0, n .create .ensures .1) (ap₂ leaving (rw (k .created .ensures) at (w .reply-plain .ensures)) refl)
+    let s = c .before .before .before .before .before .before .before .before .before .before .before in
+    rw (n .create .ensures .0, n .create .ensures .1, ← s .pre .1 .0 .0) (ap₂ leaving (rw (k .created .ensures) at (w .reply-plain .ensures)) refl)
 
 pub answer-create-spec : {M : Type 1} → statement M
 answer-create-spec =

@@ -1,5 +1,5 @@
 -- The theorem of `state::theorems::fresh_is_sound`. Assumes nothing.
-use Rattle.state.proofs.RecordsLaws.{fresh-is-sound}
+use Rattle.state.proofs.FreshLaws.{fresh-is-sound}
 use Rattle.state.proofs.theorems.fresh_is_sound.Statement.{statement}
 use Rattle.state.proofs.theorems.fresh_is_sound.Tie as tie
 

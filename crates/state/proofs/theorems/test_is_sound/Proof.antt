@@ -1,5 +1,5 @@
 -- The theorem of `state::theorems::test_is_sound`. Assumes nothing.
-use Rattle.state.proofs.RecordsLaws.{test-is-sound}
+use Rattle.state.proofs.SoundLaws.{test-is-sound}
 use Rattle.state.proofs.theorems.test_is_sound.Statement.{statement}
 use Rattle.state.proofs.theorems.test_is_sound.Tie as tie
 

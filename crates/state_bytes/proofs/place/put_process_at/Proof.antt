@@ -4,8 +4,8 @@ use borrow.Author.Needs.{needs}
 use Rattle.state_bytes.proofs.place.put_process_at.Statement.{statement}
 use Rattle.state_bytes.proofs.place.put_process_at.Tie as tie
 
-process-start-requires : tie.Need-process-start-requires
-process-start-requires c κs = search needs
+record-at-requires : tie.Need-record-at-requires
+record-at-requires c κs = search needs
 
 add-end : tie.Need-add-end
 add-end c = search needs
@@ -30,13 +30,13 @@ returns c =
     let w = c .before .before in
     let at = w .before .before in
     let s = at .before .before in
-    put-at (s .args .state .now) (w .put-process .last .1 .0) (s .args .p) (at .process-start .result) (s .args .q) (at .process-start .ensures) (w .put-process .ensures .0) (w .put-process .ensures .1)
+    put-at (s .args .state .now) (w .put-process .last .1 .0) (s .args .p) (at .record-at .result) (s .args .q) (at .record-at .ensures) (w .put-process .ensures .0) (w .put-process .ensures .1)
 
 pub put-process-at-spec : {M : Type 1} → statement M
 put-process-at-spec =
     tie.close
     (tie.spec
-    process-start-requires
+    record-at-requires
     add-end
     sub-put-process
     part-put-process-start

@@ -4,8 +4,8 @@ use borrow.Author.Needs.{needs}
 use Rattle.state_bytes.proofs.place.read_process_at.Statement.{statement}
 use Rattle.state_bytes.proofs.place.read_process_at.Tie as tie
 
-process-start-requires : tie.Need-process-start-requires
-process-start-requires c κs = search needs
+record-at-requires : tie.Need-record-at-requires
+record-at-requires c κs = search needs
 
 add-end : tie.Need-add-end
 add-end c = search needs
@@ -26,13 +26,13 @@ returns : tie.Need-returns
 returns c =
     let at = c .before .before in
     let s = at .before .before in
-    read-at (s .args .state .now) (s .args .p) (at .process-start .result) _ (s .pre .0) (at .process-start .ensures) (c .read-process .ensures)
+    read-at (s .args .state .now) (s .args .p) (at .record-at .result) _ (s .pre .0) (at .record-at .ensures) (c .read-process .ensures)
 
 pub read-process-at-spec : {M : Type 1} → statement M
 read-process-at-spec =
     tie.close
     (tie.spec
-    process-start-requires
+    record-at-requires
     add-end
     sub-read-process
     part-read-process-start

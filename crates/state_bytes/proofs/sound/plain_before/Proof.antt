@@ -9,7 +9,7 @@ use lib.ListN.{take, drop}
 use Rattle.state_bytes.specs.Chunk.{everyChunk}
 use Rattle.state_bytes.specs.Process.{processPlain}
 use Rattle.state_bytes.specs.State.{SoundBefore}
-use Rattle.state_bytes.specs.Widths.{processWidth, stateWidth}
+use Rattle.state_bytes.specs.Widths.{processWidth, startsAt}
 use Rattle.state_bytes.proofs.ChunkLaws.{length-piece, test-piece}
 use Rattle.state_bytes.proofs.ProcessLaws.{plain-sound}
 use Rattle.state_bytes.proofs.StateLaws.{sound-next}
@@ -20,7 +20,7 @@ abbrev Inv-loop : tie.InvT-loop
 Inv-loop state at₀ at = SoundBefore at state
 
 abbrev μ-loop : tie.MeasureT-loop
-μ-loop state at₀ at = stateWidth - at
+μ-loop state at₀ at = startsAt - at
 
 loop-holds : tie.Need-loop-holds Inv-loop μ-loop
 unfolding everyChunk

@@ -1,23 +1,24 @@
 -- `state_bytes::sound::state_sound` meets its contract. The loop's invariant: the processes passed are sound. Assumes nothing.
 use mathlib.Core.Path.{_≡_, sym, _∙_}
 use mathlib.Core.Bool.{true, false}
-use Prim.Native.Nat.{_-_, _*_, _/_}
+use Prim.Native.Nat.{_-_, _/_}
 use native.Mathlib.Omega.{arith}
 use borrow.Author.Needs.{needs}
 use borrow.Author.Tests.{ne-eqb, not-true, not-false}
+use Rattle.state_bytes.specs.Chunk.{everyChunk}
 use Rattle.state_bytes.specs.Process.{processSound}
 use Rattle.state_bytes.specs.State.{SoundBefore, stateFormed, stateSound}
-use Rattle.state_bytes.specs.Widths.{processCount, processWidth, stateWidth}
+use Rattle.state_bytes.specs.Widths.{processCount, processWidth, startsAt}
 use Rattle.state_bytes.proofs.ChunkLaws.{length-piece, test-piece, every-fails}
-use Rattle.state_bytes.proofs.StateLaws.{each-sound, sound-next}
+use Rattle.state_bytes.proofs.StateLaws.{each-record, each-sound, sound-next}
 use Rattle.state_bytes.proofs.sound.state_sound.Statement.{statement}
 use Rattle.state_bytes.proofs.sound.state_sound.Tie as tie
 
 abbrev Inv-loop : tie.InvT-loop
-Inv-loop state start₀ start = SoundBefore start state
+Inv-loop state next₀ next = SoundBefore next state
 
 abbrev μ-loop : tie.MeasureT-loop
-μ-loop state start₀ start = stateWidth - start
+μ-loop state next₀ next = startsAt - next
 
 returns : tie.Need-returns Inv-loop μ-loop
 unfolding stateSound stateFormed
@@ -45,16 +46,16 @@ process-sound-requires : tie.Need-process-sound-requires Inv-loop μ-loop
 process-sound-requires c κs =
     let l = c .before .before in
     let m = l .before .before .before .before .args .state .now in
-    omega (arith, length-piece processWidth (l .loop .start) m (omega (arith, l .loop .inv .0, l .loop .inv .2)))
+    omega (arith, length-piece processWidth (l .loop .next) m (omega (arith, l .loop .inv .0, l .loop .inv .2)))
 
 returns-2 : tie.Need-returns-2 Inv-loop μ-loop
 returns-2 c =
     let f = c .before in
     let l = f .before .before .before in
-    let p = l .loop .start / processWidth in
+    let p = l .loop .next / processWidth in
     let m = l .before .before .before .before .args .state .now in
-    let fails = test-piece processWidth p (l .loop .start) processSound m false (l .loop .inv .0) (sym (f .process-sound .ensures) ∙ not-true _ (c .if2 .taken)) in
-    sym (each-sound m (l .loop .inv .2) ∙ every-fails processWidth processSound processCount p m (omega (arith, l .loop .inv .0)) fails)
+    let fails = test-piece processWidth p (l .loop .next) processSound m false (l .loop .inv .0) (sym (f .process-sound .ensures) ∙ not-true _ (c .if2 .taken)) in
+    sym (each-sound m (l .loop .inv .2) ∙ rw (every-fails processWidth processSound processCount p m (omega (arith, l .loop .inv .0)) fails))
 
 loop-less : tie.Need-loop-less Inv-loop μ-loop
 loop-less c = omega arith
@@ -63,17 +64,25 @@ loop-again : tie.Need-loop-again Inv-loop μ-loop
 loop-again c =
     let f = c .before in
     let l = f .before .before .before in
-    let start = l .loop .start in
+    let next = l .loop .next in
     let m = l .before .before .before .before .args .state .now in
-    let holds = test-piece processWidth (start / processWidth) start processSound m true (l .loop .inv .0) (sym (f .process-sound .ensures) ∙ not-false _ (c .if2 .left)) in
-    sound-next start m (l .loop .inv) (omega arith) holds
+    let holds = test-piece processWidth (next / processWidth) next processSound m true (l .loop .inv .0) (sym (f .process-sound .ensures) ∙ not-false _ (c .if2 .left)) in
+    sound-next next m (l .loop .inv) (omega arith) holds
+
+layout-sound-requires : tie.Need-layout-sound-requires Inv-loop μ-loop
+layout-sound-requires c κs =
+    let l = c .before in
+    let m = l .before .before .before .before .args .state .now in
+    let end : l .loop .next / processWidth ≡ processCount = omega (arith, l .loop .inv .0, l .loop .inv .1) in
+    (omega (arith, l .loop .inv .2), each-record m (rw end at (l .loop .inv .3)))
 
 returns-3 : tie.Need-returns-3 Inv-loop μ-loop
 returns-3 c =
-    let l = c .before in
+    let l = c .before .before in
     let m = l .before .before .before .before .args .state .now in
-    let end : l .loop .start / processWidth ≡ processCount = omega (arith, l .loop .inv .0, l .loop .inv .1) in
-    sym (each-sound m (l .loop .inv .2) ∙ rw end at (l .loop .inv .3))
+    let end : l .loop .next / processWidth ≡ processCount = omega (arith, l .loop .inv .0, l .loop .inv .1) in
+    let all : everyChunk processWidth processSound processCount m ≡ true = rw end at (l .loop .inv .3) in
+    c .layout-sound .ensures ∙ sym (each-sound m (l .loop .inv .2) ∙ rw all)
 
 pub state-sound-spec : {M : Type 1} → statement M
 state-sound-spec =
@@ -92,4 +101,5 @@ state-sound-spec =
     returns-2
     loop-less
     loop-again
+    layout-sound-requires
     returns-3)

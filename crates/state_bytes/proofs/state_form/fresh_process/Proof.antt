@@ -1,6 +1,6 @@
 -- `state_bytes::state_form::fresh_process` meets its contract, by the two cases. Assumes nothing.
 use borrow.Author.Needs.{needs}
-use Rattle.state.specs.Records.{freshProcess}
+use Rattle.state.specs.Fresh.{freshProcess}
 use Rattle.state_bytes.proofs.state_form.fresh_process.Statement.{statement}
 use Rattle.state_bytes.proofs.state_form.fresh_process.Tie as tie
 

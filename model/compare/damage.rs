@@ -1,0 +1,324 @@
+//! Changes to a state's bytes, after which they are sound, not sound, or no state at all.
+
+use crate::calls::new_host;
+use crate::layout::{close_gaps, order};
+use crate::random::Random;
+use crate::sizes::{shared, some_size, wrong_size};
+use crate::states::{lay_in_any_order, some_run};
+use model::*;
+
+/// A kind of damage, done to the bytes of a state.
+type Damage = fn(&mut Random, &mut [u8]);
+
+/// Every kind, and how often it is done.
+const DAMAGES: [(usize, Damage); 22] = [
+    (4, some_bytes),
+    (2, another_begin),
+    (1, same_begin),
+    (1, gap),
+    (1, overlap),
+    (2, past_the_end),
+    (3, another_order),
+    (2, absent_begin),
+    (2, bad_size),
+    (2, another_size),
+    (1, size_under_a_breakpoint),
+    (1, wrong_run),
+    (1, wrong_flag),
+    (1, absent_with_host),
+    (1, breakpoint_with_no_host),
+    (1, wrong_address),
+    (1, same_address),
+    (1, one_or_two_lifted),
+    (3, no_host),
+    (3, old_bytes),
+    (1, another_host),
+    (1, one_more_breakpoint),
+];
+
+/// The first so many of these touch the layout, and it is left as they leave it.
+const LAYOUT_DAMAGES: usize = 8;
+
+/// Wrong lengths of a state's bytes. Without the begins there would be 696.
+pub const STATE_LENGTHS: [usize; 8] = [0, 1, 87, 680, 696, 711, 713, 1424];
+
+/// Changes a state's bytes by one kind of damage, or their number. Where that opens a gap,
+/// since a size is another or a process is there or not, it is mostly closed again.
+pub fn damage_state(random: &mut Random, state: &mut Vec<u8>) {
+    if random.one_in(20) {
+        return state.resize(random.length(&STATE_LENGTHS, 2000), 0);
+    }
+    let kind = random.weighted(&DAMAGES.map(|(weight, _)| weight));
+    DAMAGES[kind].1(random, state);
+    if kind >= LAYOUT_DAMAGES && !random.one_in(8) {
+        change(state, close_gaps);
+    }
+}
+
+/// Changes the records that the bytes are, if they are those of a state.
+fn change(state: &mut [u8], change: impl FnOnce(&mut State)) {
+    if let Some(mut records) = decode(state) {
+        change(&mut records);
+        state.copy_from_slice(&encode(&records));
+    }
+}
+
+/// Some bits or bytes anywhere.
+fn some_bytes(random: &mut Random, state: &mut [u8]) {
+    for _ in 0..=random.below(3) {
+        let at = random.below(state.len());
+        let flipped = state[at] ^ 1 << random.below(8);
+        state[at] = if random.one_in(2) { random.byte() } else { flipped };
+    }
+}
+
+/// A begin that is another's, near another's or any, of a process that is there or not.
+fn another_begin(random: &mut Random, state: &mut [u8]) {
+    let other = RECORD_BYTES * random.below(PROCESSES);
+    let end = begin_of(state, other).wrapping_add(size_of(state, other));
+    let near = end.wrapping_add(random.pick(&[0, 0, 1, 2, u16::MAX - 1, u16::MAX]));
+    let any = random.free_word();
+    let begin = random.pick(&[0, 1, 2, 4096, 16_382, 16_384, 65_535, near, near, any, any]);
+    put_begin(state, some_record(random), begin);
+}
+
+/// Two that are there begin at the same byte, if there are two.
+fn same_begin(random: &mut Random, state: &mut [u8]) {
+    let (a, b) = (some_there(random, state), some_there(random, state));
+    put_begin(state, a, begin_of(state, b));
+}
+
+/// Those from one on lie some bytes further up.
+fn gap(random: &mut Random, state: &mut [u8]) {
+    let by = random.pick(&[1, 2, 2, 4, 100, 4096, 49_152]);
+    shift(random, state, by);
+}
+
+/// Those from one on lie some bytes further down.
+fn overlap(random: &mut Random, state: &mut [u8]) {
+    let by = random.pick(&[1, 2, 2, 4, 100, 4096]);
+    shift(random, state, 0u16.wrapping_sub(by));
+}
+
+fn shift(random: &mut Random, state: &mut [u8], by: u16) {
+    let from = begin_of(state, some_there(random, state));
+    change(state, |records| {
+        for process in records.processes.iter_mut().filter(|p| p.there && p.begin >= from) {
+            process.begin = process.begin.wrapping_add(by);
+        }
+    });
+}
+
+/// Without gaps, but with more bytes than memory has, two more at times; or with just as
+/// many, which alone is sound.
+fn past_the_end(random: &mut Random, state: &mut [u8]) {
+    let total = MEMORY + random.pick(&[0, 2, 2, 4, 4096, MEMORY]);
+    change(state, |records| {
+        for process in &mut records.processes {
+            process.there |= random.one_in(2);
+            process.size = if process.there { LARGEST } else { process.size };
+        }
+        let there = (0..8).filter(|&p| records.processes[p].there).map(|p| 1u8 << p).sum();
+        let sizes = shared(total, there, &records.processes.map(|process| process.size));
+        for (process, size) in records.processes.iter_mut().zip(sizes) {
+            process.size = size;
+        }
+        close_gaps(records);
+    });
+}
+
+/// Sound: those there lie in another order.
+fn another_order(random: &mut Random, state: &mut [u8]) {
+    change(state, |records| lay_in_any_order(random, records));
+}
+
+/// Sound: the begins of absent processes are any.
+fn absent_begin(random: &mut Random, state: &mut [u8]) {
+    change(state, |records| {
+        for process in records.processes.iter_mut().filter(|process| !process.there) {
+            process.begin = random.free_word();
+        }
+    });
+}
+
+/// A size that no process may have, of one that is there or not, often of the last one.
+fn bad_size(random: &mut Random, state: &mut [u8]) {
+    let record = if random.one_in(2) { last_there(state) } else { some_record(random) };
+    put_size(state, record, wrong_size(random));
+}
+
+/// Sound where no breakpoint is past the size: another size, of a process that is
+/// there or not.
+fn another_size(random: &mut Random, state: &mut [u8]) {
+    put_size(state, some_record(random), some_size(random));
+}
+
+/// A breakpoint, and a size that ends before it, in its middle, or after it, which
+/// alone is sound.
+fn size_under_a_breakpoint(random: &mut Random, state: &mut [u8]) {
+    let record = some_debugged(random, state);
+    let address = 2 * random.below(usize::from(LARGEST) / 2) as u16;
+    put_entry(state, some_entry(random, record), 0, address);
+    put_size(state, record, (address + random.pick(&[0, 0, 1, 2])).max(SMALLEST));
+}
+
+/// A run state that there is not.
+fn wrong_run(random: &mut Random, state: &mut [u8]) {
+    let any = random.free_byte().max(5);
+    state[some_record(random) + 2] = random.pick(&[5, 6, 128, 255, any, any]);
+}
+
+/// A flag that is neither 0 nor 1.
+fn wrong_flag(random: &mut Random, state: &mut [u8]) {
+    let record = some_record(random);
+    let entry = some_entry(random, record);
+    let at = random.pick(&[record, entry, entry + 1]);
+    let any = random.free_byte().max(2);
+    state[at] = random.pick(&[2, 3, 128, 255, any, any]);
+}
+
+fn absent_with_host(random: &mut Random, state: &mut [u8]) {
+    let record = some_record(random);
+    state[record..record + 2].copy_from_slice(&[0, new_host(random)]);
+}
+
+/// A breakpoint of an absent process, or of one with no host.
+fn breakpoint_with_no_host(random: &mut Random, state: &mut [u8]) {
+    let record = some_record(random);
+    state[record..record + 2].copy_from_slice(&[random.below(2) as u8, NOBODY]);
+    put_entry(state, some_entry(random, record), 0, 0);
+}
+
+fn wrong_address(random: &mut Random, state: &mut [u8]) {
+    let record = some_debugged(random, state);
+    let size = size_of(state, record);
+    let any = random.free_word() | random.pick(&[1, 4096]);
+    let past = [size - 1, size, size, size + 1, size + 2];
+    let wrong = [1, 7, 4093, 4095, 4096, 4097, 4098, 8192, 65534, 65535, any, any, any, any];
+    let address = if random.one_in(2) { random.pick(&past) } else { random.pick(&wrong) };
+    put_entry(state, some_entry(random, record), 0, address);
+}
+
+/// The same address twice, unless both are the same entry.
+fn same_address(random: &mut Random, state: &mut [u8]) {
+    let record = some_debugged(random, state);
+    let size = size_of(state, record);
+    let address = random.pick(&[0, size - 2, size - 2]);
+    put_entry(state, some_entry(random, record), 0, address);
+    put_entry(state, some_entry(random, record), 0, address);
+}
+
+/// One lifted or two, in any run state.
+fn one_or_two_lifted(random: &mut Random, state: &mut [u8]) {
+    let record = some_debugged(random, state);
+    state[record + 2] = some_run(random) as u8;
+    let last = size_of(state, record) - 2;
+    put_entry(state, some_entry(random, record), 1, 0);
+    put_entry(state, some_entry(random, record), random.below(2) as u8, last);
+}
+
+/// Sound: a process with no host in any run state, or an absent one with a run
+/// state and a vector.
+fn no_host(random: &mut Random, state: &mut [u8]) {
+    let record = some_record(random);
+    let run = if random.one_in(2) { some_run(random) } else { Run::Stepping };
+    make_there(random, state, record);
+    let there = u8::from(!random.one_in(4));
+    state[record..record + 3].copy_from_slice(&[there, NOBODY, run as u8]);
+    random.fill(&mut state[record + VECTOR_AT..record + ENTRIES_AT]);
+    state[record + ENTRIES_AT..record + RECORD_BYTES].fill(0);
+}
+
+/// Sound: bytes in the free entries of a process.
+fn old_bytes(random: &mut Random, state: &mut [u8]) {
+    let record = some_record(random);
+    let entries = &mut state[record + ENTRIES_AT..record + RECORD_BYTES];
+    for entry in entries.chunks_exact_mut(ENTRY_BYTES).filter(|entry| entry[0] == 0) {
+        entry[1] = random.below(2) as u8;
+        random.fill(&mut entry[2..]);
+    }
+}
+
+/// Sound where the process is there.
+fn another_host(random: &mut Random, state: &mut [u8]) {
+    state[some_record(random) + 1] = new_host(random);
+}
+
+/// Mostly sound: a planted breakpoint more.
+fn one_more_breakpoint(random: &mut Random, state: &mut [u8]) {
+    let record = some_debugged(random, state);
+    let address = 2 * random.below(usize::from(size_of(state, record)) / 2) as u16;
+    put_entry(state, some_entry(random, record), 0, address);
+}
+
+/// Where some process's record begins in a state's bytes.
+fn some_record(random: &mut Random) -> usize {
+    RECORD_BYTES * random.below(PROCESSES)
+}
+
+/// Where one of a record's entries begins.
+fn some_entry(random: &mut Random, record: usize) -> usize {
+    record + ENTRIES_AT + ENTRY_BYTES * random.below(BREAKPOINTS)
+}
+
+/// Where the record of a process that is there begins, if any is.
+fn some_there(random: &mut Random, state: &[u8]) -> usize {
+    let records = (0..PROCESSES).map(|p| RECORD_BYTES * p);
+    let there: Vec<usize> = records.filter(|&record| state[record] == 1).collect();
+    if there.is_empty() {
+        return some_record(random);
+    }
+    random.pick(&there)
+}
+
+/// That of the one that lies last.
+fn last_there(state: &[u8]) -> usize {
+    let last = decode(state).and_then(|records| order(&records).last().copied());
+    RECORD_BYTES * last.unwrap_or(0)
+}
+
+/// Makes a process there, if it is not; with few bytes, so that there mostly is room.
+fn make_there(random: &mut Random, state: &mut [u8], record: usize) {
+    if state[record] != 1 {
+        state[record] = 1;
+        put_size(state, record, 2 * (1 + random.below(64) as u16));
+    }
+}
+
+/// A record, after its process is made there and debugged.
+fn some_debugged(random: &mut Random, state: &mut [u8]) -> usize {
+    let record = if random.one_in(4) { some_record(random) } else { some_there(random, state) };
+    make_there(random, state, record);
+    if state[record + 1] == NOBODY {
+        state[record + 1] = new_host(random);
+    }
+    record
+}
+
+/// Where the begin of a record's process stands in a state's bytes.
+fn begin_at(record: usize) -> usize {
+    BEGINS_AT + 2 * (record / RECORD_BYTES)
+}
+
+fn begin_of(state: &[u8], record: usize) -> u16 {
+    let at = begin_at(record);
+    u16::from_le_bytes([state[at], state[at + 1]])
+}
+
+fn put_begin(state: &mut [u8], record: usize, begin: u16) {
+    let at = begin_at(record);
+    state[at..at + 2].copy_from_slice(&begin.to_le_bytes());
+}
+
+fn size_of(state: &[u8], record: usize) -> u16 {
+    u16::from_le_bytes([state[record + SIZE_AT], state[record + SIZE_AT + 1]])
+}
+
+fn put_size(state: &mut [u8], record: usize, size: u16) {
+    state[record + SIZE_AT..record + VECTOR_AT].copy_from_slice(&size.to_le_bytes());
+}
+
+fn put_entry(state: &mut [u8], entry: usize, lifted: u8, address: u16) {
+    let [low, high] = address.to_le_bytes();
+    state[entry..entry + ENTRY_BYTES].copy_from_slice(&[1, lifted, low, high, 1, 0, 65, 66]);
+}

@@ -1,0 +1,100 @@
+//! A gateway that the cases ask.
+
+use super::*;
+
+/// A gateway: a state, its memory and one reply buffer.
+pub struct Gateway {
+    pub state: State,
+    pub memory: Vec<u8>,
+    pub output: Vec<u8>,
+}
+
+/// A byte that no case writes, to see which bytes are touched.
+pub const UNTOUCHED: u8 = 0xa5;
+
+/// Sizes of processes as large as there are: four of them have room.
+pub const FULL: [u16; PROCESSES] = [LARGEST; PROCESSES];
+
+/// K9: "P11's eight have 2,048 bytes each."
+pub const EIGHT: [u16; PROCESSES] = [2048; PROCESSES];
+
+/// K2: "The cheap gateway's feed process has 1,536 bytes"
+pub const FEED: u16 = 1536;
+
+impl Gateway {
+    pub fn new(there: u8) -> Gateway {
+        Gateway::with_sizes(there, &FULL)
+    }
+
+    pub fn with_sizes(there: u8, sizes: &[u16; PROCESSES]) -> Gateway {
+        Gateway {
+            state: fresh_start(there, sizes).unwrap(),
+            memory: vec![0; MEMORY],
+            output: vec![UNTOUCHED; LONGEST],
+        }
+    }
+
+    /// Process 2 alone, debugged by host 5.
+    pub fn debugged() -> Gateway {
+        let mut gateway = Gateway::new(1 << 2);
+        assert_eq!(gateway.ask(5, DEBUG, 2, 0, 0, &[]), 10);
+        gateway
+    }
+
+    /// The feed process alone, as process 2, debugged by host 5. No byte of the memory
+    /// is zero.
+    pub fn feed() -> Gateway {
+        let mut gateway = Gateway::with_sizes(1 << 2, &[FEED; PROCESSES]);
+        gateway.memory.fill(77);
+        assert_eq!(gateway.ask(5, DEBUG, 2, 0, 0, &[]), 10);
+        gateway
+    }
+
+    pub fn send(&mut self, message: &[u8]) -> i64 {
+        self.output.fill(UNTOUCHED);
+        request(&mut self.state, &mut self.memory, message, &mut self.output)
+    }
+
+    pub fn ask(&mut self, host: u8, cmd: u8, pid: u8, arg1: u16, arg2: u16, string: &[u8]) -> i64 {
+        self.send(&message(host, cmd, pid, arg1, arg2, string))
+    }
+
+    pub fn report(&mut self, process: u64, kind: impl Into<u64>, reason: u64, pc: u16) -> i64 {
+        self.output.fill(UNTOUCHED);
+        let words = words_with(pc);
+        let (state, memory) = (&mut self.state, &mut self.memory);
+        report(state, memory, process, kind.into(), reason, &words, &mut self.output)
+    }
+
+    /// The bytes written, and a test that none past them is touched.
+    pub fn written(&self, length: usize) -> &[u8] {
+        assert!(self.output[length..].iter().all(|&b| b == UNTOUCHED));
+        &self.output[..length]
+    }
+
+    pub fn process(&mut self) -> &mut Process {
+        &mut self.state.processes[2]
+    }
+
+    /// The two bytes that memory holds at an address of process 2.
+    pub fn held(&self, address: usize) -> [u8; 2] {
+        let at = self.state.processes[2].place().start + address;
+        [self.memory[at], self.memory[at + 1]]
+    }
+
+    pub fn store(&mut self, address: usize, bytes: [u8; 2]) {
+        let at = self.state.processes[2].place().start + address;
+        self.memory[at..at + 2].copy_from_slice(&bytes);
+    }
+}
+
+pub fn message(host: u8, cmd: u8, pid: u8, arg1: u16, arg2: u16, string: &[u8]) -> Vec<u8> {
+    let mut bytes = vec![0; HEAD];
+    write_head(&mut bytes, host, cmd, pid, arg1, arg2);
+    bytes.extend_from_slice(string);
+    bytes
+}
+
+pub fn words_with(pc: u16) -> [u16; WORDS] {
+    [0x0102, 1, 2, 3, 4, 5, 6, pc, 8]
+}

@@ -1,0 +1,94 @@
+//! A machine report.
+
+use super::*;
+
+/// A machine report: the granted length, 0 where no notice goes out, or minus
+/// the refusal's number. "A report is tested by 1, 2, 14, 7, 9 in that order,
+/// and a refused one writes nothing at all."
+pub fn report(
+    state: &mut State,
+    memory: &mut [u8],
+    process: u64,
+    kind: u64,
+    reason: u64,
+    words: &[u16; WORDS],
+    notice: &mut [u8],
+) -> i64 {
+    if let Err(number) = lent(memory, notice) {
+        return -number;
+    }
+    if !sound(state) {
+        return -NOT_SOUND;
+    }
+    let Some((kind, reason)) = kind_and_reason(kind, reason) else {
+        return -WRONG_REPORT;
+    };
+    // 7: "number over 7"
+    let Ok(process) = u8::try_from(process) else {
+        return -ABSENT;
+    };
+    let record = match named(state, process) {
+        Ok(record) => record,
+        Err(number) => return -number,
+    };
+    if !record.accepts(kind) {
+        return -WRONG_RUN;
+    }
+    if !record.take(&mut memory[record.place()], kind, words) {
+        return 0;
+    }
+    // "a notice of 28 bytes goes to the host debugging it"; "(reason in
+    // ARG1)"; "PID; the rest zero; then the 18 bytes"
+    write_head(&mut notice[..HEAD], record.host, NOTICE_CMD + kind, process, reason, 0);
+    notice[HEAD..NOTICE].copy_from_slice(&vector_bytes(words));
+    NOTICE as i64
+}
+
+/// 14: "report of kind over 3, or a reason not 0 with a kind that isn't TRAP".
+/// "reason in ARG1", which has "two bytes": there is no report with a reason over
+/// 65,535, and one that is made is refused by 14 too.
+fn kind_and_reason(kind: u64, reason: u64) -> Option<(u8, u16)> {
+    let kind = u8::try_from(kind).ok().filter(|&kind| kind <= TTRAP)?;
+    let reason = u16::try_from(reason).ok().filter(|&reason| reason == 0 || kind == TRAP)?;
+    Some((kind, reason))
+}
+
+impl Process {
+    /// "Accepted while running or stepping; TTRAP only while stepping."
+    fn accepts(&self, kind: u8) -> bool {
+        self.run == Run::Stepping || self.run == Run::Running && kind != TTRAP
+    }
+
+    /// Takes an accepted report; says whether a notice goes out. "The vector is
+    /// stored and a lifted breakpoint planted again."
+    fn take(&mut self, space: &mut [u8], kind: u8, words: &[u16; WORDS]) -> bool {
+        self.vector = *words;
+        self.plant_lifted(space);
+        if kind == BPT && self.passes(space) {
+            return false;
+        }
+        // "Otherwise TRAP and TTRAP give stopped, HALT ended, BPT at a
+        // breakpoint"
+        self.run = match kind {
+            HALT => Run::Ended,
+            BPT => Run::AtBreakpoint,
+            _ => Run::Stopped,
+        };
+        // "to the host debugging it, if any"
+        self.host != NOBODY
+    }
+
+    /// "For BPT with a breakpoint at PC and remaining count above 0: the count
+    /// falls by one, that breakpoint is lifted, the run state stays and no
+    /// notice goes out."
+    fn passes(&mut self, space: &mut [u8]) -> bool {
+        match self.at(self.vector[PC]) {
+            Some(breakpoint) if breakpoint.remaining > 0 => {
+                breakpoint.remaining -= 1;
+                breakpoint.lift(space);
+                true
+            }
+            _ => false,
+        }
+    }
+}

@@ -1,0 +1,290 @@
+//! A request: tests 3 to 13 in their order, and what each op code does.
+
+use super::*;
+
+/// A message that has passed tests 3 to 6.
+pub(super) struct Asked<'a> {
+    pub host: u8,
+    pub cmd: u8,
+    pub pid: u8,
+    pub arg1: u16,
+    pub arg2: u16,
+    pub string: &'a [u8],
+}
+
+/// What a granted request's reply carries besides the request's own fields.
+struct Done {
+    pid: u8,
+    string: usize,
+}
+
+/// A request: the granted length, or minus the refusal's number. "The
+/// lowest-numbered test that fails gives the answer"
+pub fn request(state: &mut State, memory: &mut [u8], message: &[u8], reply: &mut [u8]) -> i64 {
+    if let Err(number) = lent(memory, reply) {
+        return -number;
+    }
+    if !sound(state) {
+        return -NOT_SOUND;
+    }
+    let asked = match read(message) {
+        Ok(asked) => asked,
+        Err(number) => return -number,
+    };
+    let (head, string) = reply.split_at_mut(HEAD);
+    // "Reply: the request's CMD, PID, ARG1, ARG2, with the asker in HOST."
+    match obey(state, memory, &asked, string) {
+        Ok(done) => {
+            write_head(head, asked.host, asked.cmd, done.pid, asked.arg1, asked.arg2);
+            (HEAD + done.string) as i64
+        }
+        Err(number) => {
+            write_head(head, asked.host, asked.cmd + CANT, asked.pid, asked.arg1, asked.arg2);
+            -number
+        }
+    }
+}
+
+/// Tests 3 to 6.
+fn read(message: &[u8]) -> Result<Asked<'_>, Refusal> {
+    // 3: "message under 10 or over 266 bytes"
+    if message.len() < HEAD || message.len() > LONGEST {
+        return Err(WRONG_LENGTH);
+    }
+    // 4: "TYPE, LINK or STYPE wrong, or HOST 0"
+    if message[0] != 0 || message[1] == NOBODY || message[2] != 255 || message[3] != 0 {
+        return Err(WRONG_HEAD);
+    }
+    // 5: "CMD not a known op code"
+    let Some(uses) = USES.get(usize::from(message[4])) else {
+        return Err(UNKNOWN_CMD);
+    };
+    let asked = Asked {
+        host: message[1],
+        cmd: message[4],
+        pid: message[5],
+        arg1: u16::from_be_bytes([message[6], message[7]]),
+        arg2: u16::from_be_bytes([message[8], message[9]]),
+        string: &message[HEAD..],
+    };
+    // 6: "unused field not zero, or string of wrong length"
+    if !fields_fit(&asked, uses) {
+        return Err(WRONG_FIELDS);
+    }
+    Ok(asked)
+}
+
+/// "Unused fields are zero. Only 4 and 7 carry a string, of exactly ARG2
+/// bytes." K9: "6, at the desk too, an odd or greater size"
+pub(super) fn fields_fit(asked: &Asked, uses: &Uses) -> bool {
+    let string = if uses.string { usize::from(asked.arg2) } else { 0 };
+    (uses.pid || asked.pid == 0)
+        && (uses.arg1 || asked.arg1 == 0)
+        && (uses.arg2 || asked.arg2 == 0)
+        && asked.string.len() == string
+        && size_fits(asked.cmd, asked.arg1)
+}
+
+/// Tests 7 to 13, and what the request does.
+fn obey(
+    state: &mut State,
+    memory: &mut [u8],
+    asked: &Asked,
+    string: &mut [u8],
+) -> Result<Done, Refusal> {
+    match asked.cmd {
+        // RFC 643: "It has no effect on any process"
+        NOP => Ok(Done { pid: 0, string: 0 }),
+        CREATE_PROCESS => {
+            // test 6 has passed its size
+            let size = asked_size(asked.arg1).ok_or(WRONG_FIELDS)?;
+            // "CREATED carries the new number in PID."
+            Ok(Done { pid: create(state, memory, asked.host, size)?, string: 0 })
+        }
+        _ => {
+            let process = named(state, asked.pid)?;
+            debugged_by(process, asked)?;
+            run_state_fits(process, asked.cmd)?;
+            if asked.cmd == DESTROY_PROCESS {
+                destroy(state, memory, usize::from(asked.pid));
+                return Ok(Done { pid: asked.pid, string: 0 });
+            }
+            let string = process.obey(&mut memory[process.place()], asked, string)?;
+            Ok(Done { pid: asked.pid, string })
+        }
+    }
+}
+
+/// 7: "named process absent, or number over 7"
+pub(super) fn named(state: &mut State, pid: u8) -> Result<&mut Process, Refusal> {
+    match state.processes.get_mut(usize::from(pid)) {
+        Some(process) if process.there => Ok(process),
+        _ => Err(ABSENT),
+    }
+}
+
+/// 8: "asker is not debugging it; for DEBUG, another host is"
+fn debugged_by(process: &Process, asked: &Asked) -> Result<(), Refusal> {
+    let free_to_debug = asked.cmd == DEBUG && process.host == NOBODY;
+    if process.host == asked.host || free_to_debug {
+        return Ok(());
+    }
+    Err(NO_RIGHT)
+}
+
+/// 9: "wrong run state". "RESUME, SINGLE STEP: from stopped or at a
+/// breakpoint". "PROCEED BPT: only at a breakpoint". No other request asks for
+/// a run state.
+fn run_state_fits(process: &Process, cmd: u8) -> Result<(), Refusal> {
+    let fits = match cmd {
+        RESUME | SINGLE_STEP => process.run.waits(),
+        PROCEED_BPT => process.run == Run::AtBreakpoint,
+        _ => true,
+    };
+    if fits {
+        return Ok(());
+    }
+    Err(WRONG_RUN)
+}
+
+impl Process {
+    /// What a request to this process does once tests 7, 8 and 9 are passed;
+    /// the length of the reply's string.
+    fn obey(
+        &mut self,
+        space: &mut [u8],
+        asked: &Asked,
+        string: &mut [u8],
+    ) -> Result<usize, Refusal> {
+        match asked.cmd {
+            // "DEBUG: the asker debugs it; granted again to the same host."
+            DEBUG => self.host = asked.host,
+            END_DEBUG => self.end_debug(space),
+            STOP => self.stop(space),
+            DEPOSIT => self.deposit(space, asked)?,
+            // "RESUME [..] to running"
+            RESUME => self.run = Run::Running,
+            EXAMINE => return self.examine(space, asked, string),
+            DEPOSIT_STATE_VECTOR => self.deposit_vector(asked)?,
+            BREAK => self.set_breakpoint(space, asked)?,
+            UNBREAK => self.clear_breakpoint(space, asked)?,
+            SINGLE_STEP => self.single_step(space),
+            // 11 PROCEED BPT, the last of those that change one process alone
+            _ => self.proceed(space),
+        }
+        Ok(0)
+    }
+
+    /// "END DEBUG: all breakpoints go, planted words put back; nobody debugs
+    /// it. Stopped, at a breakpoint or stepping becomes running; ended stays."
+    /// "a freed entry is all zero": so are all eight.
+    fn end_debug(&mut self, space: &mut [u8]) {
+        for breakpoint in &mut self.breakpoints {
+            breakpoint.free(space);
+        }
+        self.host = NOBODY;
+        if self.run != Run::Ended {
+            self.run = Run::Running;
+        }
+    }
+
+    /// "STOP: running or stepping becomes stopped, and a lifted breakpoint is
+    /// planted again. Other states stay."
+    fn stop(&mut self, space: &mut [u8]) {
+        if self.run.goes() {
+            self.run = Run::Stopped;
+            self.plant_lifted(space);
+        }
+    }
+
+    /// "DEPOSIT, EXAMINE: seen bytes from ARG1; ARG1 + ARG2 at most 4,096. A
+    /// byte under a planted breakpoint goes to the saved word." K2: "10 reads
+    /// against the size"
+    fn deposit(&mut self, space: &mut [u8], asked: &Asked) -> Result<(), Refusal> {
+        if !within(asked.arg1, asked.arg2, self.size.into()) {
+            return Err(OUTSIDE);
+        }
+        let first = usize::from(asked.arg1);
+        self.exchange_planted(space);
+        space[first..first + asked.string.len()].copy_from_slice(asked.string);
+        self.exchange_planted(space);
+        Ok(())
+    }
+
+    /// "CONTENTS (reply to 6) appends the ARG2 bytes."
+    fn examine(
+        &mut self,
+        space: &mut [u8],
+        asked: &Asked,
+        string: &mut [u8],
+    ) -> Result<usize, Refusal> {
+        let count = usize::from(asked.arg2);
+        if !within(asked.arg1, asked.arg2, self.size.into()) || count > LONGEST_STRING {
+            return Err(OUTSIDE);
+        }
+        let first = usize::from(asked.arg1);
+        self.exchange_planted(space);
+        string[..count].copy_from_slice(&space[first..first + count]);
+        self.exchange_planted(space);
+        Ok(count)
+    }
+
+    /// "DEPOSIT STATE VECTOR: from byte ARG1; ARG1 + ARG2 at most 18; in any
+    /// run state." The vector is "18 bytes, low byte first".
+    fn deposit_vector(&mut self, asked: &Asked) -> Result<(), Refusal> {
+        if !within(asked.arg1, asked.arg2, VECTOR) {
+            return Err(OUTSIDE);
+        }
+        let first = usize::from(asked.arg1);
+        let mut bytes = vector_bytes(&self.vector);
+        bytes[first..first + asked.string.len()].copy_from_slice(asked.string);
+        self.vector = vector_from(&bytes);
+        Ok(())
+    }
+
+    /// "BREAK: count ARG2; at an existing address only the count changes."
+    fn set_breakpoint(&mut self, space: &mut [u8], asked: &Asked) -> Result<(), Refusal> {
+        // 10: "BREAK address odd"; K2: "BREAK at most size − 2"
+        if !self.takes_breakpoint(asked.arg1) {
+            return Err(OUTSIDE);
+        }
+        if let Some(breakpoint) = self.at(asked.arg1) {
+            breakpoint.remaining = asked.arg2;
+            return Ok(());
+        }
+        // "A new breakpoint takes the lowest free of the eight entries"
+        // 11: "eight breakpoints and a ninth asked"
+        let Some(entry) = self.breakpoints.iter_mut().find(|b| !b.used) else {
+            return Err(NINTH);
+        };
+        *entry = Breakpoint { used: true, address: asked.arg1, remaining: asked.arg2, ..FREE };
+        entry.plant(space);
+        Ok(())
+    }
+
+    /// "UNBREAK puts the word back if it is planted."
+    fn clear_breakpoint(&mut self, space: &mut [u8], asked: &Asked) -> Result<(), Refusal> {
+        // 12: "no breakpoint at that address"
+        let Some(breakpoint) = self.at(asked.arg1) else {
+            return Err(NO_BREAKPOINT);
+        };
+        breakpoint.free(space);
+        Ok(())
+    }
+
+    /// "SINGLE STEP at a breakpoint first lifts the breakpoint at PC, if there
+    /// is one."
+    fn single_step(&mut self, space: &mut [u8]) {
+        if self.run == Run::AtBreakpoint {
+            self.lift_at_pc(space);
+        }
+        self.run = Run::Stepping;
+    }
+
+    /// "PROCEED BPT: only at a breakpoint; lifts the one at PC, if there, then
+    /// running."
+    fn proceed(&mut self, space: &mut [u8]) {
+        self.lift_at_pc(space);
+        self.run = Run::Running;
+    }
+}

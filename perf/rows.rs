@@ -1,0 +1,154 @@
+//! The rows of the table that `perf/run` prints: what each starts from, and the calls of one turn.
+
+use model::{FIELDS, PROCESSES, VECTOR, WORDS};
+
+/// What a row starts from: the processes that are there, and the sizes of all.
+#[derive(Clone, Copy)]
+pub struct Start {
+    pub there: u8,
+    pub sizes: [u16; PROCESSES],
+}
+
+/// Processes 0 to 6 are there, and host 5 debugs process 2; 6,144 bytes are free.
+const SEVEN: Start = Start { there: 0x7f, sizes: [1024, 1024, 4096, 1024, 1024, 1024, 1024, 0] };
+/// Processes 0 to 3 fill the memory.
+const FOUR: Start = Start { there: 0x0f, sizes: [4096, 4096, 4096, 4096, 0, 0, 0, 0] };
+pub const P: u8 = 2;
+const OWNER: u8 = 5;
+const STRANGER: u8 = 6;
+/// Where EXAMINE, DEPOSIT and breakpoints are.
+const AT: u16 = 256;
+
+pub enum Step {
+    Request(Vec<u8>),
+    Report {
+        kind: u8,
+        words: [u16; WORDS],
+        bytes: [u8; VECTOR],
+    },
+    /// The desk writes a request with these fields and this string.
+    Write([u64; FIELDS], Vec<u8>),
+    /// The desk reads an answer.
+    Read(Vec<u8>),
+    /// No call: the process is set back to running by one store into the state.
+    Run,
+    /// No call: a process is set back to being there, debugged by this host, or not there; and all of them to where they lay at the
+    /// start.
+    Back {
+        pid: u8,
+        there: bool,
+        host: u8,
+        begins: [u16; PROCESSES],
+    },
+}
+
+pub struct Row {
+    pub name: String,
+    pub what: String,
+    pub start: Start,
+    pub before: Vec<Step>,
+    pub turn: Vec<Step>,
+    /// The sum of the answers of one turn.
+    pub answers: i64,
+}
+
+fn ask(host: u8, cmd: u8, pid: u8, arg1: u16, arg2: u16, string: usize) -> Step {
+    let [a, b] = arg1.to_be_bytes();
+    let [c, d] = arg2.to_be_bytes();
+    let mut message = vec![0, host, 255, 0, cmd, pid, a, b, c, d];
+    message.extend((0..string).map(|i| i as u8));
+    Step::Request(message)
+}
+
+pub fn to(cmd: u8, arg1: u16, arg2: u16) -> Step {
+    let string = if cmd == model::DEPOSIT || cmd == model::DEPOSIT_STATE_VECTOR { arg2 } else { 0 };
+    ask(OWNER, cmd, P, arg1, arg2, usize::from(string))
+}
+
+fn tell(kind: u8, pc: u16) -> Step {
+    let words = [1, 2, 3, 4, 5, 6, 7, pc, 9];
+    Step::Report { kind, words, bytes: model::vector_bytes(&words) }
+}
+
+fn row(name: &str, what: &str, before: Vec<Step>, turn: Vec<Step>, answers: i64) -> Row {
+    Row { name: name.to_string(), what: what.to_string(), start: SEVEN, before, turn, answers }
+}
+
+/// Sets a process of a row back to what it was at the start.
+fn back(start: Start, pid: u8, host: u8) -> Step {
+    let began = model::fresh_start(start.there, &start.sizes).expect("sizes that have room");
+    let begins = began.processes.map(|process| process.begin);
+    Step::Back { pid, there: start.there >> pid & 1 == 1, host, begins }
+}
+
+/// CREATE of a size, which zeroes as many bytes.
+fn creating(size: u16) -> Row {
+    let create = ask(OWNER, model::CREATE_PROCESS, 0, size, 0, 0);
+    let turn = vec![create, back(SEVEN, 7, model::NOBODY)];
+    row(&format!("create-{size}"), &format!("CREATE of {size}"), vec![], turn, 10)
+}
+
+/// DESTROY of one of four processes of 4,096 bytes: so many bytes above it move, and 4,096 are zeroed.
+fn destroying(pid: u8) -> Row {
+    let moved = 4096 * (3 - u16::from(pid));
+    let before = vec![ask(OWNER, model::DEBUG, pid, 0, 0, 0)];
+    let destroy = ask(OWNER, model::DESTROY_PROCESS, pid, 0, 0, 0);
+    let turn = vec![destroy, back(FOUR, pid, OWNER)];
+    let what = format!("DESTROY, {moved} moved");
+    Row { start: FOUR, ..row(&format!("destroy-{moved}"), &what, before, turn, 10) }
+}
+
+/// EXAMINE or DEPOSIT of some bytes, with no breakpoint or with eight, 32 bytes apart from the first byte on.
+fn moving(name: &str, cmd: u8, bytes: u16, planted: u16) -> Row {
+    let what = format!("{} of {bytes}, {planted} planted", name.to_uppercase());
+    let before = (0..planted).map(|k| to(model::BREAK, AT + 32 * k, 0)).collect();
+    let answer = if cmd == model::EXAMINE { 10 + i64::from(bytes) } else { 10 };
+    row(&format!("{name}-{bytes}-{planted}"), &what, before, vec![to(cmd, AT, bytes)], answer)
+}
+
+pub fn rows() -> Vec<Row> {
+    use model::*;
+    let mut rows = vec![
+        row("nop", "NOP", vec![], vec![ask(OWNER, NOP, 0, 0, 0, 0)], 10),
+        row("debug", "DEBUG, again by the same host", vec![], vec![to(DEBUG, 0, 0)], 10),
+    ];
+    for (name, cmd) in [("examine", EXAMINE), ("deposit", DEPOSIT)] {
+        for planted in [0, 8] {
+            rows.extend([1, 16, 256].map(|bytes| moving(name, cmd, bytes, planted)));
+        }
+    }
+    let pair = vec![to(BREAK, AT, 0), to(UNBREAK, AT, 0)];
+    rows.push(row("break", "BREAK and UNBREAK, a pair", vec![], pair, 20));
+    let pair =
+        vec![ask(OWNER, CREATE_PROCESS, 0, 0, 0, 0), ask(OWNER, DESTROY_PROCESS, 7, 0, 0, 0)];
+    rows.push(row("create", "CREATE and DESTROY, a pair", vec![], pair, 20));
+    rows.extend([2, 4096].map(creating));
+    rows.extend([3, 2, 0].map(destroying));
+    let counted = vec![to(BREAK, AT, 65_535)];
+    rows.push(row("silent", "BPT report, silent", counted, vec![tell(BPT, AT)], 0));
+    let back = vec![tell(TRAP, AT), Step::Run];
+    rows.push(row("notice", "TRAP report with notice", vec![], back, 28));
+    let turn = vec![ask(STRANGER, EXAMINE, P, AT, 16, 0)];
+    rows.push(row("stranger", "EXAMINE of 16 by a stranger, refused", vec![], turn, -8));
+    let turn = vec![Step::Write([5, DEPOSIT.into(), 2, AT.into(), 16], vec![7; 16])];
+    rows.push(row("write", "the desk writes DEPOSIT of 16", vec![], turn, 26));
+    let Step::Request(head) = ask(OWNER, EXAMINE, P, AT, 16, 0) else { unreachable!() };
+    let turn = vec![Step::Read([head, vec![7; 16]].concat())];
+    rows.push(row("read", "the desk reads CONTENTS of 16", vec![], turn, 16));
+    let session = vec![
+        to(DEBUG, 0, 0),
+        to(DEPOSIT_STATE_VECTOR, 0, 18),
+        to(BREAK, AT, 0),
+        tell(BPT, AT),
+        to(SINGLE_STEP, 0, 0),
+        tell(TTRAP, AT + 2),
+        to(RESUME, 0, 0),
+        tell(BPT, AT),
+        to(PROCEED_BPT, 0, 0),
+        to(STOP, 0, 0),
+        to(END_DEBUG, 0, 0),
+    ];
+    let ended = vec![to(END_DEBUG, 0, 0)];
+    rows.push(row("session", "a debugging session of 11 calls", ended, session, 8 * 10 + 3 * 28));
+    rows
+}
