@@ -60,9 +60,10 @@ returns c =
     let a = s .args in
     let bytes : Bytes (a .state .now) = λ i. omega (arith, c .before .before .before .before .before .before .before .before .before .before .before .before .before .before .before .slice-known .given i) in
     let more : Bytes (withStartsBytes (startsWithout (a .pid) (stateOf (a .state .now))) (a .state .now)) = λ i. rw (← b .ensures) (omega (arith, c .before .before .before .before .slice-known4 .given i)) in
-    let formed = sound-formed (a .state .now) (s .pre .1 .1 .0) in
-    (rw (f .ensures, b .ensures) (gone-bytes (a .state .now) (a .memory .now) bytes formed (a .pid) (a .process) (s .pre .0 .0) more),
-    rw (← s .pre .1 .0 .0, ← s .pre .1 .0 .1, ← u .ensures) (k .ensures))
+    let formed = sound-formed (a .state .now) (s .pre .1 .1 .0) in (
+      rw (f .ensures, b .ensures) (gone-bytes (a .state .now) (a .memory .now) bytes formed (a .pid) (a .process) (s .pre .0 .0) more),
+      rw (← s .pre .1 .0 .0, ← s .pre .1 .0 .1, ← u .ensures) (k .ensures),
+    )
 
 pub take-out-spec : {M : Type 1} → statement M
 take-out-spec = tie.close (tie.spec used-bytes-requires close-requires put-starts-without-requires put-process-at-requires same-length same-length-2 returns)

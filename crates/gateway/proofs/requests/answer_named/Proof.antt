@@ -114,10 +114,13 @@ take-out-requires c κs =
     let st = lent (stateOf (a .state .now)) (a .memory .now) in
     let ready = lent-ready (a .state .now) (a .memory .now) (a .reply .now) (s .pre .1 .0) in
     let there = not-false (q .result .there) (c .before .before .before .before .before .before .before .before .before .before .before .before .before .before .before .if1 .left) in
-    let fits = part-inside st ready (a .pid) (t .result) (x .result) (q .result) (s .pre .0 .2) (t .ensures) (q .ensures) (x .ensures) there in
-    ((s .pre .0 .2, ap (λ (z : Process). z .there) (sym (q .ensures)) ∙ there),
-    ((t .ensures, part-count st ready (a .pid) (t .result) (x .result) (q .result) (s .pre .0 .2) (t .ensures) (q .ensures) (x .ensures)),
-    (lent-sound (a .state .now) (a .memory .now) (a .reply .now) (s .pre .1 .0), length-back (t .result) (x .result) (a .memory .now) fits (v .last .1 .1 .0) (v .kept .1 .1 .0) ∙ ready .memory)))
+    let fits = part-inside st ready (a .pid) (t .result) (x .result) (q .result) (s .pre .0 .2) (t .ensures) (q .ensures) (x .ensures) there in (
+      (s .pre .0 .2, ap (λ (z : Process). z .there) (sym (q .ensures)) ∙ there),
+      (
+        (t .ensures, part-count st ready (a .pid) (t .result) (x .result) (q .result) (s .pre .0 .2) (t .ensures) (q .ensures) (x .ensures)),
+        (lent-sound (a .state .now) (a .memory .now) (a .reply .now) (s .pre .1 .0), length-back (t .result) (x .result) (a .memory .now) fits (v .last .1 .1 .0) (v .kept .1 .1 .0) ∙ ready .memory),
+      ),
+    )
 
 same-length-3 : tie.Need-same-length-3
 same-length-3 c = search needs
