@@ -1,4 +1,4 @@
--- Laws of what lines do: an effect by whether its line is right, the text that is put, the bytes of a process, and long messages.
+-- Laws of what lines do: an effect by whether its line is right, the text that is put, bytes of memory, and long messages.
 -- Assumes nothing.
 use mathlib.Core.Path.{_≡_, refl, sym, ap, _∙_}
 use mathlib.Core.Bool.{Bool, true, false, cond}
@@ -6,22 +6,20 @@ use mathlib.Core.List.{List, [], _∷_, _++_}
 use Prim.Native.Nat.{ℕ, _+_, _-_, _*_, _≤_, _<_, min}
 use native.Mathlib.Omega.{arith}
 use borrow.Author.Tests.{lt-ltb, le-ltb, leb-true, leb-false, eq-eqb, ne-eqb}
-use lib.ListN.{length, take, drop, set, replicate, length-take, length-drop, length-replicate, replicate-append-replicate, take-append-drop, drop-of-length-le}
-use lib.Seq.{take-add, take-take, take-all, drop-drop, drop-at, length-take-le}
+use lib.ListN.{length, take, drop, set, replicate, length-take, length-drop, length-replicate, replicate-append-replicate, drop-of-length-le}
+use lib.Seq.{take-all}
 use lib.Dec.{leb}
 use Rattle.lists.specs.Buffer.{overlay}
 use Rattle.lists.proofs.Buffer.{overlay-snoc, overlay-all}
 use Rattle.format.specs.declared.outcome.Outcome.{Outcome}
 use Rattle.format.specs.Outcome.{outcome, numberOf, firstFailing}
 use Rattle.format.specs.Refusal.{wrongLength}
-use Rattle.state.specs.Slot.{startOf, slot}
-use Rattle.state.proofs.SlotLaws.{startOf-is}
+use Rattle.state.specs.Layout.{slot}
 use Rattle.rules.specs.Tests.{State, lent, noRoom, unsound, requestNumber}
 use Rattle.rules.specs.Step.{answers, refused, requestStep, step}
 use Rattle.state_bytes.specs.State.{stateOf}
 use Rattle.gateway.specs.Called.{Called, called, callOn, started, startOn}
 use Rattle.rules.specs.Turn.{bufferOf}
-use Rattle.lines.specs.Hex.{pairsLine}
 use Rattle.lines.specs.declared.scan.Phase.{Phase}
 use Rattle.lines.specs.declared.scan.Phase.the-variants.{Open}
 use Rattle.lines.specs.declared.scan.Scan.{Scan}
@@ -57,52 +55,8 @@ prints-put text len before after h p = let w = put-whole len text before after h
 pub prints-as : (xs ys : List ℕ) (len : ℕ) (before after : List ℕ) → xs ≡ ys → Prints xs len before after → Prints ys len before after
 prints-as xs ys len before after e p = rw e at p
 
--- ---- some of the bytes of a process's slot
+-- ---- as many as there are
 
-module _ (p : ℕ) (m : List ℕ) (low : p < 8) (size : length m ≡ 32768) where
-  at : startOf p ≡ 4096 * p
-  at = startOf-is p low
-
-  rest-long : 4096 ≤ length (drop (startOf p) m)
-  rest-long = omega (arith, length-drop (startOf p) m, at, low, size)
-
-  part-slot : (a c from : ℕ) → from ≡ startOf p + a → a + c ≤ 4096 → take (from + c - from) (drop from m) ≡ take c (drop a (slot p 4096 m))
-  unfolding slot
-  part-slot a c from f h =
-      let s = startOf p in
-      let rest : List ℕ = drop s m in
-      let whole : a + (4096 - a) ≡ 4096 = omega (arith, h) in
-      let split : take 4096 rest ≡ take a rest ++ take (4096 - a) (drop a rest) = ap (λ (n : ℕ). take n rest) (sym whole) ∙ take-add a (4096 - a) rest in
-      let front : length (take a rest) ≡ a = length-take-le a rest (omega (arith, rest-long, h)) in
-      let cut : take c (drop a (take 4096 rest)) ≡ take c (drop a rest) =
-      ap (λ (l : List ℕ). take c (drop a l)) split
-      ∙ ap (take c) (drop-at (take a rest) (take (4096 - a) (drop a rest)) a front)
-      ∙ take-take c (4096 - a) (drop a rest) (omega (arith, h)) in
-      let many : from + c - from ≡ c = omega arith in
-      ap (λ (n : ℕ). take n (drop from m)) many
-      ∙ sym (cut ∙ ap (take c) (drop-drop a s m ∙ ap (λ (n : ℕ). drop n m) (sym f)))
-
-  pub memory-line : (a c from : ℕ) → from ≡ startOf p + a → a + c ≤ 4096 → pairsLine (take (from + c - from) (drop from m)) ≡ pairsLine (take c (drop a (slot p 4096 m)))
-  memory-line a c from f h = ap pairsLine (part-slot a c from f h)
-
--- ---- zeros one after another
-
-abbrev zeros : ℕ → List ℕ
-zeros n = replicate n 0
-
-pub zero-turn : (m : List ℕ) (i : ℕ) → i < length m → set (overlay (zeros i) m) i 0 ≡ overlay (zeros (i + 1)) m
-zero-turn m i h =
-    let size : length (zeros i) ≡ i = length-replicate {A = ℕ} i 0 in
-    ap (λ (n : ℕ). set (overlay (zeros i) m) n 0) (sym size)
-    ∙ overlay-snoc (zeros i) m 0 (omega (arith, size, h))
-    ∙ ap (λ (l : List ℕ). overlay l m) (replicate-append-replicate {A = ℕ} i 1 0)
-
-pub zero-all : (m : List ℕ) (i : ℕ) → i ≡ length m → overlay (zeros i) m ≡ zeros (length m)
-zero-all m i e = overlay-all (zeros i) m (omega (arith, length-replicate {A = ℕ} i 0, e)) ∙ ap zeros e
-
--- ---- the answer of a call
-
--- so many, or all where there are fewer
 pub take-at-most : (n : ℕ) (xs : List ℕ) → take (min n (length xs)) xs ≡ take n xs
 take-at-most n xs = go (leb n (length xs)) refl
   where
@@ -122,6 +76,32 @@ drop-at-most n xs = go (leb n (length xs)) refl
         let left : length xs ≤ min n (length xs) = omega (arith, few) in
         let right : length xs ≤ n = omega (arith, few) in
         drop-of-length-le xs left ∙ sym (drop-of-length-le xs right)
+
+-- so many bytes of memory from an index on, both cut at its end as the code cuts them
+pub part-slot : (from count start end : ℕ) (m : List ℕ) → start ≡ min from (length m) → end ≡ min (start + count) (length m)
+    → take (end - start) (drop start m) ≡ slot from count m
+unfolding slot
+part-slot from count start end m S E =
+    let rest : List ℕ = drop start m in
+    let many : end - start ≡ min count (length rest) = omega (arith, length-drop start m, S, E) in
+    ap (λ (n : ℕ). take n rest) many ∙ take-at-most count rest ∙ ap (take count) (ap (λ (n : ℕ). drop n m) S ∙ drop-at-most from m)
+
+-- ---- zeros one after another
+
+abbrev zeros : ℕ → List ℕ
+zeros n = replicate n 0
+
+pub zero-turn : (m : List ℕ) (i : ℕ) → i < length m → set (overlay (zeros i) m) i 0 ≡ overlay (zeros (i + 1)) m
+zero-turn m i h =
+    let size : length (zeros i) ≡ i = length-replicate {A = ℕ} i 0 in
+    ap (λ (n : ℕ). set (overlay (zeros i) m) n 0) (sym size)
+    ∙ overlay-snoc (zeros i) m 0 (omega (arith, size, h))
+    ∙ ap (λ (l : List ℕ). overlay l m) (replicate-append-replicate {A = ℕ} i 1 0)
+
+pub zero-all : (m : List ℕ) (i : ℕ) → i ≡ length m → overlay (zeros i) m ≡ zeros (length m)
+zero-all m i e = overlay-all (zeros i) m (omega (arith, length-replicate {A = ℕ} i 0, e)) ∙ ap zeros e
+
+-- ---- the answer of a call
 
 -- what is put is the line of the answer
 module _ (count : Outcome → ℕ) (o : Outcome) (s m buffer : List ℕ) (x : Called) (X : called o s m buffer ≡ x) (number k n len : ℕ) (before after : List ℕ) where

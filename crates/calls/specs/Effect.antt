@@ -4,7 +4,7 @@ use mathlib.Core.List.{List}
 use Prim.Native.Nat.{ℕ, _≤_}
 use lib.ListN.{length}
 use Rattle.lists.specs.Buffer.{overlay}
-use Rattle.state.specs.Slot.{capacity}
+use Rattle.state.specs.Layout.{capacity}
 use Rattle.format.specs.Sizes.{messageBytes}
 
 -- the bytes of the lent memory

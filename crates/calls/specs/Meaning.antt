@@ -1,13 +1,13 @@
 -- What each line does to state and memory, and what it prints. The numbers of a line are read by their bounds.
-use mathlib.Core.Bool.{Bool, cond}
+use mathlib.Core.Bool.{Bool, cond, _&&_}
 use mathlib.Core.List.{List, [], _∷_, _++_}
-use Prim.Native.Nat.{ℕ, _-_}
+use Prim.Native.Nat.{ℕ, _+_}
 use lib.ListN.{length, take, drop, replicate}
-use lib.Dec.{eqb}
+use lib.Dec.{eqb, leb}
 use Rattle.format.specs.declared.outcome.Outcome.{Outcome}
 use Rattle.format.specs.Outcome.{numberOf}
-use Rattle.state.specs.Records.{processAt}
-use Rattle.state.specs.Slot.{slot}
+use Rattle.state.specs.Records.{processAt, startOf}
+use Rattle.state.specs.Layout.{capacity, extentAt, slot}
 use Rattle.rules.specs.Step.{request, report}
 use Rattle.state_bytes.specs.State.{stateOf}
 use Rattle.gateway.specs.Called.{Called, StartResult, callOn, machineStored, startOn}
@@ -81,7 +81,11 @@ unfoldable pub startEffect : List ℕ → List ℕ → List ℕ → Effect
 startEffect line s m =
     ifRight (complete (startListing line .place)) (startMade (startListing line .there) (startListing line .sizes) s m) s m
 
--- store P ADDRESS BYTE: the machine's store, into the 4,096 bytes of the process's slot, whatever its size
+-- the line ends after this number, and the bytes that it names end at this address, at most here
+unfoldable pub endsWithin : List ℕ → Number → ℕ → ℕ → Bool
+endsWithin line n end most = endsLine line n && leb end most
+
+-- store P ADDRESS BYTE: the machine's store, 'only within a process's own bytes', of which an absent one has none
 module _ (line : List ℕ) where
   -- the process
   abbrev pub storeP : Number
@@ -98,10 +102,10 @@ module _ (line : List ℕ) where
   -- it prints `ok`
   unfoldable pub storeEffect : List ℕ → List ℕ → Effect
   storeEffect s m =
-      ifRight (endsLine line storeByte)
+      ifRight (endsWithin line storeByte (storeAddress .value + 1) (extentAt (stateOf s) (storeP .value)))
       (effect s (machineStored (storeP .value) (storeAddress .value) (storeByte .value) s m .memory) (111 ∷ 107 ∷ 10 ∷ [])) s m
 
--- memory P ADDRESS COUNT: no byte after the last of the process's slot
+-- memory P ADDRESS COUNT: no byte after the last of the process's own
 module _ (line : List ℕ) where
   -- the process
   abbrev pub memoryP : Number
@@ -113,20 +117,42 @@ module _ (line : List ℕ) where
 
   -- how many bytes
   abbrev pub memoryCount : Number
-  memoryCount = behind (memoryBytes - memoryAddress .value) line memoryAddress
+  memoryCount = behind memoryBytes line memoryAddress
 
   -- it prints the bytes as they stand in memory
   unfoldable pub memoryEffect : List ℕ → List ℕ → Effect
   memoryEffect s m =
-      ifRight (endsLine line memoryCount)
-      (effect s m (pairsLine (take (memoryCount .value) (drop (memoryAddress .value) (slot (memoryP .value) memoryBytes m))))) s m
+      ifRight (endsWithin line memoryCount (memoryAddress .value + memoryCount .value) (extentAt (stateOf s) (memoryP .value)))
+      (effect s m (pairsLine (slot (startOf (stateOf s) (memoryP .value) + memoryAddress .value) (memoryCount .value) m))) s m
 
--- process P: it prints the record of the process
+-- no more bytes of the one memory are shown at once
+abbrev pub longestWhole : ℕ
+longestWhole = 256
+
+-- whole ADDRESS COUNT: no byte after the last of the one memory
+module _ (line : List ℕ) where
+  -- the index of the first byte
+  abbrev pub wholeAddress : Number
+  wholeAddress = behind capacity line (begun 5)
+
+  -- how many bytes
+  abbrev pub wholeCount : Number
+  wholeCount = behind longestWhole line wholeAddress
+
+  -- it prints the bytes as they stand in memory, whosever they are
+  unfoldable pub wholeMemoryEffect : List ℕ → List ℕ → Effect
+  wholeMemoryEffect s m =
+      ifRight (endsWithin line wholeCount (wholeAddress .value + wholeCount .value) capacity)
+      (effect s m (pairsLine (slot (wholeAddress .value) (wholeCount .value) m))) s m
+
+-- process P: it prints the record of the process, and where its bytes begin
 module _ (line : List ℕ) where
   -- the process
   abbrev pub shownP : Number
   shownP = behind 7 line (begun 7)
 
-  -- the record as the bytes of the state have it
+  -- both as the bytes of the state have them
   unfoldable pub processEffect : List ℕ → List ℕ → Effect
-  processEffect s m = ifRight (endsLine line shownP) (effect s m (processLine (processAt (stateOf s) (shownP .value)))) s m
+  processEffect s m =
+      ifRight (endsLine line shownP)
+      (effect s m (processLine (processAt (stateOf s) (shownP .value)) (startOf (stateOf s) (shownP .value)))) s m

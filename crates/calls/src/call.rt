@@ -6,6 +6,7 @@ use crate::STATE;
 use crate::listing::Listing;
 use crate::number::read_report;
 use crate::show::answer_unknown;
+use crate::show::ends_within;
 use crate::show::place;
 use decimal::Number;
 use decimal::put_number;
@@ -19,12 +20,13 @@ use lines::Phase;
 use lines::Scan;
 use lines::at_most;
 use lines::put;
+use state_bytes::read_extent_at;
 ghost use mathlib.Core.Path.{_≡_};
 ghost use Prim.Native.Nat.{_+_, _*_, _≤_, _<_};
-ghost use lib.ListN.{length, replicate};
+ghost use lib.ListN.{length, set, replicate};
 ghost use Rattle.lines.specs.declared.scan.Phase.the-variants.{Open};
 ghost use Rattle.lines.specs.Scan.{bytesOf};
-ghost use Rattle.calls.specs.Effect.{longestText, memorySize, Prints, Does};
+ghost use Rattle.calls.specs.Effect.{longestText, Prints, Does};
 ghost use Rattle.calls.specs.Meaning.{zeroBuffer, requestMade, requestEffect, reportMade, reportEffect, numberLine, startMade, startEffect, storeEffect};
 
 // The buffer that is lent to a call.
@@ -174,19 +176,28 @@ pub fn answer_start(
     make_start(state, memory, there, sizes, out)
 }
 
+// Stores a byte at an index, if memory reaches so far.
+fn store(memory: &mut [u8], at: usize, byte: u8)
+    ensures { λ _. ⌜ now (memory .exit) ≡ set (now (memory .entry)) at byte ⌝ }
+{
+    if at < memory.len() {
+        memory[at] = byte;
+    }
+}
+
 // store P ADDRESS BYTE
-pub fn answer_store(state: &[u8], memory: &mut [u8], line: &[u8], out: &mut [u8]) -> usize
-    requires { ⌜ length (now memory) ≡ memorySize ⌝ }
+pub fn answer_store(state: &[u8; STATE], memory: &mut [u8], line: &[u8], out: &mut [u8]) -> usize
     requires { ⌜ longestText ≤ length (now out) ⌝ }
     ensures { λ r. ⌜ Does (storeEffect (now (line .entry)) (now (state .entry)) (now (memory .entry))) r (now (state .entry)) (now (memory .exit)) (now (out .entry)) (now (out .exit)) ⌝ }
 {
     let process = Number::start(5).then(line, 7);
     let address = process.then(line, 4095);
     let byte = address.then(line, 255);
-    if !byte.ends(line) {
+    let size = read_extent_at(state, process.value) as usize;
+    if !ends_within(byte, line, address.value + 1, size) {
         return answer_unknown(state, memory, out);
     }
-    let at = place(process.value, address.value);
-    memory[at] = byte.value as u8;
+    let at = place(state, process.value, address.value);
+    store(memory, at, byte.value as u8);
     put(b"ok\n", 0, out)
 }

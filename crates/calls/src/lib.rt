@@ -13,6 +13,7 @@ use format::MESSAGE_BYTES;
 pub use show::answer_memory;
 pub use show::answer_process;
 pub use show::answer_unknown;
+pub use show::answer_whole;
 use state::CAPACITY;
 use state_bytes::STATE_BYTES;
 

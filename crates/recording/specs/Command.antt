@@ -5,7 +5,7 @@ use Prim.Native.Nat.{ℕ}
 use lib.ListN.{length}
 use lib.Dec.{eqb, ltb}
 use Rattle.recording.specs.declared.command.Command.{Command}
-use Rattle.recording.specs.declared.command.Command.the-variants.{Start, Request, Report, Store, Memory, Process, Unknown}
+use Rattle.recording.specs.declared.command.Command.the-variants.{Start, Request, Report, Store, Memory, Whole, Process, Unknown}
 
 -- a line begins with this text
 unfoldable pub begins : List ℕ → List ℕ → Bool
@@ -33,6 +33,10 @@ storeWord = 115 ∷ 116 ∷ 111 ∷ 114 ∷ 101 ∷ []
 abbrev pub memoryWord : List ℕ
 memoryWord = 109 ∷ 101 ∷ 109 ∷ 111 ∷ 114 ∷ 121 ∷ []
 
+-- `whole`
+abbrev pub wholeWord : List ℕ
+wholeWord = 119 ∷ 104 ∷ 111 ∷ 108 ∷ 101 ∷ []
+
 -- `process`
 abbrev pub processWord : List ℕ
 processWord = 112 ∷ 114 ∷ 111 ∷ 99 ∷ 101 ∷ 115 ∷ 115 ∷ []
@@ -48,7 +52,8 @@ shortCommand line =
     (cond (begins reportWord line) Report
     (cond (begins storeWord line) Store
     (cond (begins memoryWord line) Memory
-    (cond (begins processWord line) Process Unknown))))
+    (cond (begins wholeWord line) Whole
+    (cond (begins processWord line) Process Unknown)))))
 
 -- which call a line is: a request may be of any length
 unfoldable pub commandOf : List ℕ → Command

@@ -9,9 +9,9 @@ use Rattle.lines.specs.declared.scan.Phase.{Phase}
 use Rattle.lines.specs.declared.scan.Phase.the-variants.{Open}
 use Rattle.lines.specs.Scan.{after, bytesOf}
 use Rattle.calls.specs.Effect.{Effect}
-use Rattle.calls.specs.Meaning.{unknownEffect, requestEffect, reportEffect, startEffect, storeEffect, memoryEffect, processEffect}
+use Rattle.calls.specs.Meaning.{unknownEffect, requestEffect, reportEffect, startEffect, storeEffect, memoryEffect, wholeMemoryEffect, processEffect}
 use Rattle.recording.specs.declared.command.Command.{Command}
-use Rattle.recording.specs.declared.command.Command.the-variants.{Start, Request, Report, Store, Memory, Process, Unknown}
+use Rattle.recording.specs.declared.command.Command.the-variants.{Start, Request, Report, Store, Memory, Whole, Process, Unknown}
 use Rattle.recording.specs.declared.language.Language.{Language}
 use Rattle.recording.specs.declared.language.Language.the-variants.{Bench, Recording}
 use Rattle.recording.specs.Command.{commandOf}
@@ -39,6 +39,7 @@ module _ (phase : Phase) (line s m : List ℕ) where
   commandEffect Report = reportEffect line s m
   commandEffect Store = storeEffect line s m
   commandEffect Memory = memoryEffect line s m
+  commandEffect Whole = wholeMemoryEffect line s m
   commandEffect Process = processEffect line s m
   commandEffect Unknown = unknownEffect s m
 

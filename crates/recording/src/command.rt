@@ -10,6 +10,7 @@ pub enum Command {
     Report,
     Store,
     Memory,
+    Whole,
     Process,
     Unknown,
 }
@@ -46,6 +47,9 @@ fn short_command(line: &[u8]) -> Command
     }
     if begins(line, b"memory") {
         return Command::Memory;
+    }
+    if begins(line, b"whole") {
+        return Command::Whole;
     }
     if begins(line, b"process") {
         return Command::Process;

@@ -11,6 +11,7 @@ use calls::answer_request;
 use calls::answer_start;
 use calls::answer_store;
 use calls::answer_unknown;
+use calls::answer_whole;
 use lines::Phase;
 use lines::at_most;
 ghost use Prim.Native.Nat.{_≤_};
@@ -37,6 +38,7 @@ fn answer_command(
         Command::Report => answer_report(state, memory, line, out),
         Command::Store => answer_store(state, memory, line, out),
         Command::Memory => answer_memory(state, memory, line, out),
+        Command::Whole => answer_whole(state, memory, line, out),
         Command::Process => answer_process(state, memory, line, out),
         Command::Unknown => answer_unknown(state, memory, out),
     }

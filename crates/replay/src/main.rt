@@ -1,4 +1,5 @@
-// The replay program. Its stored test is the handover: the seller debugs the vents, and the installer after him.
+// The replay program. Its stored test is the handover: the seller debugs the vents, and the installer after him; then, among others, how
+// processes lie in the one memory and move in it.
 fn main() {
     console::replay();
 }

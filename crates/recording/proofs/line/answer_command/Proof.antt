@@ -53,11 +53,17 @@ answer-memory-requires c κs = search needs
 enum-told-6 : tie.Need-enum-told-6
 enum-told-6 c = search needs
 
-answer-process-requires : tie.Need-answer-process-requires
-answer-process-requires c κs = search needs
+answer-whole-requires : tie.Need-answer-whole-requires
+answer-whole-requires c κs = search needs
 
 enum-told-7 : tie.Need-enum-told-7
 enum-told-7 c = search needs
+
+answer-process-requires : tie.Need-answer-process-requires
+answer-process-requires c κs = search needs
+
+enum-told-8 : tie.Need-enum-told-8
+enum-told-8 c = search needs
 
 answer-unknown-requires : tie.Need-answer-unknown-requires
 answer-unknown-requires c κs = search needs
@@ -90,28 +96,35 @@ same-length-4 c = search needs
 
 returns-4 : tie.Need-returns-4
 unfolding commandEffect
-returns-4 c = rw (c .before .before .before .before .before .before .before .enum-told4 .given .1) (c .before .before .answer-store .ensures)
+returns-4 c = rw (c .before .before .before .before .before .before .enum-told4 .given .1) (c .before .before .answer-store .ensures)
 
 same-length-5 : tie.Need-same-length-5
 same-length-5 c = search needs
 
 returns-5 : tie.Need-returns-5
 unfolding commandEffect
-returns-5 c = rw (c .before .before .before .before .before .before .before .before .enum-told5 .given .1) (c .before .before .answer-memory .ensures)
+returns-5 c = rw (c .before .before .before .before .before .before .before .enum-told5 .given .1) (c .before .before .answer-memory .ensures)
 
 same-length-6 : tie.Need-same-length-6
 same-length-6 c = search needs
 
 returns-6 : tie.Need-returns-6
 unfolding commandEffect
-returns-6 c = rw (c .before .before .before .before .before .before .before .enum-told6 .given .1) (c .before .before .answer-process .ensures)
+returns-6 c = rw (c .before .before .before .before .before .before .before .before .enum-told6 .given .1) (c .before .before .answer-whole .ensures)
 
 same-length-7 : tie.Need-same-length-7
 same-length-7 c = search needs
 
 returns-7 : tie.Need-returns-7
 unfolding commandEffect
-returns-7 c = rw (c .before .before .before .before .before .before .before .before .enum-told7 .given .1) (c .before .before .answer-unknown .ensures)
+returns-7 c = rw (c .before .before .before .before .before .before .before .enum-told7 .given .1) (c .before .before .answer-process .ensures)
+
+same-length-8 : tie.Need-same-length-8
+same-length-8 c = search needs
+
+returns-8 : tie.Need-returns-8
+unfolding commandEffect
+returns-8 c = rw (c .before .before .before .before .before .before .before .before .enum-told8 .given .1) (c .before .before .answer-unknown .ensures)
 
 pub answer-command-spec : {M : Type 1} → statement M
 answer-command-spec =
@@ -132,8 +145,10 @@ answer-command-spec =
     enum-told-5
     answer-memory-requires
     enum-told-6
-    answer-process-requires
+    answer-whole-requires
     enum-told-7
+    answer-process-requires
+    enum-told-8
     answer-unknown-requires
     same-length
     returns
@@ -148,4 +163,6 @@ answer-command-spec =
     same-length-6
     returns-6
     same-length-7
-    returns-7)
+    returns-7
+    same-length-8
+    returns-8)
