@@ -3,7 +3,7 @@
 #include "firmware.h"
 #include <string.h>
 
-enum { HALT = 000000, BPT = 000003 };
+enum { HALT = 0000000, BPT = 0000003, NO_WORD = 0200000 };
 
 uint8_t state[PALUSTRODE_STATE_BYTES];
 uint8_t memory[PALUSTRODE_MEMORY_BYTES];
@@ -37,30 +37,32 @@ int64_t firmware_request(const uint8_t *message, size_t length, uint8_t *reply) 
     return result;
 }
 
-/* Which report a trap becomes. BPT and the T bit share a vector: it was BPT if the T bit was not set or the one instruction was a BPT. HALT in
- * user mode is a reserved instruction. */
-static unsigned kind_of(unsigned vector, int one, int at_bpt, int at_halt) {
-    if (vector == VECTOR_BPT) return !one || at_bpt ? PALUSTRODE_KIND_BPT : PALUSTRODE_KIND_TTRAP;
-    return vector == VECTOR_RESERVED && at_halt ? PALUSTRODE_KIND_HALT : PALUSTRODE_KIND_TRAP;
+/* The word that the process has at an address; outside of it no word. */
+static unsigned word_at(const uint8_t *bytes, size_t size, uint16_t address) {
+    return address + 1u < size ? get_word(bytes + address) : NO_WORD;
 }
 
-/* Whether the process has this word at the address. */
-static int holds(const uint8_t *bytes, size_t size, uint16_t address, unsigned word) {
-    return address + 1u < size && get_word(bytes + address) == word;
+/* Which report a trap becomes, `one` being whether the T bit was set. BPT and the T bit have one vector, and HALT in user mode is a reserved
+ * instruction: the instruction that was executed tells them apart. A T bit that a process sets by itself is a TRAP. */
+static unsigned kind_of(unsigned vector, unsigned executed, int one) {
+    if (vector == VECTOR_BPT && executed == BPT) return PALUSTRODE_KIND_BPT;
+    if (vector == VECTOR_BPT && one) return PALUSTRODE_KIND_TTRAP;
+    return vector == VECTOR_RESERVED && executed == HALT ? PALUSTRODE_KIND_HALT : PALUSTRODE_KIND_TRAP;
 }
 
 /* Puts the process on the core, with the T bit set if it is to execute one instruction, until it traps or its time is up. Of PS the process and
  * the desk have the condition codes alone: mode, priority and the T bit are the firmware's. In a BPT report PC is stepped back to the BPT. */
 static void execute(uint8_t *bytes, size_t size, uint8_t *words, int one, struct slice *slice) {
-    int at_bpt = holds(bytes, size, get_word(words + CORE_PC), BPT);
+    unsigned first = word_at(bytes, size, get_word(words + CORE_PC));
     put_word(words + CORE_PS, PS_USER | (get_word(words + CORE_PS) & PS_CODES) | (one ? PS_T : 0));
     unsigned vector = core_run(bytes, size, words);
     put_word(words + CORE_PS, get_word(words + CORE_PS) & PS_CODES);
-    uint16_t pc = get_word(words + CORE_PC);
     slice->reported = vector != TIME_UP;
-    slice->kind = kind_of(vector, one, at_bpt, holds(bytes, size, (uint16_t)(pc - 2), HALT));
+    if (!slice->reported) return;
+    uint16_t before = (uint16_t)(get_word(words + CORE_PC) - 2);
+    slice->kind = kind_of(vector, one ? first : word_at(bytes, size, before), one);
     slice->reason = slice->kind == PALUSTRODE_KIND_TRAP ? vector : 0;
-    if (slice->reported && slice->kind == PALUSTRODE_KIND_BPT) put_word(words + CORE_PC, (uint16_t)(pc - 2));
+    if (slice->kind == PALUSTRODE_KIND_BPT) put_word(words + CORE_PC, before);
 }
 
 /* Run state, place and size are read anew, since any request may have changed them. A trap is reported at once. */
