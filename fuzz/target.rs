@@ -22,6 +22,8 @@
 mod layout;
 #[path = "../model/compare/library.rs"]
 mod library;
+#[path = "../model/compare/passing.rs"]
+mod passing;
 #[path = "../model/compare/sides.rs"]
 mod sides;
 #[allow(dead_code)] // how deep it is gone is not asked here
@@ -55,7 +57,8 @@ fn compare(call: &Call, pair: &mut Pair) {
 /// After the calls come CREATE and DESTROY once more, in the layout that they find.
 const CALLS: usize = 25;
 const ANSWERS: usize = 17;
-const CONDITIONS: usize = 2 * 9;
+/// Six run states with three conditions of breakpoints each; and as many of a layout, 2 * 9.
+const CONDITIONS: usize = 6 * 3;
 
 #[link_section = "__libfuzzer_extra_counters"]
 static mut SEEN: [u8; CALLS * ANSWERS * CONDITIONS] = [0; CALLS * ANSWERS * CONDITIONS];
@@ -67,7 +70,7 @@ fn condition(state: &[u8], p: u8) -> usize {
     let entries = || record[ENTRIES_AT..].chunks_exact(ENTRY_BYTES).filter(|e| e[0] == 1);
     let lifted = entries().any(|e| e[1] == 1);
     let breaks = if lifted { 2 } else { usize::from(entries().next().is_some()) };
-    usize::from(record[2]).min(4) * 3 + breaks
+    usize::from(record[2]).min(5) * 3 + breaks
 }
 
 /// The condition of the process that a call names.
