@@ -189,7 +189,7 @@ module _ (p : ℕ) (low : p < 8) (host a : ℕ) where
     where
       go : {t : State} {k : List Call} {fs : List TraceItem} → Ready t → B (recordOf t p) → Among p t k fs
           → Each (CallOf host p a) (v ∷ vs) fs → Each (AnswerOf host p) (v ∷ vs) fs
-      go r b none q = absurd q
+      go r b none q = tt
       go r b (other same x) q = go (step-ready _ r _) (subst B (sym same) b) x q
       go r b (event x) q = let done = turns _ r b _ (q .0) in (done .0, rest _ (step-ready _ r _) (done .1) _ _ x (q .1))
 

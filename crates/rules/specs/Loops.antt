@@ -110,11 +110,10 @@ AnswerOf host p proceeds e = ProceedGranted host p e
 
 -- ---- lists
 
--- the events are these, one after another
+-- so it is of each event, one after another, as far as the list goes
 unfoldable pub Each : (Event → TraceItem → Type 0) → List Event → List TraceItem → Type 0
-Each R [] [] = Unit {0}
+Each R vs [] = Unit {0}
 Each R [] (e ∷ es) = ⊥
-Each R (v ∷ vs) [] = ⊥
 Each R (v ∷ vs) (e ∷ es) = R v e × Each R vs es
 
 -- these stand among the calls of a list; each of the others leaves the record of process p as it is, whatever it does to memory
