@@ -109,7 +109,7 @@ pub public-replanted : (l : Local) → public (replanted l .process) ≡ public 
 unfolding replanted plantedIn public
 public-replanted l = by-public (ltb (find Lifted (l .process)) 8) _ l _ refl refl
 
-public-liftedAt : (at : ℕ) (l : Local) → public (liftedAt at l .process) ≡ public (l .process)
+pub public-liftedAt : (at : ℕ) (l : Local) → public (liftedAt at l .process) ≡ public (l .process)
 unfolding liftedAt liftedIn public
 public-liftedAt at l = by-public (ltb (find (At at) (l .process)) 8) _ l _ refl refl
 
