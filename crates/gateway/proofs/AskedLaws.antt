@@ -182,10 +182,6 @@ module _ (h : Header) (string buffer : List ℕ) (s : State) where
   unfolding cantBy asked refused askedTests firstFailing
   asked-beyond g = rw (g .0, le-ltb (h .pid) 8 (g .1))
 
-  pub asked-absent : (p : ℕ) → Goes h (Named p) → recordOf s p .there ≡ false → asked h string buffer s ≡ unmoved (cantBy 7 h buffer) s
-  unfolding cantBy asked refused askedTests firstFailing
-  asked-absent p g absent = rw (g .0, ← g .1, lt-ltb p 8 (g .2), absent)
-
   module _ (g : Goes h New) where
     pub asked-new : (p : ℕ) → p ≡ lowestAbsent (s .records) → p < 8 → sizeAsked h ≤ freeBytes (s .records) → asked h string buffer s ≡ stepped p (createdAt p h buffer) s
     unfolding createdAt asked granted grantedCreate askedTests firstFailing

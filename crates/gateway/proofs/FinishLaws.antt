@@ -89,7 +89,7 @@ module _ (state memory : List ℕ) (bytes : Bytes state) (formed : stateFormed s
         rw (← inverse .put-is-with state bytes formed p q low) (finished-put (putInPlace p (local q part) s) (put-stays p (local q part) s stays))
 
     -- it goes
-    pub finished-gone : recordOf s p .there ≡ true → q .there ≡ false → isGranted o ≡ true
+    finished-gone : recordOf s p .there ≡ true → q .there ≡ false → isGranted o ≡ true
         → called o (stateBytes (takenOut p (local q []) s .records)) (takenOut p (local q []) s .memory) buffer ≡ finished state y
     unfolding takenOut
     finished-gone there absent granted =
@@ -109,3 +109,19 @@ module _ (state memory : List ℕ) (bytes : Bytes state) (formed : stateFormed s
         let still : stepped p x s ≡ unmoved (x .answer) s = rw (l, put-same p s) in
         rw (same, withSlot-slot (startOf (stateOf state) p) (extentAt (stateOf state) p) memory)
         (finished-unmoved o buffer (x .answer) (ap (λ (z : ProcessResult). z .answer) e) y (i ∙ still))
+
+    -- it goes where the call is granted, from a memory that holds these bytes of it, and is left as it was where it is refused
+    pub finished-removed : (back : List ℕ) → back ≡ withSlot (startOf (stateOf state) p) part memory
+        → (isGranted o ≡ true → (recordOf s p .there ≡ true) × (q .there ≡ false) × (takenOut p (local q []) (lent (stateOf state) back) ≡ takenOut p (local q []) s))
+        → (isGranted o ≡ false → x .left ≡ localOf s p)
+        → called o (cond (isGranted o) (stateBytes (takenOut p (local q []) (lent (stateOf state) back) .records)) state)
+        (cond (isGranted o) (takenOut p (local q []) (lent (stateOf state) back) .memory) back) buffer
+        ≡ finished state y
+    finished-removed back is gone stays = go (isGranted o) refl
+      where
+        go : (t : Bool) → isGranted o ≡ t
+            → called o (cond t (stateBytes (takenOut p (local q []) (lent (stateOf state) back) .records)) state)
+            (cond t (takenOut p (local q []) (lent (stateOf state) back) .memory) back) buffer
+            ≡ finished state y
+        go true g = rw (gone g .2) (finished-gone (gone g .0) (gone g .1) g)
+        go false g = rw is (finished-kept (stays g))

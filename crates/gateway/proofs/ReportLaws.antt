@@ -65,10 +65,6 @@ module _ (s : State) (p kind reason : ℕ) (words buffer : List ℕ) where
       unfolding reportAway
       report-low = ltb-true p 8 (not-false _ (first-passes 6 _ _ (rest-passes 13 _ _ near)))
 
-      pub report-absent : recordOf s p .there ≡ false → reportStep p kind reason words buffer s ≡ answers (Refused 7) buffer s
-      unfolding reportNumberAt firstFailing
-      report-absent absent = refused-by 7 (stages ∙ rw (fit, near, absent)) (λ z. omega (arith, z))
-
       by-number : (k : ℕ) → reportNumberAt kind (recordOf s p) ≡ k
           → reportStep p kind reason words buffer s ≡ record { answer = reportBy k p kind reason words buffer (localOf s p) .answer; after = put p (reportBy k p kind reason words buffer (localOf s p) .left) s }
       unfolding reportStep notified reportBy

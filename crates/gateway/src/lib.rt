@@ -6,6 +6,7 @@ mod gone;
 mod kept;
 mod lengths;
 mod lent;
+mod part;
 mod reports;
 mod requests;
 pub mod theorems;

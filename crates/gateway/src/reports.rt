@@ -1,11 +1,11 @@
 // A machine report, with the buffer for its notice.
 use crate::kept::keep;
 use crate::lent::check_buffers_and_state;
+use crate::part::start_of;
 use format::Outcome;
 use service::check_report;
 use service::report_for_process;
 use state_bytes::read_process_at;
-use state_bytes::read_start;
 ghost use mathlib.Core.Path.{_≡_};
 ghost use Rattle.rules.specs.Tests.{lent};
 ghost use Rattle.rules.specs.Step.{report, reportStep};
@@ -13,7 +13,7 @@ ghost use Rattle.service.specs.At.{reportAway};
 ghost use Rattle.state_bytes.specs.State.{stateOf};
 ghost use Rattle.gateway.specs.Called.{called, lentOn, finished, Did};
 
-// A report about a process with a number under 8. The start of an absent one is not looked at.
+// A report about a process with a number under 8.
 fn report_known(
     state: &mut [u8],
     memory: &mut [u8],
@@ -29,10 +29,7 @@ fn report_known(
 {
     let index = pid as usize;
     let process = read_process_at(state, index);
-    if !process.there {
-        return Outcome::Refused(7);
-    }
-    let start = read_start(state, index) as usize;
+    let start = start_of(process.there, index, state);
     let end = start + process.extent();
     let served = report_for_process(
         pid,

@@ -1,12 +1,14 @@
 // A request: any message, with the buffer for its reply.
-use crate::gone::take_out;
+use crate::gone::remove;
 use crate::kept::keep;
 use crate::lent::check_buffers_and_state;
+use crate::part::start_of;
 use format::Header;
 use format::Outcome;
 use format::string;
 use message::Incoming;
 use message::read_request;
+use ops::DESTROY;
 use ops::Form;
 use service::Target;
 use service::answer_create;
@@ -21,7 +23,6 @@ use state_bytes::lowest_absent;
 use state_bytes::put_process_at;
 use state_bytes::put_start;
 use state_bytes::read_process_at;
-use state_bytes::read_start;
 use state_bytes::used_bytes;
 ghost use mathlib.Core.Path.{_≡_};
 ghost use mathlib.Core.Bool.{true, false, not, _||_};
@@ -56,17 +57,14 @@ fn answer_named(
     ensures { λ r. ⌜ called r (now (state .exit)) (now (memory .exit)) (now (reply .exit)) ≡ finished (now (state .entry)) (asked h (now (string .entry)) (now (reply .entry)) (lent (stateOf (now (state .entry))) (now (memory .entry)))) ⌝ }
 {
     let process = read_process_at(state, pid);
-    if !process.there {
-        return refuse(h, 7, reply);
-    }
     let size = process.extent();
-    let start = read_start(state, pid) as usize;
+    let start = start_of(process.there, pid, state);
     let end = start + size;
     let served = answer_for_process(h, process, &mut memory[start..end], string, reply);
     let outcome = served.outcome;
     let next = served.process;
-    if !next.there {
-        take_out(next, pid, start, size, state, memory);
+    if h.cmd == DESTROY {
+        remove(outcome, next, pid, start, size, state, memory);
         return outcome;
     }
     if changes(h.cmd) {

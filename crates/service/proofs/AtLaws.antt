@@ -1,16 +1,23 @@
 -- A call at one process, by the number of its tests. Assumes nothing.
 use mathlib.Core.Path.{_≡_, refl, sym, ap, _∙_}
 use mathlib.Core.List.{List}
-use mathlib.Core.Bool.{true, false, true≢false}
-use Prim.Native.Nat.{ℕ, zero, suc}
-use borrow.Author.Tests.{eqb-true, not-false}
+use mathlib.Core.Bool.{Bool, true, false, not, cond, true≢false}
+use Prim.Native.Nat.{ℕ, zero, suc, _≤_}
+use native.Mathlib.Omega.{arith}
+use borrow.Author.Tests.{eqb-true, ne-eqb, ltb-true, ltb-false, not-false}
+use lib.ListN.{length, List·getD-eq-default}
+use lib.Dec.{eqb, ltb}
+use Rattle.ops.specs.Codes.{DEBUG, END-DEBUG, DESTROY}
 use Rattle.format.specs.declared.header.Header.{Header}
 use Rattle.format.specs.declared.outcome.Outcome.the-variants.{Refused}
 use Rattle.format.specs.Outcome.{firstFailing, isGranted}
+use Rattle.format.proofs.OutcomeLaws.{first-passes}
 use Rattle.process.specs.Local.{Local, local}
 use Rattle.process.specs.Record.{fresh}
-use Rattle.process.specs.Request.{created}
-use Rattle.rules.specs.Rule.{ruleOf}
+use Rattle.process.specs.Request.{created, cleared}
+use Rattle.rules.specs.Rule.{Public, public, rules, noRule, ruleOf}
+use Rattle.rules.specs.Isolation.{publicThen}
+use Rattle.rules.proofs.RuleLaws.{rule-row}
 use Rattle.checks.specs.Decision.{processTests}
 use Rattle.service.proofs.EffectLaws.{stays}
 use Rattle.service.specs.At.{leaving, answer, cantBy, changes, namedBy, namedAt, createdAt, reportBy}
@@ -26,18 +33,71 @@ pub unchanged : (h : Header) (string buffer : List ℕ) (l : Local) → changes 
 unfolding changes namedAt
 unchanged h string buffer l e = named-kept (firstFailing (processTests h (l .process))) h string buffer l (eqb-true (h .cmd) 6 (not-false _ e))
 
--- ---- a process that was there and is gone was destroyed by a request that was granted
+-- ---- what a request leaves of its process, by its outcome and its op code
 
-gone-by : (n : ℕ) (h : Header) (string buffer : List ℕ) (l : Local) → l .process .there ≡ true → namedBy n h string buffer l .left .process .there ≡ false
-    → isGranted (namedBy n h string buffer l .answer .outcome) ≡ true
-unfolding namedBy isGranted
-gone-by zero h string buffer l there gone = refl
-gone-by (suc n) h string buffer l there gone = absurd (true≢false (sym there ∙ gone))
+-- a granted one found it there
+there-by : (n : ℕ) (h : Header) (string buffer : List ℕ) (l : Local) → firstFailing (processTests h (l .process)) ≡ n
+    → isGranted (namedBy n h string buffer l .answer .outcome) ≡ true → l .process .there ≡ true
+unfolding namedBy cantBy isGranted
+there-by zero h string buffer l e g = not-false _ (first-passes 6 (not (l .process .there)) _ e)
+there-by (suc n) h string buffer l e g = absurd (true≢false (sym g))
 
-pub gone-granted : (h : Header) (string buffer : List ℕ) (l : Local) → l .process .there ≡ true → namedAt h string buffer l .left .process .there ≡ false
-    → isGranted (namedAt h string buffer l .answer .outcome) ≡ true
+pub granted-there : (h : Header) (string buffer : List ℕ) (l : Local) → isGranted (namedAt h string buffer l .answer .outcome) ≡ true
+    → l .process .there ≡ true
 unfolding namedAt
-gone-granted h string buffer l = gone-by (firstFailing (processTests h (l .process))) h string buffer l
+granted-there h string buffer l = there-by (firstFailing (processTests h (l .process))) h string buffer l refl
+
+-- a refused one leaves it
+left-by : (n : ℕ) (h : Header) (string buffer : List ℕ) (l : Local) → isGranted (namedBy n h string buffer l .answer .outcome) ≡ false
+    → namedBy n h string buffer l .left ≡ l
+unfolding namedBy isGranted
+left-by zero h string buffer l g = absurd (true≢false g)
+left-by (suc n) h string buffer l g = refl
+
+pub refused-left : (h : Header) (string buffer : List ℕ) (l : Local) → isGranted (namedAt h string buffer l .answer .outcome) ≡ false
+    → namedAt h string buffer l .left ≡ l
+unfolding namedAt
+refused-left h string buffer l = left-by (firstFailing (processTests h (l .process))) h string buffer l
+
+-- after a granted DESTROY it is absent
+gone-by : (n : ℕ) (h : Header) (string buffer : List ℕ) (l : Local) → h .cmd ≡ DESTROY
+    → isGranted (namedBy n h string buffer l .answer .outcome) ≡ true → namedBy n h string buffer l .left .process .there ≡ false
+unfolding namedBy cantBy isGranted ruleOf cleared fresh
+gone-by zero h string buffer l e g = rw e
+gone-by (suc n) h string buffer l e g = absurd (true≢false (sym g))
+
+pub destroyed-gone : (h : Header) (string buffer : List ℕ) (l : Local) → h .cmd ≡ DESTROY
+    → isGranted (namedAt h string buffer l .answer .outcome) ≡ true → namedAt h string buffer l .left .process .there ≡ false
+unfolding namedAt
+destroyed-gone h string buffer l = gone-by (firstFailing (processTests h (l .process))) h string buffer l
+
+-- and after any other request it is there, or absent, as it was
+rule-stays : (cmd : ℕ) → (cmd ≡ DESTROY → ⊥) → (h : Header) (string : List ℕ) (l : Local) → ruleOf cmd .effect h string l .process .there ≡ l .process .there
+unfolding ruleOf public publicThen
+rule-stays cmd other h string l = go (ltb cmd 14) refl
+  where
+    shown : (a b : Bool) (u : Public)
+        → cond a (record { there = u .there; host = h .host; size = u .size }) (cond b (record { there = u .there; host = 0; size = u .size }) u) .there ≡ u .there
+    shown true b u = refl
+    shown false true u = refl
+    shown false false u = refl
+
+    go : (t : Bool) → ltb cmd 14 ≡ t → ruleOf cmd .effect h string l .process .there ≡ l .process .there
+    go true e =
+        ap (λ (u : Public). u .there) (rule-row cmd (omega (arith, ltb-true cmd 14 e)) .publicly h string l)
+        ∙ rw (ne-eqb cmd DESTROY other) (shown (eqb cmd DEBUG) (eqb cmd END-DEBUG) (public (l .process)))
+    go false e = let past : length rules ≤ cmd = omega (arith, ltb-false cmd 14 e) in rw (List·getD-eq-default rules noRule past)
+
+stays-by : (n : ℕ) (h : Header) (string buffer : List ℕ) (l : Local) → (h .cmd ≡ DESTROY → ⊥)
+    → namedBy n h string buffer l .left .process .there ≡ l .process .there
+unfolding namedBy
+stays-by zero h string buffer l other = rule-stays (h .cmd) other h string l
+stays-by (suc n) h string buffer l other = refl
+
+pub others-stay : (h : Header) (string buffer : List ℕ) (l : Local) → (h .cmd ≡ DESTROY → ⊥)
+    → namedAt h string buffer l .left .process .there ≡ l .process .there
+unfolding namedAt
+others-stay h string buffer l = stays-by (firstFailing (processTests h (l .process))) h string buffer l
 
 -- ---- a new process is there, and its CREATE is granted
 

@@ -1,17 +1,15 @@
 -- `gateway::reports::report_known` meets its contract: that of the report at its process, in the part of memory and the bytes of the state that
 -- are the process's. Assumes nothing.
-use mathlib.Core.Path.{ap, sym, _∙_}
+use mathlib.Core.Path.{_≡_, ap, _∙_}
 use native.Mathlib.Omega.{arith}
-use borrow.Author.Tests.{not-true, not-false}
 use Rattle.lists.specs.Buffer.{Bytes}
-use Rattle.process.specs.declared.record.Process.{Process}
 use Rattle.rules.specs.Tests.{lent}
 use Rattle.rules.specs.Step.{localOf}
 use Rattle.state_bytes.specs.State.{stateOf}
 use Rattle.service.specs.At.{ProcessResult}
-use Rattle.gateway.proofs.PartLaws.{slot-back, local-part, part-inside, tested-part}
-use Rattle.gateway.proofs.ReportLaws.{report-stays, report-low, report-absent, report-heard}
-use Rattle.gateway.proofs.LentLaws.{lent-formed, lent-passes, lent-fits, lent-long, lent-ready, finished-refused}
+use Rattle.gateway.proofs.PartLaws.{part-inside, part-back, local-part, tested-part}
+use Rattle.gateway.proofs.ReportLaws.{report-stays, report-low, report-heard}
+use Rattle.gateway.proofs.LentLaws.{lent-formed, lent-passes, lent-fits, lent-long, lent-ready}
 use Rattle.gateway.proofs.FinishLaws.{finished-served}
 use borrow.Author.Needs.{needs}
 use Rattle.gateway.proofs.reports.report_known.Statement.{statement}
@@ -26,46 +24,30 @@ read-process-at-requires c κs =
     let low = report-low st (a .pid) (a .kind) (a .reason) (a .words) (a .notice .now) passes (s .pre .1) in
     (low, omega (arith, lent-long (a .state .now) (a .memory .now) (a .notice .now) (s .pre .0)))
 
-same-length : tie.Need-same-length
-same-length c = search needs
-
-returns : tie.Need-returns
-returns c =
-    let q = c .before .before .read-process-at in
-    let s = c .before .before .before .before .before .before .before in
-    let a = s .args in
-    let st = lent (stateOf (a .state .now)) (a .memory .now) in
-    let passes = lent-passes (a .state .now) (a .memory .now) (a .notice .now) (s .pre .0) in
-    let absent = ap (λ (x : Process). x .there) (sym (q .ensures)) ∙ not-true (q .result .there) (c .if1 .taken) in
-    rw (report-absent st (a .pid) (a .kind) (a .reason) (a .words) (a .notice .now) passes (s .pre .1) absent) (sym (finished-refused (a .state .now) (a .memory .now) (a .notice .now) 7))
-
-read-start-requires : tie.Need-read-start-requires
-read-start-requires c κs =
-    let s = c .before .before .before .before .before .before .before .before in
+start-of-requires : tie.Need-start-of-requires
+start-of-requires c κs =
+    let s = c .before .before .before .before .before .before in
     let a = s .args in
     let st = lent (stateOf (a .state .now)) (a .memory .now) in
     let passes = lent-passes (a .state .now) (a .memory .now) (a .notice .now) (s .pre .0) in
     let low = report-low st (a .pid) (a .kind) (a .reason) (a .words) (a .notice .now) passes (s .pre .1) in
     (low, omega (arith, lent-long (a .state .now) (a .memory .now) (a .notice .now) (s .pre .0)))
 
-cast-start : tie.Need-cast-start
-cast-start c = search needs
-
 extent-requires : tie.Need-extent-requires
 extent-requires c κs = search needs
 
 add-end : tie.Need-add-end
 add-end c =
-    let t = c .before .read-start in
+    let t = c .before .start-of in
     let x = c .extent in
-    let q = c .before .before .before .before .before .read-process-at in
-    let s = c .before .before .before .before .before .before .before .before .before .before in
+    let q = c .before .before .before .read-process-at in
+    let s = c .before .before .before .before .before .before .before .before in
     let a = s .args in
     let st = lent (stateOf (a .state .now)) (a .memory .now) in
     let passes = lent-passes (a .state .now) (a .memory .now) (a .notice .now) (s .pre .0) in
     let low = report-low st (a .pid) (a .kind) (a .reason) (a .words) (a .notice .now) passes (s .pre .1) in
     let ready = lent-ready (a .state .now) (a .memory .now) (a .notice .now) (s .pre .0) in
-    omega (arith, ready .memory, part-inside st ready (a .pid) (t .result) (x .result) (q .result) low (t .ensures) (q .ensures) (x .ensures) (not-false (q .result .there) (c .before .before .before .if1 .left)))
+    omega (arith, ready .memory, part-inside st ready (a .pid) (t .result) (x .result) (q .result) low (t .ensures) (q .ensures) (x .ensures))
 
 sub-report-for-process : tie.Need-sub-report-for-process
 sub-report-for-process c = search needs
@@ -75,23 +57,23 @@ part-report-for-process-start c = search needs
 
 part-report-for-process-end : tie.Need-part-report-for-process-end
 part-report-for-process-end c =
-    let t = c .before .read-start in
+    let t = c .before .start-of in
     let x = c .extent in
-    let q = c .before .before .before .before .before .read-process-at in
-    let s = c .before .before .before .before .before .before .before .before .before .before in
+    let q = c .before .before .before .read-process-at in
+    let s = c .before .before .before .before .before .before .before .before in
     let a = s .args in
     let st = lent (stateOf (a .state .now)) (a .memory .now) in
     let passes = lent-passes (a .state .now) (a .memory .now) (a .notice .now) (s .pre .0) in
     let low = report-low st (a .pid) (a .kind) (a .reason) (a .words) (a .notice .now) passes (s .pre .1) in
     let ready = lent-ready (a .state .now) (a .memory .now) (a .notice .now) (s .pre .0) in
-    omega (arith, ready .memory, part-inside st ready (a .pid) (t .result) (x .result) (q .result) low (t .ensures) (q .ensures) (x .ensures) (not-false (q .result .there) (c .before .before .before .if1 .left)))
+    part-inside st ready (a .pid) (t .result) (x .result) (q .result) low (t .ensures) (q .ensures) (x .ensures)
 
 report-for-process-requires : tie.Need-report-for-process-requires
 report-for-process-requires c κs =
-    let t = c .before .before .before .read-start in
+    let t = c .before .before .before .start-of in
     let x = c .before .before .extent in
-    let q = c .before .before .before .before .before .before .before .read-process-at in
-    let s = c .before .before .before .before .before .before .before .before .before .before .before .before in
+    let q = c .before .before .before .before .before .read-process-at in
+    let s = c .before .before .before .before .before .before .before .before .before .before in
     let a = s .args in
     let st = lent (stateOf (a .state .now)) (a .memory .now) in
     let passes = lent-passes (a .state .now) (a .memory .now) (a .notice .now) (s .pre .0) in
@@ -101,12 +83,15 @@ report-for-process-requires c κs =
 
 keep-requires : tie.Need-keep-requires
 keep-requires c κs =
-    let s = c .before .before .before .before .before .before .before .before .before .before .before .before .before .before .before .before .before .before .before in
+    let s = c .before .before .before .before .before .before .before .before .before .before .before .before .before .before .before .before .before in
     let a = s .args in
     let st = lent (stateOf (a .state .now)) (a .memory .now) in
     let passes = lent-passes (a .state .now) (a .memory .now) (a .notice .now) (s .pre .0) in
     let low = report-low st (a .pid) (a .kind) (a .reason) (a .words) (a .notice .now) passes (s .pre .1) in
     (low, lent-long (a .state .now) (a .memory .now) (a .notice .now) (s .pre .0))
+
+same-length : tie.Need-same-length
+same-length c = search needs
 
 same-length-2 : tie.Need-same-length-2
 same-length-2 c = search needs
@@ -114,30 +99,25 @@ same-length-2 c = search needs
 same-length-3 : tie.Need-same-length-3
 same-length-3 c = search needs
 
-same-length-4 : tie.Need-same-length-4
-same-length-4 c = search needs
-
-returns-2 : tie.Need-returns-2
-returns-2 c =
+returns : tie.Need-returns
+returns c =
     let f = c .before .before .keep in
     let v = c .before .before .before .before .before .before .before .before .before .report-for-process in
-    let t = c .before .before .before .before .before .before .before .before .before .before .before .before .before .read-start in
+    let t = c .before .before .before .before .before .before .before .before .before .before .before .before .before .start-of in
     let x = c .before .before .before .before .before .before .before .before .before .before .before .before .extent in
-    let q = c .before .before .before .before .before .before .before .before .before .before .before .before .before .before .before .before .before .read-process-at in
-    let s = c .before .before .before .before .before .before .before .before .before .before .before .before .before .before .before .before .before .before .before .before .before .before in
+    let q = c .before .before .before .before .before .before .before .before .before .before .before .before .before .before .before .read-process-at in
+    let s = c .before .before .before .before .before .before .before .before .before .before .before .before .before .before .before .before .before .before .before .before in
     let a = s .args in
     let st = lent (stateOf (a .state .now)) (a .memory .now) in
     let passes = lent-passes (a .state .now) (a .memory .now) (a .notice .now) (s .pre .0) in
     let low = report-low st (a .pid) (a .kind) (a .reason) (a .words) (a .notice .now) passes (s .pre .1) in
     let ready = lent-ready (a .state .now) (a .memory .now) (a .notice .now) (s .pre .0) in
-    let bytes : Bytes (a .state .now) = λ i. omega (arith, c .before .before .before .before .before .before .before .before .before .before .before .before .before .before .before .before .before .before .before .before .before .slice-known .given i) in
+    let bytes : Bytes (a .state .now) = λ i. omega (arith, c .before .before .before .before .before .before .before .before .before .before .before .before .before .before .before .before .before .before .before .slice-known .given i) in
     let formed = lent-formed (a .state .now) (a .memory .now) (a .notice .now) (s .pre .0) in
-    let whole = local-part st ready (a .pid) (t .result) (x .result) (q .result) low (t .ensures) (q .ensures) (x .ensures) in
-    let fits = part-inside st ready (a .pid) (t .result) (x .result) (q .result) low (t .ensures) (q .ensures) (x .ensures) (not-false (q .result .there) (c .before .before .before .before .before .before .before .before .before .before .before .before .before .before .before .if1 .left)) in
-    let does = rw whole at (v .ensures) in
+    let does = rw (local-part st ready (a .pid) (t .result) (x .result) (q .result) low (t .ensures) (q .ensures) (x .ensures)) at (v .ensures) in
     let stays = ap (λ (z : ProcessResult). z .left .process .there) does ∙ report-stays (a .pid) (a .kind) (a .reason) (a .words) (a .notice .now) (localOf st (a .pid)) in
-    rw (f .ensures, slot-back (t .result) (x .result) (a .memory .now) fits (v .last .1 .1 .1 .1 .1 .0) (v .kept .1 .1 .1 .1 .1 .0), t .ensures)
+    rw (f .ensures, part-back st ready (a .pid) (t .result) (x .result) (q .result) low (t .ensures) (q .ensures) (x .ensures) (v .last .1 .1 .1 .1 .1 .0) (v .kept .1 .1 .1 .1 .1 .0))
     (finished-served (a .state .now) (a .memory .now) bytes formed (a .pid) _ _ _ _ _ does _ (report-heard st (a .pid) (a .kind) (a .reason) (a .words) (a .notice .now) passes (s .pre .1)) low stays)
 
 pub report-known-spec : {M : Type 1} → statement M
-report-known-spec = tie.close (tie.spec read-process-at-requires same-length returns read-start-requires cast-start extent-requires add-end sub-report-for-process part-report-for-process-start part-report-for-process-end report-for-process-requires keep-requires same-length-2 same-length-3 same-length-4 returns-2)
+report-known-spec = tie.close (tie.spec read-process-at-requires start-of-requires extent-requires add-end sub-report-for-process part-report-for-process-start part-report-for-process-end report-for-process-requires keep-requires same-length same-length-2 same-length-3 returns)
