@@ -23,7 +23,7 @@ use Rattle.rules.proofs.FreeLaws.{free-bytes}
 use Rattle.rules.proofs.CreateLaws.{create-rule}
 use Rattle.rules.proofs.DestroyLaws.{destroy-rule, nothing-is-left}
 use Rattle.rules.proofs.LedgerLaws.{ledger}
-use Rattle.state_bytes.specs.State.{stateOf, stateFormed, stateSound}
+use Rattle.state_bytes.specs.State.{stateFormed, stateSound}
 use Rattle.gateway.specs.Called.{Called, called, finished, lentOn, refusedBy, callOn, machineStored, Did}
 use Rattle.gateway.specs.Sequence.{Begins, Made, readFrom}
 use Rattle.gateway.specs.Demands.{TotalOnBytes, ListsOnBytes, Demands}

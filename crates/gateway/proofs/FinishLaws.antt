@@ -4,7 +4,7 @@ use mathlib.Core.Path.{_≡_, refl, sym, ap, _∙_}
 use mathlib.Core.Bool.{Bool, true, false, cond}
 use mathlib.Core.List.{List, []}
 use Prim.Native.Nat.{ℕ, _<_}
-use lib.ListN.{length, set, length-set}
+use lib.ListN.{set, length-set}
 use Rattle.lists.specs.Buffer.{Bytes}
 use Rattle.format.specs.declared.outcome.Outcome.{Outcome}
 use Rattle.process.specs.declared.record.Process.{Process}

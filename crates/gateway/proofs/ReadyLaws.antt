@@ -8,7 +8,7 @@ use lib.ListN.{length}
 use lib.Dec.{eqb}
 use Rattle.lists.specs.Word.{vectorOf}
 use Rattle.lists.proofs.Bool.{&&-left, &&-right}
-use Rattle.state.specs.Records.{Records, nobody, processAt}
+use Rattle.state.specs.Records.{nobody, processAt}
 use Rattle.state.specs.Layout.{capacity}
 use Rattle.state.specs.Sound.{EightEntries, soundTest}
 use Rattle.rules.specs.Ready.{Ready, Worded}

@@ -1,6 +1,6 @@
 -- Calls on bytes, one after another, are a run of the rules. Assumes nothing.
 use mathlib.Core.Path.{_≡_, refl, sym, ap, ap₂, _∙_, subst}
-use mathlib.Core.Bool.{Bool, true, false, cond, _&&_, true≢false}
+use mathlib.Core.Bool.{Bool, true, false, cond, true≢false}
 use mathlib.Core.List.{List, [], _∷_}
 use Prim.Native.Nat.{ℕ, _+_, _<_}
 use native.Mathlib.Nat.{not-suc-le-zero}
@@ -34,7 +34,7 @@ use Rattle.state_bytes.specs.State.{stateBytes, stateOf, stateFormed}
 use Rattle.state_bytes.specs.Theorems.{Sized}
 use Rattle.state_bytes.specs.Widths.{stateWidth}
 use Rattle.state_bytes.proofs.StateLaws.{inverse, eight-at}
-use Rattle.gateway.specs.Called.{Called, called, finished, callOn, machineStored, lentOn, startOn, Did}
+use Rattle.gateway.specs.Called.{Called, finished, callOn, machineStored, lentOn, startOn, Did}
 use Rattle.gateway.specs.Sequence.{Begins, Done, AllTyped, item, items, readFrom}
 use Rattle.gateway.proofs.ReadyLaws.{read-worded}
 use Rattle.gateway.proofs.LentLaws.{lent-formed, lent-ready}

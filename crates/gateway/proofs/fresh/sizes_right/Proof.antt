@@ -1,5 +1,4 @@
 -- `gateway::fresh::sizes_right` meets its contract: each size is tested, and then their sum. Assumes nothing.
-use mathlib.Core.Path.{refl}
 use borrow.Author.Tests.{not-true, not-false}
 use borrow.Author.Needs.{needs}
 use Rattle.state.specs.Fresh.{sizesRight}

@@ -1,5 +1,5 @@
 -- `gateway::gone::take_out` meets its contract: those above move down, then their starts, and then the record is written. Assumes nothing.
-use mathlib.Core.Path.{_≡_, _∙_}
+use mathlib.Core.Path.{_∙_}
 use Prim.Native.Nat.{_+_, _≤_}
 use native.Mathlib.Omega.{arith}
 use Rattle.lists.specs.Buffer.{Bytes}

@@ -1,6 +1,6 @@
 -- `gateway::reports::report_known` meets its contract: that of the report at its process, in the part of memory and the bytes of the state that
 -- are the process's. Assumes nothing.
-use mathlib.Core.Path.{_≡_, ap, sym, _∙_}
+use mathlib.Core.Path.{ap, sym, _∙_}
 use native.Mathlib.Omega.{arith}
 use borrow.Author.Tests.{not-true, not-false}
 use Rattle.lists.specs.Buffer.{Bytes}

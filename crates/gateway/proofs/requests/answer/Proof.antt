@@ -1,5 +1,5 @@
 -- `gateway::requests::answer` meets its contract, by where the request goes. Assumes nothing.
-use mathlib.Core.Path.{_≡_, ap, sym, _∙_}
+use mathlib.Core.Path.{sym, _∙_}
 use native.Mathlib.Omega.{arith}
 use Rattle.lists.specs.Buffer.{Bytes}
 use Rattle.format.specs.Layout.{stringOf}

@@ -1,18 +1,15 @@
 -- `gateway::requests::answer_named` meets its contract: that of the request at its process, in the part of memory and the bytes of the state
 -- that are the process's; one that is gone is taken out. Assumes nothing.
-use mathlib.Core.Path.{_≡_, ap, sym, _∙_}
-use Prim.Native.Nat.{_+_, _≤_}
+use mathlib.Core.Path.{ap, sym, _∙_}
 use native.Mathlib.Omega.{arith}
 use borrow.Author.Tests.{not-true, not-false}
-use lib.ListN.{length}
 use Rattle.lists.specs.Buffer.{Bytes}
 use Rattle.process.specs.declared.record.Process.{Process}
-use Rattle.process.specs.Local.{local}
 use Rattle.rules.specs.Tests.{lent}
 use Rattle.rules.specs.Step.{localOf}
 use Rattle.rules.specs.Isolation.{isGranted}
 use Rattle.state_bytes.specs.State.{stateOf}
-use Rattle.service.specs.At.{ProcessResult, namedAt}
+use Rattle.service.specs.At.{ProcessResult}
 use Rattle.service.proofs.AtLaws.{unchanged, gone-granted}
 use Rattle.gateway.proofs.PartLaws.{slot-back, length-back, local-part, part-count, part-inside, tested-part, gone-back}
 use Rattle.gateway.proofs.AskedLaws.{asked-named, asked-absent}

@@ -1,5 +1,5 @@
 -- `gateway::requests::answer_new` meets its contract: CREATE of the lowest absent process after the last one, or refused. Assumes nothing.
-use mathlib.Core.Path.{_≡_, sym, _∙_}
+use mathlib.Core.Path.{sym, _∙_}
 use mathlib.Core.Bool.{not, _||_}
 use Prim.Native.Nat.{_+_, _-_, _≤_}
 use native.Mathlib.Omega.{arith}

@@ -1,5 +1,5 @@
 -- `gateway::requests::create_last` meets its contract: that of CREATE at its process, in the first of the free bytes. Assumes nothing.
-use mathlib.Core.Path.{_≡_, ap, sym, _∙_}
+use mathlib.Core.Path.{ap, _∙_}
 use Prim.Native.Nat.{_+_, _≤_}
 use native.Mathlib.Omega.{arith}
 use lib.ListN.{length}
