@@ -1,5 +1,5 @@
 // The run state of a process: its cases, their numbers, every question that is asked of one, and what a machine report of each kind
-// makes of it. A new run state changes this crate alone.
+// makes of it. What is asked of a new run state is answered in this crate alone.
 ghost use mathlib.Core.Path.{_≡_};
 ghost use Rattle.run_state.specs.RunState.{runNumber, isRunNumber, runOf, moving, passing, steppingOrPassing, stoppedOrAtBreak, atBreak, released, afterPass, goesOn, accepts, runAfter};
 
