@@ -27,7 +27,7 @@
 #define PALUSTRODE_MESSAGE_BYTES 266
 #define PALUSTRODE_HEADER_BYTES 10
 
-/* The stack that a call needs, in bytes, what it calls included: 992 were measured on x86-64 (docs/EMBEDDING.md says how). */
+/* The stack that a call needs, in bytes, what it calls included: 1,016 were measured on x86-64 (docs/EMBEDDING.md says how). */
 #define PALUSTRODE_STACK_BYTES 1024
 
 /* The op codes of requests, in CMD. A CAN'T has PALUSTRODE_CANT added. */

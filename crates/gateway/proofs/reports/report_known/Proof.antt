@@ -1,6 +1,6 @@
 -- `gateway::reports::report_known` meets its contract: that of the report at its process, in the part of memory and the bytes of the state that
 -- are the process's. Assumes nothing.
-use mathlib.Core.Path.{_≡_, ap, _∙_}
+use mathlib.Core.Path.{ap, _∙_}
 use native.Mathlib.Omega.{arith}
 use Rattle.lists.specs.Buffer.{Bytes}
 use Rattle.rules.specs.Tests.{lent}
