@@ -1,6 +1,6 @@
 /* A gateway in C over the stub, and the desk that asks it: host 5 debugs process 2, which has 1,536 bytes, and host 6 is refused. Process 0,
- * which lies below it in memory, is destroyed, so that process 2 moves; others are created until there is no room. Then process 2 stops at a
- * breakpoint. */
+ * which lies below it in memory, is destroyed, so that process 2 moves; others are created until there is no room. Then process 2 passes a
+ * breakpoint, which is planted again after one instruction, and stops at it the next time. */
 #include "palustrode.h"
 #include <stdio.h>
 #include <string.h>
@@ -146,6 +146,9 @@ int main(void) {
     desk("a byte past its size", PALUSTRODE_EXAMINE, SIZE - 1, 2, word, 0);
     destroy_and_create(word);
     report("BPT there, passed silently", 2, PALUSTRODE_KIND_BPT, 256);
+    show_word("memory holds", 256);
+    report("TTRAP, one instruction later", 2, PALUSTRODE_KIND_TTRAP, 258);
+    show_word("memory holds", 256);
     report("process 258 has a BPT", 258, PALUSTRODE_KIND_BPT, 256);
     report("process 2 has kind 258", 2, 258, 256);
     report("BPT there, and a notice", 2, PALUSTRODE_KIND_BPT, 256);

@@ -14,7 +14,8 @@
 //! A call after damage or lengths is made on copies; damage is kept where bit 6 asks for it and the state is still sound. Bit 7 takes all
 //! fields as they come; otherwise they are brought into the range where calls are granted. Bit 3 brings processes and addresses close
 //! together, bit 4 makes the string a byte too long, bit 5 takes the arguments from the edges of the ranges, and the size of a CREATE from
-//! those of the free bytes too; of damage, it makes an entry, or moves one process alone.
+//! those of the free bytes too; of damage, it makes an entry, or moves one process alone. Bit 6 brings a request to a process from the host
+//! that debugs it, and makes a report one that the run state makes likely.
 #![no_main]
 
 #[allow(dead_code)] // what is wrong with a layout is not asked here
@@ -22,6 +23,9 @@
 mod layout;
 #[path = "../model/compare/library.rs"]
 mod library;
+#[path = "../model/compare/passing.rs"]
+mod passing;
+mod reading;
 #[path = "../model/compare/sides.rs"]
 mod sides;
 #[allow(dead_code)] // how deep it is gone is not asked here
@@ -30,6 +34,7 @@ mod stack;
 
 use layout::{lay_out, order, out_of_order};
 use model::*;
+use reading::{desk_from, report_from, request_from, word, Records};
 use sides::{is_sound, Call, Pair, Side};
 use std::os::raw::c_int;
 
@@ -55,7 +60,8 @@ fn compare(call: &Call, pair: &mut Pair) {
 /// After the calls come CREATE and DESTROY once more, in the layout that they find.
 const CALLS: usize = 25;
 const ANSWERS: usize = 17;
-const CONDITIONS: usize = 2 * 9;
+/// Six run states with three conditions of breakpoints each; and as many of a layout, 2 * 9.
+const CONDITIONS: usize = 6 * 3;
 
 #[link_section = "__libfuzzer_extra_counters"]
 static mut SEEN: [u8; CALLS * ANSWERS * CONDITIONS] = [0; CALLS * ANSWERS * CONDITIONS];
@@ -67,7 +73,7 @@ fn condition(state: &[u8], p: u8) -> usize {
     let entries = || record[ENTRIES_AT..].chunks_exact(ENTRY_BYTES).filter(|e| e[0] == 1);
     let lifted = entries().any(|e| e[1] == 1);
     let breaks = if lifted { 2 } else { usize::from(entries().next().is_some()) };
-    usize::from(record[2]).min(4) * 3 + breaks
+    usize::from(record[2]).min(5) * 3 + breaks
 }
 
 /// The condition of the process that a call names.
@@ -128,117 +134,7 @@ fn note(call: &Call, found: usize, laid: Option<(usize, usize)>, answer: i64) {
     }
 }
 
-// ---------------------------------------------------------------- reading the fuzzer's bytes
-
-struct Records<'a>(&'a [u8]);
-
-impl Records<'_> {
-    fn take(&mut self, n: usize) -> &[u8] {
-        let (taken, rest) = self.0.split_at(n.min(self.0.len()));
-        self.0 = rest;
-        taken
-    }
-
-    fn next(&mut self) -> Option<[u8; 8]> {
-        if self.0.is_empty() {
-            return None;
-        }
-        let mut record = [0; 8];
-        let taken = self.take(8);
-        record[..taken.len()].copy_from_slice(taken);
-        Some(record)
-    }
-}
-
-fn word(high: u8, low: u8) -> u16 {
-    u16::from_be_bytes([high, low])
-}
-
-/// Where bits 3 and 5 move an address or a count to.
-fn moved(first: u8, n: u16) -> u16 {
-    const EDGES: [u16; 19] = [
-        0, 1, 2, 16, 17, 18, 255, 256, 257, 1534, 1535, 1536, 4092, 4094, 4095, 4096, 4097, 65_534,
-        65_535,
-    ];
-    match (first & 8 != 0, first & 32 != 0) {
-        (_, true) => EDGES[usize::from(n) % EDGES.len()],
-        (true, false) => n % 20,
-        _ => n,
-    }
-}
-
-/// The size that a CREATE asks for.
-fn size_from(first: u8, n: u16, free: usize) -> u16 {
-    let free = free.min(4096) as u16;
-    let edges = [0, 2, 4094, 4096, free, free + 2, free.saturating_sub(2), 2048, 4098, 3];
-    match first & 32 {
-        0 => moved(first, n) % 4097 & !1,
-        _ => edges[usize::from(n) % edges.len()],
-    }
-}
-
-fn request_from(r: [u8; 8], free: usize) -> Call {
-    let (any, near, longer) = (r[0] & 128 != 0, r[0] & 8 != 0, r[0] & 16 != 0);
-    let [_, mut host, mut cmd, mut pid, ..] = r;
-    let (mut arg1, mut arg2) = (moved(r[0], word(r[4], r[5])), moved(r[0], word(r[6], r[7])));
-    if !any {
-        let processes = if near { 2 } else { 8 };
-        (host, cmd, pid) = (5 + host % 4 / 3, cmd % 14, pid % processes);
-        if matches!(cmd, NOP | CREATE_PROCESS) {
-            pid = 0;
-        }
-        match cmd {
-            DEPOSIT | EXAMINE | DEPOSIT_STATE_VECTOR | BREAK | UNBREAK => {}
-            CREATE_PROCESS => arg1 = size_from(r[0], word(r[4], r[5]), free),
-            _ => arg1 = 0,
-        }
-        if !matches!(cmd, DEPOSIT | EXAMINE | DEPOSIT_STATE_VECTOR | BREAK) {
-            arg2 = 0;
-        }
-    }
-    let string = match cmd {
-        DEPOSIT | DEPOSIT_STATE_VECTOR => usize::from(arg2).min(LONGEST_STRING),
-        _ => 0,
-    };
-    let [a, b] = arg1.to_be_bytes();
-    let [c, d] = arg2.to_be_bytes();
-    let mut message = vec![0, host, 255, 0, cmd, pid, a, b, c, d];
-    message.extend((0..string + usize::from(longer)).map(|i| (i as u8).wrapping_mul(7) ^ r[1]));
-    Call::Request { message }
-}
-
-fn report_from(r: [u8; 8]) -> Call {
-    let (any, near) = (r[0] & 128 != 0, r[0] & 8 != 0);
-    let [_, mut process, mut kind, ..] = r;
-    let (mut reason, pc) = (word(r[3], r[4]), moved(r[0], word(r[5], r[6])));
-    if !any {
-        (process, kind) = (process % if near { 2 } else { 8 }, kind % 4);
-        if kind != TRAP {
-            reason = 0;
-        }
-    }
-    let mut words: Vec<u8> = (0..VECTOR).map(|i| (i as u8).wrapping_mul(r[7])).collect();
-    words[2 * PC..2 * PC + 2].copy_from_slice(&pc.to_le_bytes());
-    let wide = |n: u64| n | if any { u64::from(r[7] & 1) << (8 + r[7] % 56) } else { 0 };
-    let (process, kind) = (wide(process.into()), kind.into());
-    Call::Report { process, kind, reason: reason.into(), words }
-}
-
-/// A desk's call: bit 6 reads the message that the record would ask with, as an answer; otherwise its fields are written, with bit 7 wider
-/// by one bit.
-fn desk_from(r: [u8; 8]) -> Call {
-    let Call::Request { mut message } = request_from(r, 0) else { unreachable!() };
-    if r[0] & 64 != 0 {
-        message[4] = r[2];
-        return Call::Read { message };
-    }
-    let word = |at: usize| u64::from(u16::from_be_bytes([message[at], message[at + 1]]));
-    let mut fields = [message[1].into(), message[4].into(), message[5].into(), word(6), word(8)];
-    if r[0] & 128 != 0 {
-        fields[usize::from(r[1]) % FIELDS] |= 1 << (r[3] % 64);
-    }
-    Call::Write { fields, string: message.split_off(HEAD) }
-}
+// ---------------------------------------------------------------- damage
 
 /// Changes for the next call alone.
 #[derive(Default)]
@@ -394,14 +290,17 @@ fn run(data: &[u8]) {
     while let Some(r) = list.next() {
         match r[0] & 7 {
             0..=2 => {
-                let call = request_from(r, free_bytes(&records(&pair)));
+                let call = request_from(r, &records(&pair));
                 make(&mut pair, call, std::mem::take(&mut spoiled));
             }
             3 => {
                 let message = list.take(usize::from(word(r[1] & 1, r[2]))).to_vec();
                 make(&mut pair, Call::Request { message }, std::mem::take(&mut spoiled));
             }
-            4 => make(&mut pair, report_from(r), std::mem::take(&mut spoiled)),
+            4 => {
+                let call = report_from(r, &records(&pair));
+                make(&mut pair, call, std::mem::take(&mut spoiled));
+            }
             5 if r[0] & 16 != 0 => desk(&pair, desk_from(r)),
             5 => store(&mut pair, r),
             6 => spoiled.damage_from(r),

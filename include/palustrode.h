@@ -54,6 +54,21 @@
 #define PALUSTRODE_KIND_TTRAP 3
 #define PALUSTRODE_NOTICE 64
 
+/* Of a process's bytes in the state, those that the firmware acts on: 1 if it is there, its run state, its size, and its nine words. */
+#define PALUSTRODE_THERE_AT 0
+#define PALUSTRODE_RUN_STATE_AT 2
+#define PALUSTRODE_SIZE_AT 3
+#define PALUSTRODE_VECTOR_AT 5
+
+/* The run states. A process executes only while it is there and running, stepping or passing, and one instruction only while stepping or passing
+ * (docs/EMBEDDING.md, "What the firmware does around the calls"). */
+#define PALUSTRODE_RUNNING 0
+#define PALUSTRODE_STEPPING 1
+#define PALUSTRODE_STOPPED 2
+#define PALUSTRODE_AT_BREAKPOINT 3
+#define PALUSTRODE_ENDED 4
+#define PALUSTRODE_PASSING 5
+
 /* The fields of an answer that was read, by their places among the five. */
 #define PALUSTRODE_FIELDS 5
 #define PALUSTRODE_HOST 0
@@ -115,6 +130,15 @@ int64_t palustrode_read_answer(const uint8_t *message, size_t message_length, ui
 #ifdef __cplusplus
 }
 #endif
+
+/* The 87 bytes of process p, 0 to 7, in a state; found by a table, since the core has no multiply instruction. */
+static inline const uint8_t *palustrode_process(const uint8_t *state, unsigned p) {
+    static const uint16_t at[PALUSTRODE_PROCESSES] = {0 * PALUSTRODE_PROCESS_BYTES, 1 * PALUSTRODE_PROCESS_BYTES,
+                                                      2 * PALUSTRODE_PROCESS_BYTES, 3 * PALUSTRODE_PROCESS_BYTES,
+                                                      4 * PALUSTRODE_PROCESS_BYTES, 5 * PALUSTRODE_PROCESS_BYTES,
+                                                      6 * PALUSTRODE_PROCESS_BYTES, 7 * PALUSTRODE_PROCESS_BYTES};
+    return state + at[p];
+}
 
 /* Where process p, 0 to 7, begins in memory, read from the 712 bytes of a state: its bytes are memory[start] to memory[start + size - 1]. Of a
  * process that is not there it says nothing. Read it anew after each fresh start and each granted CREATE or DESTROY, of any process; nothing

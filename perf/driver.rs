@@ -11,7 +11,7 @@
 
 use library::*;
 use model::{
-    Run, State, BEGINS_AT, FIELDS, LONGEST, MEMORY, PROCESSES, RECORD_BYTES, STATE_BYTES, VECTOR,
+    State, BEGINS_AT, FIELDS, LONGEST, MEMORY, PROCESSES, RECORD_BYTES, STATE_BYTES, VECTOR,
 };
 use rows::{rows, to, Row, Start, Step, P};
 use std::arch::asm;
@@ -73,7 +73,7 @@ const RUN_AT: usize = RECORD_BYTES * P as usize + 2;
 /// Sets a state's bytes back by a few stores, where a step is no call.
 fn set_back(state: &mut [u8; STATE_BYTES], step: &Step) {
     match step {
-        Step::Run => state[RUN_AT] = 0,
+        Step::Run(run) => state[RUN_AT] = *run as u8,
         Step::Back { pid, there, host, begins } => {
             let record = RECORD_BYTES * usize::from(*pid);
             state[record] = u8::from(*there);
@@ -108,7 +108,7 @@ impl Side for Library {
             Step::Read(a) => unsafe {
                 palustrode_read_answer(a.as_ptr(), a.len(), fields.as_mut_ptr(), FIELDS)
             },
-            Step::Run | Step::Back { .. } => {
+            Step::Run(_) | Step::Back { .. } => {
                 set_back(state, step);
                 0
             }
@@ -140,7 +140,7 @@ impl Side for Bytes {
                 model::report_bytes(state, memory, P.into(), (*kind).into(), 0, bytes, output)
             }
             Step::Write(..) | Step::Read(..) => by_desk(step, output, fields),
-            Step::Run | Step::Back { .. } => {
+            Step::Run(_) | Step::Back { .. } => {
                 set_back(state, step);
                 0
             }
@@ -161,8 +161,8 @@ impl Side for Typed {
                 model::report(state, memory, P.into(), (*kind).into(), 0, words, output)
             }
             Step::Write(..) | Step::Read(..) => by_desk(step, output, fields),
-            Step::Run => {
-                state.processes[usize::from(P)].run = Run::Running;
+            Step::Run(run) => {
+                state.processes[usize::from(P)].run = *run;
                 0
             }
             Step::Back { pid, there, host, begins } => {
@@ -188,7 +188,7 @@ impl Side for Empty {
             Step::Report { kind, .. } => i64::from(black_box(*kind)),
             Step::Write(_, string) => black_box(string.len()) as i64,
             Step::Read(message) => black_box(message.len()) as i64,
-            Step::Run | Step::Back { .. } => {
+            Step::Run(_) | Step::Back { .. } => {
                 set_back(&mut self.0.state, step);
                 0
             }

@@ -1,6 +1,6 @@
 //! The rows of the table that `perf/run` prints: what each starts from, and the calls of one turn.
 
-use model::{FIELDS, PROCESSES, VECTOR, WORDS};
+use model::{Run, FIELDS, PROCESSES, VECTOR, WORDS};
 
 /// What a row starts from: the processes that are there, and the sizes of all.
 #[derive(Clone, Copy)]
@@ -30,8 +30,8 @@ pub enum Step {
     Write([u64; FIELDS], Vec<u8>),
     /// The desk reads an answer.
     Read(Vec<u8>),
-    /// No call: the process is set back to running by one store into the state.
-    Run,
+    /// No call: the process is set back to this run state by one store into the state.
+    Run(Run),
     /// No call: a process is set back to being there, debugged by this host, or not there; and all of them to where they lay at the
     /// start.
     Back {
@@ -126,7 +126,15 @@ pub fn rows() -> Vec<Row> {
     rows.extend([3, 2, 0].map(destroying));
     let counted = vec![to(BREAK, AT, 65_535)];
     rows.push(row("silent", "BPT report, silent", counted, vec![tell(BPT, AT)], 0));
-    let back = vec![tell(TRAP, AT), Step::Run];
+    // PC is at the breakpoint again after the one instruction, which jumps to itself.
+    let counted = vec![to(BREAK, AT, 65_535)];
+    let pair = vec![tell(BPT, AT), tell(TTRAP, AT)];
+    rows.push(row("silent-pair", "BPT and TTRAP report, silent, a pair", counted, pair, 0));
+    let stopped = vec![to(BREAK, AT, 0), tell(BPT, AT)];
+    let back = Step::Run(Run::AtBreakpoint);
+    let pair = vec![to(PROCEED_BPT, 0, 0), tell(TTRAP, AT), back];
+    rows.push(row("proceed", "PROCEED BPT and silent TTRAP, a pair", stopped, pair, 10));
+    let back = vec![tell(TRAP, AT), Step::Run(Run::Running)];
     rows.push(row("notice", "TRAP report with notice", vec![], back, 28));
     let turn = vec![ask(STRANGER, EXAMINE, P, AT, 16, 0)];
     rows.push(row("stranger", "EXAMINE of 16 by a stranger, refused", vec![], turn, -8));

@@ -1,6 +1,7 @@
 //! Random calls, most of them such as can be granted in the state at hand.
 
 use crate::random::Random;
+use crate::reports::{any_telling, make_report};
 use crate::sides::Call;
 use crate::sizes::size_to_create;
 use model::*;
@@ -24,29 +25,37 @@ const RANGES: [(u16, u16); 3] = [(65535, 2), (0, 256), (0, 257)];
 /// The same of the vector.
 const VECTOR_RANGES: [(u16, u16); 6] = [(0, 18), (16, 2), (17, 2), (18, 0), (18, 1), (65535, 2)];
 
-/// What a list tends to: the weights of the fourteen op codes, and how many of
-/// sixteen calls are reports.
+/// What a list tends to: the weights of the fourteen op codes, how many of sixteen
+/// calls are reports, and whether these are such as a machine makes in the run state
+/// at hand.
 pub struct Mood {
     weights: [usize; 14],
     reports: usize,
+    machine: bool,
 }
 
-pub const MOODS: [Mood; 5] = [
+pub const MOODS: [Mood; 7] = [
     // a little of everything
-    Mood { weights: [1, 6, 2, 2, 4, 3, 4, 2, 5, 2, 3, 3, 2, 2], reports: 4 },
+    Mood { weights: [1, 6, 2, 2, 4, 3, 4, 2, 5, 2, 3, 3, 2, 2], reports: 4, machine: false },
     // all eight breakpoints of a process
-    Mood { weights: [1, 6, 0, 1, 4, 1, 4, 1, 24, 2, 1, 1, 1, 1], reports: 2 },
+    Mood { weights: [1, 6, 0, 1, 4, 2, 4, 1, 24, 2, 1, 7, 1, 1], reports: 4, machine: true },
     // all eight processes
-    Mood { weights: [1, 2, 1, 1, 1, 1, 1, 1, 1, 1, 1, 1, 5, 2], reports: 2 },
+    Mood { weights: [1, 2, 1, 1, 1, 1, 1, 1, 1, 1, 1, 1, 5, 2], reports: 2, machine: false },
     // running, stepping, proceeding
-    Mood { weights: [1, 6, 1, 4, 3, 9, 3, 2, 8, 2, 9, 9, 2, 2], reports: 8 },
+    Mood { weights: [1, 6, 1, 4, 3, 9, 3, 2, 8, 2, 9, 9, 2, 2], reports: 8, machine: false },
     // processes come and go, with breakpoints
-    Mood { weights: [1, 5, 1, 1, 2, 3, 2, 1, 9, 1, 2, 3, 14, 9], reports: 3 },
+    Mood { weights: [1, 5, 1, 1, 2, 3, 2, 1, 9, 1, 2, 3, 14, 9], reports: 3, machine: false },
+    // breakpoints in loops
+    Mood { weights: [1, 6, 1, 3, 3, 6, 3, 2, 8, 3, 5, 14, 2, 1], reports: 9, machine: true },
+    // and such as are taken away while a process passes them
+    Mood { weights: [1, 6, 6, 8, 2, 6, 2, 2, 12, 14, 4, 14, 1, 1], reports: 8, machine: true },
 ];
 
 pub fn make_call(random: &mut Random, state: &State, mood: &Mood) -> Call {
-    if random.below(16) < mood.reports {
-        return make_report(random, state);
+    // a machine has little to report before breakpoints are set
+    let reports = if mood.machine && !any_telling(state) { 2 } else { mood.reports };
+    if random.below(16) < reports {
+        return make_report(random, state, mood.machine);
     }
     let mut message = make_request(random, state, mood);
     let mut spoil = random.one_in(8);
@@ -62,7 +71,7 @@ pub fn make_call(random: &mut Random, state: &State, mood: &Mood) -> Call {
 }
 
 /// Mostly a process that the test picks out, else any number, at times over 7.
-fn some_process(random: &mut Random, state: &State, test: impl Fn(&Process) -> bool) -> u8 {
+pub fn some_process(random: &mut Random, state: &State, test: impl Fn(&Process) -> bool) -> u8 {
     let fit: Vec<u8> = (0..8).filter(|&p| test(&state.processes[usize::from(p)])).collect();
     if !fit.is_empty() && !random.one_in(8) {
         return random.pick(&fit);
@@ -74,25 +83,49 @@ fn some_process(random: &mut Random, state: &State, test: impl Fn(&Process) -> b
     }
 }
 
-/// A process to which the request fits; at times, one with a lifted breakpoint.
+/// A process to which the request fits; at times, one that has a lifted breakpoint, or is
+/// passing and has none any more.
 fn process_for(random: &mut Random, state: &State, cmd: u8) -> u8 {
-    let has_lifted = |p: &Process| p.breakpoints.iter().any(|b| b.used && b.lifted);
-    if state.processes.iter().any(has_lifted) && random.one_in(2) {
+    let any_is = |test: &dyn Fn(&Process) -> bool| state.processes.iter().any(test);
+    if any_is(&passing_bare) && random.one_in(2) {
+        return some_process(random, state, passing_bare);
+    }
+    if any_is(&has_lifted) && random.one_in(2) {
         return some_process(random, state, has_lifted);
     }
-    let (narrow, any_destroyed) = (!random.one_in(4), random.one_in(2));
-    some_process(random, state, |p| {
-        let fits = match cmd {
-            DEBUG => return p.there && (p.host == NOBODY || !narrow),
-            STOP => p.run.goes(),
-            RESUME | SINGLE_STEP => p.run.waits(),
-            PROCEED_BPT => p.run == Run::AtBreakpoint,
-            DESTROY_PROCESS => any_destroyed || p.run == Run::Ended,
-            BREAK | UNBREAK | EXAMINE | DEPOSIT => p.breakpoints.iter().any(|b| b.used),
-            _ => true,
-        };
-        p.host != NOBODY && (fits || !narrow)
-    })
+    if cmd == PROCEED_BPT && any_is(&lifts) && !random.one_in(4) {
+        return some_process(random, state, lifts);
+    }
+    let any_destroyed = random.one_in(2);
+    let named = |p: &Process| p.there && (p.host != NOBODY || cmd == DEBUG);
+    let fits = |p: &Process| match cmd {
+        DEBUG => p.there && p.host == NOBODY,
+        STOP => named(p) && p.run.goes(),
+        RESUME | SINGLE_STEP => named(p) && p.run.waits(),
+        PROCEED_BPT => named(p) && p.run == Run::AtBreakpoint,
+        DESTROY_PROCESS => named(p) && (any_destroyed || p.run == Run::Ended),
+        BREAK | UNBREAK | EXAMINE | DEPOSIT => p.breakpoints.iter().any(|b| b.used),
+        _ => named(p),
+    };
+    match any_is(&fits) && !random.one_in(4) {
+        true => some_process(random, state, fits),
+        false => some_process(random, state, named),
+    }
+}
+
+fn has_lifted(process: &Process) -> bool {
+    process.breakpoints.iter().any(|b| b.used && b.lifted)
+}
+
+/// Whether a process passes a breakpoint that is gone.
+pub fn passing_bare(process: &Process) -> bool {
+    process.there && process.run == Run::Passing && !has_lifted(process)
+}
+
+/// Whether PROCEED BPT would lift a breakpoint.
+fn lifts(process: &Process) -> bool {
+    let at_pc = |b: &Breakpoint| b.used && b.address == process.vector[PC];
+    process.run == Run::AtBreakpoint && process.breakpoints.iter().any(at_pc)
 }
 
 /// A well-formed request, mostly one that can be granted.
@@ -154,7 +187,7 @@ fn make_arguments(random: &mut Random, process: &Process, cmd: u8) -> (u16, u16,
             };
             (address, count, Vec::new())
         }
-        UNBREAK if random.one_in(2) => (used_address(random, process), 0, Vec::new()),
+        UNBREAK if !random.one_in(3) => (used_address(random, process), 0, Vec::new()),
         UNBREAK if random.one_in(3) => (some_edge(random, process), 0, Vec::new()),
         UNBREAK => (some_address(random, process), 0, Vec::new()),
         _ => (0, 0, Vec::new()),
@@ -260,7 +293,7 @@ pub fn used_address(random: &mut Random, process: &Process) -> u16 {
     if used.is_empty() {
         return 2 * random.below(24) as u16;
     }
-    if !lifted.is_empty() && random.one_in(3) {
+    if !lifted.is_empty() && random.one_in(2) {
         return lifted[0];
     }
     random.pick(&used)
@@ -276,7 +309,7 @@ fn some_edge(random: &mut Random, process: &Process) -> u16 {
 }
 
 /// An address at or beside a breakpoint, in a small range, or at an edge.
-fn some_address(random: &mut Random, process: &Process) -> u16 {
+pub fn some_address(random: &mut Random, process: &Process) -> u16 {
     match random.below(8) {
         0 => some_edge(random, process),
         1 => random.free_word(),
@@ -332,53 +365,6 @@ pub fn spoil_message(random: &mut Random, message: &mut Vec<u8>) {
         12 => message.resize(random.below(LONGEST + 1), 2),
         _ => message.truncate(HEAD.max(message.len() - 1)),
     }
-}
-
-fn make_report(random: &mut Random, state: &State) -> Call {
-    let kind = match random.below(32) {
-        0 if random.one_in(2) => random.pick(&[4, 5, 64, 66, 128, 255]),
-        0 => random.free_byte(),
-        1..=4 => TRAP,
-        5 | 6 => HALT,
-        7..=24 => BPT,
-        _ => TTRAP,
-    };
-    // rather one with breakpoints than any
-    let narrow = random.one_in(2);
-    let process = some_process(random, state, |p| {
-        let fits = p.run == Run::Stepping || p.run == Run::Running && kind != TTRAP;
-        p.there && fits && (!narrow || p.breakpoints.iter().any(|b| b.used))
-    });
-    let reason = match kind {
-        TRAP if random.one_in(2) => random.free_word(),
-        TRAP => random.pick(&[0, 1, 4, 255, 256, 257, 4660, 65535]),
-        _ if random.one_in(10) => random.pick(&[1, 256, 65535]),
-        _ if random.one_in(10) => random.free_word(),
-        _ => 0,
-    };
-    let mut words = [0; WORDS];
-    words.fill_with(|| random.word());
-    words[PC] = report_pc(random, &state.processes[usize::from(process) % PROCESSES]);
-    let (mut process, mut kind, mut reason) = (process.into(), kind.into(), reason.into());
-    // at times a number that has no room in its field, or any number
-    match random.below(48) {
-        0 => process = random.beyond(8, process),
-        1 => process = random.free(64),
-        2 => kind = random.beyond(8, kind),
-        3 => kind = random.free(64),
-        4 => reason = random.beyond(16, reason),
-        5 => reason = random.free(64),
-        _ => {}
-    }
-    Call::Report { process, kind, reason, words: vector_bytes(&words).to_vec() }
-}
-
-/// Mostly the address of a breakpoint.
-fn report_pc(random: &mut Random, process: &Process) -> u16 {
-    if random.one_in(4) {
-        return some_address(random, process);
-    }
-    used_address(random, process)
 }
 
 /// An output buffer with random bytes in it, often longer than it need be.

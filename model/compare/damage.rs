@@ -11,7 +11,7 @@ use model::*;
 type Damage = fn(&mut Random, &mut [u8]);
 
 /// Every kind, and how often it is done.
-const DAMAGES: [(usize, Damage); 22] = [
+const DAMAGES: [(usize, Damage); 24] = [
     (4, some_bytes),
     (2, another_begin),
     (1, same_begin),
@@ -30,6 +30,8 @@ const DAMAGES: [(usize, Damage); 22] = [
     (1, wrong_address),
     (1, same_address),
     (1, one_or_two_lifted),
+    (2, another_run),
+    (1, passing_with_none_lifted),
     (3, no_host),
     (3, old_bytes),
     (1, another_host),
@@ -164,8 +166,8 @@ fn size_under_a_breakpoint(random: &mut Random, state: &mut [u8]) {
 
 /// A run state that there is not.
 fn wrong_run(random: &mut Random, state: &mut [u8]) {
-    let any = random.free_byte().max(5);
-    state[some_record(random) + 2] = random.pick(&[5, 6, 128, 255, any, any]);
+    let any = random.free_byte().max(6);
+    state[some_record(random) + 2] = random.pick(&[6, 6, 7, 128, 255, any, any]);
 }
 
 /// A flag that is neither 0 nor 1.
@@ -217,11 +219,43 @@ fn one_or_two_lifted(random: &mut Random, state: &mut [u8]) {
     put_entry(state, some_entry(random, record), random.below(2) as u8, last);
 }
 
+/// A process with one lifted in any run state, often running, in which none may be.
+fn another_run(random: &mut Random, state: &mut [u8]) {
+    let records = (0..PROCESSES).map(|p| RECORD_BYTES * p);
+    let lifted: Vec<usize> = records.filter(|&record| has_lifted(state, record)).collect();
+    let record = if lifted.is_empty() {
+        let record = some_debugged(random, state);
+        put_entry(state, some_entry(random, record), 1, 0);
+        record
+    } else {
+        random.pick(&lifted)
+    };
+    let run = if random.one_in(2) { some_run(random) } else { Run::Running };
+    state[record + 2] = run as u8;
+}
+
+fn has_lifted(state: &[u8], record: usize) -> bool {
+    let entries = &state[record + ENTRIES_AT..record + RECORD_BYTES];
+    entries.chunks_exact(ENTRY_BYTES).any(|entry| entry[..2] == [1, 1])
+}
+
+/// Sound: the process passes, and its lifted breakpoint is gone or planted.
+fn passing_with_none_lifted(random: &mut Random, state: &mut [u8]) {
+    let record = some_debugged(random, state);
+    state[record + 2] = Run::Passing as u8;
+    let used = random.below(2) as u8;
+    let entries = &mut state[record + ENTRIES_AT..record + RECORD_BYTES];
+    for entry in entries.chunks_exact_mut(ENTRY_BYTES).filter(|entry| entry[..2] == [1, 1]) {
+        entry[..2].copy_from_slice(&[used, 0]);
+    }
+}
+
 /// Sound: a process with no host in any run state, or an absent one with a run
 /// state and a vector.
 fn no_host(random: &mut Random, state: &mut [u8]) {
     let record = some_record(random);
-    let run = if random.one_in(2) { some_run(random) } else { Run::Stepping };
+    let any = some_run(random);
+    let run = random.pick(&[any, Run::Stepping, Run::Passing]);
     make_there(random, state, record);
     let there = u8::from(!random.one_in(4));
     state[record..record + 3].copy_from_slice(&[there, NOBODY, run as u8]);

@@ -88,7 +88,7 @@ pub fn accepted_fault(call: &Call, answer: i64, before: &Side) -> bool {
 }
 
 /// The process that a granted call changes, if any.
-fn changed(call: &Call, after: &Side) -> Option<usize> {
+pub fn changed(call: &Call, after: &Side) -> Option<usize> {
     match call {
         Call::Request { message } => match message[4] {
             NOP => None,

@@ -18,13 +18,20 @@
 
 mod about;
 mod calls;
+#[cfg(feature = "standin")]
+mod changes;
 mod damage;
 mod desk;
 mod layout;
 mod library;
+#[cfg(feature = "standin")]
+mod made;
 mod passages;
 mod passages_layout;
+mod passages_passing;
+mod passing;
 mod random;
+mod reports;
 mod run;
 mod sides;
 mod sizes;
@@ -33,15 +40,19 @@ mod stack;
 mod standin;
 mod states;
 mod sweeps;
+mod sweeps_runs;
 mod table;
 mod values;
 mod values_layout;
+mod values_passing;
 #[cfg(feature = "standin")]
 mod wrong;
 #[cfg(feature = "standin")]
 mod wrong_create;
 #[cfg(feature = "standin")]
 mod wrong_layout;
+#[cfg(feature = "standin")]
+mod wrong_passing;
 #[cfg(feature = "standin")]
 mod wrong_sizes;
 

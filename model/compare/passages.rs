@@ -3,6 +3,7 @@
 
 use crate::about::{has_bytes, old, About};
 use crate::passages_layout::LAYOUT_PASSAGES;
+use crate::passages_passing::PASSING_PASSAGES;
 use crate::sides::Call;
 use model::*;
 
@@ -177,7 +178,7 @@ const PASSAGES: &[Passage] = &[
 
 /// Every passage, in the order in which they are counted.
 fn every() -> impl Iterator<Item = &'static Passage> {
-    PASSAGES.iter().chain(LAYOUT_PASSAGES)
+    PASSAGES.iter().chain(LAYOUT_PASSAGES).chain(PASSING_PASSAGES)
 }
 
 /// The passages whose test holds before a call.

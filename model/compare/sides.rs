@@ -3,6 +3,7 @@
 
 use crate::layout::{accepted_fault, broken_layout};
 use crate::library::*;
+use crate::passing::broken_passing;
 use crate::stack::on_painted;
 use model::*;
 use std::borrow::Cow;
@@ -291,7 +292,7 @@ fn broken_rule(call: &Call, answer: i64, before: &Side, after: &Side) -> Option<
     if refused {
         return None;
     }
-    broken_layout(call, before, after)
+    broken_layout(call, before, after).or_else(|| broken_passing(call, before, after))
 }
 
 /// Whether bytes are those of a sound state.

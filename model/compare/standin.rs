@@ -3,7 +3,8 @@
 //!
 //! Callers lend pointers to as many elements as the length beside them says.
 
-use crate::wrong::{answer, Made};
+use crate::made::Made;
+use crate::wrong::answer;
 use std::slice::{from_raw_parts, from_raw_parts_mut};
 
 #[no_mangle]

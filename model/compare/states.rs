@@ -41,7 +41,7 @@ fn some_sound_process(random: &mut Random, cleared: Process) -> Process {
         add_breakpoint(random, &mut process, e, most);
     }
     let e = random.below(BREAKPOINTS);
-    process.breakpoints[e].lifted = process.breakpoints[e].used && process.run.goes();
+    process.breakpoints[e].lifted = process.breakpoints[e].used && process.run.allows_lifted();
     process
 }
 
@@ -60,5 +60,5 @@ fn add_breakpoint(random: &mut Random, process: &mut Process, e: usize, most: us
 }
 
 pub fn some_run(random: &mut Random) -> Run {
-    random.pick(&[Run::Running, Run::Stepping, Run::Stopped, Run::AtBreakpoint, Run::Ended])
+    random.pick(&Run::ALL)
 }

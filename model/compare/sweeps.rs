@@ -8,14 +8,14 @@ use model::*;
 /// Makes each call on what `start` set up: how many, or the first difference.
 pub struct Sweep<'a> {
     base: Pair,
-    pair: Pair,
+    pub pair: Pair,
     /// Counts a call.
     made: &'a mut dyn FnMut(&Call, &Side, i64),
 }
 
 /// The host that debugs processes 2 and 3; processes 0 to 6 are there.
 const OWNER: u8 = 77;
-const P: u8 = 2;
+pub const P: u8 = 2;
 
 /// The feed process, and the sizes of all: those of 4 to 7 are at the edges. With all
 /// but the last there, 4,586 bytes are free.
@@ -30,7 +30,7 @@ fn message(host: u8, cmd: u8, pid: u8, arg1: u16, arg2: u16, string: usize) -> V
     message
 }
 
-fn to(cmd: u8, arg1: u16, arg2: u16, string: usize) -> Call {
+pub fn to(cmd: u8, arg1: u16, arg2: u16, string: usize) -> Call {
     Call::Request { message: message(OWNER, cmd, P, arg1, arg2, string) }
 }
 
@@ -43,7 +43,11 @@ fn start(there: u64, sizes: &[u16]) -> Call {
 }
 
 fn report(process: u64, kind: u64, reason: u64) -> Call {
-    let words = vector_bytes(&[1, 2, 3, 4, 5, 6, 7, 256, 9]).to_vec();
+    report_at(process, kind, reason, 256)
+}
+
+pub fn report_at(process: u64, kind: u64, reason: u64, pc: u16) -> Call {
+    let words = vector_bytes(&[1, 2, 3, 4, 5, 6, 7, pc, 9]).to_vec();
     Call::Report { process, kind, reason, words }
 }
 
@@ -70,26 +74,27 @@ impl Sweep<'_> {
         sweep.begins()?;
         sweep.hosts()?;
         sweep.reports()?;
+        sweep.runs()?;
         sweep.lengths()?;
         sweep.starts()?;
         sweep.writes()?;
         sweep.reads()
     }
 
-    fn make(&mut self, call: &Call) -> Result<i64, String> {
+    pub fn make(&mut self, call: &Call) -> Result<i64, String> {
         let answer = self.pair.call(call)?;
         (self.made)(call, &self.pair.model, answer);
         Ok(answer)
     }
 
     /// A call on the state as it was set up.
-    fn apart(&mut self, call: Call) -> Result<(), String> {
+    pub fn apart(&mut self, call: Call) -> Result<(), String> {
         self.make(&call)?;
         self.back();
         Ok(())
     }
 
-    fn back(&mut self) {
+    pub fn back(&mut self) {
         self.pair.clone_from(&self.base);
     }
 

@@ -27,7 +27,6 @@ const fn refused_row(name: &'static str, refusals: &'static [usize]) -> Row {
 const ROW_COUNT: usize = 20;
 const NO_OP: usize = 14;
 const REPORTS: usize = 15;
-const SILENT_TTRAP: (usize, usize) = (REPORTS + TTRAP as usize, 1);
 
 /// A request's row is its CMD, right or wrong otherwise; a CMD over 13, and a
 /// message that has none, is in the row `no op`. Tests 1 and 2 can fail in every
@@ -35,7 +34,8 @@ const SILENT_TTRAP: (usize, usize) = (REPORTS + TTRAP as usize, 1);
 /// fail 7 and 8; only 5, 10 and 11 ask for a run state (9); 4, 6, 7 and 8 have
 /// ranges (10); 8 alone fails 11, 9 alone 12, 12 alone 13. Reports are tested by
 /// 1, 2, 14, 7, 9; a TRAP may have any reason of two bytes, and a kind over 3 never
-/// comes past 14. Every kind is silent for a process with no host.
+/// comes past 14. Every kind is silent for a process with no host, BPT where it is
+/// passed, and TTRAP while passing.
 const ROWS: [Row; ROW_COUNT] = [
     request_row("0 NOP", &[1, 2, 3, 4, 6]),
     request_row("1 DEBUG", &[1, 2, 3, 4, 6, 7, 8]),
@@ -113,10 +113,9 @@ impl Table {
     }
 
     /// Whether the paper makes an answer possible. From a fresh start calls lead
-    /// to sound states alone, and to none with a process that is stepping and
-    /// has no host.
+    /// to sound states alone.
     fn feasible(&self, row: usize, column: usize) -> bool {
-        if !self.damaged && (column_of(-NOT_SOUND) == column || (row, column) == SILENT_TTRAP) {
+        if !self.damaged && column == column_of(-NOT_SOUND) {
             return false;
         }
         match column {

@@ -7,6 +7,7 @@ use crate::layout::last_word;
 use crate::sides::{Call, Lent, Side};
 use crate::sizes::SIZES;
 use crate::values_layout::LAYOUT_VALUES;
+use crate::values_passing::PASSING_VALUES;
 use model::*;
 
 /// A value of one kind, met in a call that got this answer: 0 for granted, or the
@@ -278,7 +279,7 @@ fn wide(call: &Call, field: usize) -> bool {
 
 /// Every value, in the order in which they are counted.
 fn every() -> impl Iterator<Item = &'static Value> {
-    VALUES.iter().chain(LAYOUT_VALUES)
+    VALUES.iter().chain(LAYOUT_VALUES).chain(PASSING_VALUES)
 }
 
 /// How often each value was met, and each buffer at each offset modulo 8.

@@ -1,124 +1,14 @@
 //! Wrong libraries: the model with one error each. The comparison has to see every
 //! one of them.
 
+use crate::made::{lengths, Made};
 use crate::run::Comparison;
 use crate::wrong_create::WRONG_CREATE;
 use crate::wrong_layout::WRONG_LAYOUT;
+use crate::wrong_passing::WRONG_PASSING;
 use crate::wrong_sizes::WRONG_SIZES;
 use model::*;
 use std::sync::atomic::{AtomicUsize, Ordering};
-
-/// A call as the stand-in gets it.
-pub enum Made<'a> {
-    Start {
-        there: u64,
-        sizes: &'a [u16],
-        state: &'a mut [u8],
-    },
-    Request {
-        state: &'a mut [u8],
-        memory: &'a mut [u8],
-        message: &'a [u8],
-        reply: &'a mut [u8],
-    },
-    Report {
-        state: &'a mut [u8],
-        memory: &'a mut [u8],
-        numbers: [u64; 3],
-        words: &'a [u8],
-        notice: &'a mut [u8],
-    },
-    Write {
-        fields: [u64; FIELDS],
-        string: &'a [u8],
-        request: &'a mut [u8],
-    },
-    Read {
-        message: &'a [u8],
-        fields: &'a mut [u16],
-    },
-}
-
-impl Made<'_> {
-    /// The model's answer.
-    pub fn right(&mut self) -> i64 {
-        match self {
-            Made::Start { there, sizes, state } => fresh_start_bytes(*there, sizes, state),
-            Made::Request { state, memory, message, reply } => {
-                request_bytes(state, memory, message, reply)
-            }
-            Made::Report { state, memory, numbers: [p, k, r], words, notice } => {
-                report_bytes(state, memory, *p, *k, *r, words, notice)
-            }
-            Made::Write { fields: [host, cmd, pid, arg1, arg2], string, request } => {
-                write_request(*host, *cmd, *pid, *arg1, *arg2, string, request)
-            }
-            Made::Read { message, fields } => read_answer(message, fields),
-        }
-    }
-
-    /// The model's answer to a message or a report that was changed first.
-    fn changed(self, change: impl Fn(&mut Vec<u8>, &mut [u64; 3])) -> i64 {
-        match self {
-            Made::Request { state, memory, message, reply } => {
-                let mut message = message.to_vec();
-                change(&mut message, &mut [0; 3]);
-                request_bytes(state, memory, &message, reply)
-            }
-            Made::Report { state, memory, mut numbers, words, notice } => {
-                change(&mut Vec::new(), &mut numbers);
-                let [p, k, r] = numbers;
-                report_bytes(state, memory, p, k, r, words, notice)
-            }
-            mut made => made.right(),
-        }
-    }
-
-    /// The bytes of the state.
-    fn state(&mut self) -> Option<&mut [u8]> {
-        match self {
-            Made::Start { state, .. }
-            | Made::Request { state, .. }
-            | Made::Report { state, .. } => Some(state),
-            _ => None,
-        }
-    }
-
-    /// The records of a request's or a report's state, if its bytes are a state's.
-    pub fn records(&mut self) -> Option<State> {
-        if matches!(self, Made::Start { .. }) {
-            return None;
-        }
-        decode(self.state()?)
-    }
-
-    pub fn put(&mut self, records: &State) {
-        if let Some(state) = self.state() {
-            state.copy_from_slice(&encode(records));
-        }
-    }
-
-    /// A byte of the request's header.
-    pub fn byte(&self, at: usize) -> Option<u8> {
-        match self {
-            Made::Request { message, .. } if message.len() >= HEAD => Some(message[at]),
-            _ => None,
-        }
-    }
-
-    /// ARG1 or ARG2 of the request.
-    pub fn word(&self, at: usize) -> Option<u16> {
-        Some(u16::from_be_bytes([self.byte(at)?, self.byte(at + 1)?]))
-    }
-
-    /// The model's answer, but for this number in place of that one.
-    pub fn instead(&mut self, right: i64, wrong: i64) -> i64 {
-        match self.right() {
-            answer if answer == right => wrong,
-            answer => answer,
-        }
-    }
-}
 
 /// A right answer, on a memory or an output buffer that has the right length.
 fn with_lengths(made: Made, memory_length: usize, output_length: usize) -> i64 {
@@ -141,15 +31,6 @@ fn with_lengths(made: Made, memory_length: usize, output_length: usize) -> i64 {
     }
 }
 
-/// The lengths of memory and output buffer.
-pub fn lengths(made: &Made) -> Option<(usize, usize)> {
-    match made {
-        Made::Request { memory, reply: output, .. }
-        | Made::Report { memory, notice: output, .. } => Some((memory.len(), output.len())),
-        _ => None,
-    }
-}
-
 pub struct Wrong {
     pub name: &'static str,
     pub answer: fn(Made) -> i64,
@@ -157,7 +38,7 @@ pub struct Wrong {
 
 /// Every wrong library.
 fn every() -> impl Iterator<Item = &'static Wrong> {
-    WRONG.iter().chain(WRONG_SIZES).chain(WRONG_LAYOUT).chain(WRONG_CREATE)
+    WRONG.iter().chain(WRONG_SIZES).chain(WRONG_LAYOUT).chain(WRONG_CREATE).chain(WRONG_PASSING)
 }
 
 /// Each is the model's answer, but for one error.

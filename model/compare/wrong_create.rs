@@ -1,7 +1,8 @@
 //! Wrong libraries that go wrong by the size that CREATE asks for, at the gateway and at
 //! the desk.
 
-use crate::wrong::{Made, Wrong};
+use crate::made::Made;
+use crate::wrong::Wrong;
 use crate::wrong_layout::{after, Change};
 use model::*;
 

@@ -2,7 +2,8 @@
 //! a DESTROY moves.
 
 use crate::layout::{close_gaps, fault, out_of_order, Fault};
-use crate::wrong::{lengths, Made, Wrong};
+use crate::made::{lengths, Made};
+use crate::wrong::Wrong;
 use model::*;
 
 /// Each is the model's answer, but for one error.
@@ -285,21 +286,11 @@ fn sound_too(mut made: Made, too: Fault) -> i64 {
         records.processes.iter_mut().for_each(|process| process.there &= process.host != NOBODY);
     }
     close_gaps(&mut records);
-    let mut state = encode(&records);
-    match made {
-        Made::Request { memory, message, reply, .. } => {
-            request_bytes(&mut state, &mut memory.to_vec(), message, &mut reply.to_vec())
-        }
-        Made::Report { memory, numbers: [p, k, r], words, notice, .. } => {
-            let (mut memory, mut notice) = (memory.to_vec(), notice.to_vec());
-            report_bytes(&mut state, &mut memory, p, k, r, words, &mut notice)
-        }
-        mut made => made.right(),
-    }
+    made.on_other(&records)
 }
 
 /// An answer that takes such a sound state for one that is not.
-fn unsound_too(mut made: Made, test: impl Fn(&State) -> bool) -> i64 {
+pub fn unsound_too(mut made: Made, test: impl Fn(&State) -> bool) -> i64 {
     let unsound = made.records().is_some_and(|records| sound(&records) && test(&records));
     match (&made, lengths(&made)) {
         (Made::Request { .. }, Some((MEMORY, LONGEST..))) if unsound => -2,

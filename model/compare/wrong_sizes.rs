@@ -1,6 +1,7 @@
 //! Wrong libraries that go wrong by the size of a process.
 
-use crate::wrong::{lengths, Made, Wrong};
+use crate::made::{lengths, Made};
+use crate::wrong::Wrong;
 use model::*;
 
 /// Each is the model's answer, but for one error.

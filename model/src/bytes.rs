@@ -44,14 +44,7 @@ fn flag(byte: u8) -> Option<bool> {
 }
 
 fn run_from(byte: u8) -> Option<Run> {
-    match byte {
-        0 => Some(Run::Running),
-        1 => Some(Run::Stepping),
-        2 => Some(Run::Stopped),
-        3 => Some(Run::AtBreakpoint),
-        4 => Some(Run::Ended),
-        _ => None,
-    }
+    Run::ALL.get(usize::from(byte)).copied()
 }
 
 /// The state of 712 bytes; nothing where the length, a flag or a run state is

@@ -4,6 +4,7 @@
 mod desk;
 mod gateway;
 mod layout;
+mod passing;
 mod sizes;
 
 use super::*;
@@ -67,6 +68,7 @@ fn p9_a_ninth_address() {
     assert_eq!(g.process().breakpoints[7].remaining, 9);
 }
 
+/// K3: "Case P10 becomes BPT, TTRAP, BPT, TTRAP, BPT."
 #[test]
 fn p10_count_of_two() {
     let mut g = Gateway::debugged();
@@ -76,8 +78,12 @@ fn p10_count_of_two() {
         assert_eq!(g.report(2, BPT, 0, 256), 0);
         g.written(0);
         assert_eq!(g.process().breakpoints[0].remaining, left);
-        assert_eq!(g.process().run, Run::Running);
+        assert_eq!(g.process().run, Run::Passing);
         assert_eq!(g.held(256), [18, 52]);
+        assert_eq!(g.report(2, TTRAP, 0, 258), 0);
+        g.written(0);
+        assert_eq!(g.process().run, Run::Running);
+        assert_eq!(g.held(256), [3, 0]);
     }
     assert_eq!(g.report(2, BPT, 0, 256), 28);
     let notice = g.written(28);
@@ -216,7 +222,7 @@ fn lifting_and_planting_again() {
     assert_eq!(g.held(6), [3, 0]);
     assert_eq!(g.report(2, BPT, 0, 6), 28);
     assert_eq!(g.ask(5, PROCEED_BPT, 2, 0, 0, &[]), 10);
-    assert_eq!((g.held(6), g.process().run), ([8, 9], Run::Running));
+    assert_eq!((g.held(6), g.process().run), ([8, 9], Run::Passing));
     assert_eq!(g.ask(5, STOP, 2, 0, 0, &[]), 10);
     assert_eq!((g.held(6), g.process().run), ([3, 0], Run::Stopped));
     assert_eq!(g.ask(5, PROCEED_BPT, 2, 0, 0, &[]), -9);
@@ -315,12 +321,8 @@ fn sound_states() {
     assert!(!changed(|p| p.breakpoints[3].address = 4095));
     assert!(!changed(|p| p.breakpoints[3].address = 4096));
     assert!(!changed(|p| p.breakpoints[6] = p.breakpoints[3]));
-    assert!(changed(|p| p.breakpoints[3].lifted = true));
     assert!(!changed(|p| {
-        p.breakpoints[3].lifted = true;
-        p.run = Run::Stopped;
-    }));
-    assert!(!changed(|p| {
+        p.run = Run::Stepping;
         p.breakpoints[3].lifted = true;
         p.breakpoints[0] = Breakpoint { address: 2, ..p.breakpoints[3] };
     }));
@@ -356,10 +358,11 @@ fn the_byte_form() {
     let (b, m, o) = (&mut bytes, &mut memory, &mut output);
     assert_eq!(report_bytes(b, m, 2, BPT.into(), 0, &words[1..], o), -1);
     assert_eq!(report_bytes(b, m, 2, BPT.into(), 0, &words, o), 0);
+    assert_eq!(b[174..179], [1, 5, 5, 0, 6]);
     assert_eq!(b[179..197], words);
     assert_eq!(b[197..205], [1, 1, 0, 1, 2, 2, 18, 52]);
     assert_eq!(encode(&decode(b).unwrap()), *b);
-    for (at, byte) in [(0, 2), (174, 255), (2, 5), (197, 2), (198, 2), (695 - 7, 2)] {
+    for (at, byte) in [(0, 2), (174, 255), (2, 6), (197, 2), (198, 2), (695 - 7, 2)] {
         let mut damaged = *b;
         damaged[at] = byte;
         assert_eq!(decode(&damaged), None);

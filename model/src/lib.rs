@@ -15,12 +15,14 @@ mod desk;
 mod layout;
 mod reports;
 mod requests;
+mod runs;
 
 pub use bytes::*;
 pub use desk::{read_answer, write_request, FIELDS};
 pub use layout::{asked_size, free_bytes, used_bytes};
 pub use reports::report;
 pub use requests::request;
+pub use runs::Run;
 
 use bytes::vector_from;
 use layout::{create, destroy, layout_sound, size_fits};
@@ -161,28 +163,6 @@ pub const WRONG_REPORT: Refusal = 14;
 
 // ---------------------------------------------------------------- records
 
-/// "run state (running, stepping, stopped, at a breakpoint, ended)"
-#[derive(Clone, Copy, PartialEq, Eq, Debug)]
-pub enum Run {
-    Running = 0,
-    Stepping = 1,
-    Stopped = 2,
-    AtBreakpoint = 3,
-    Ended = 4,
-}
-
-impl Run {
-    /// "while running or stepping"
-    pub fn goes(self) -> bool {
-        matches!(self, Run::Running | Run::Stepping)
-    }
-
-    /// "from stopped or at a breakpoint"
-    pub fn waits(self) -> bool {
-        matches!(self, Run::Stopped | Run::AtBreakpoint)
-    }
-}
-
 /// "up to 8 breakpoints, each with address, remaining count, saved word and
 /// whether it is lifted"
 #[derive(Clone, Copy, PartialEq, Eq, Debug)]
@@ -294,11 +274,12 @@ impl Process {
         })
     }
 
-    /// "at most one is lifted, and only while running or stepping"
+    /// "at most one is lifted"; K3: "Sound now allows a lifted one only while stepping or
+    /// passing."
     fn lifting_sound(&self) -> bool {
         match self.breakpoints.iter().filter(|b| b.used && b.lifted).count() {
             0 => true,
-            1 => self.run.goes(),
+            1 => self.run.allows_lifted(),
             _ => false,
         }
     }
@@ -365,11 +346,10 @@ impl Process {
         self.breakpoints.iter_mut().find(|b| b.used && b.address == address)
     }
 
-    /// "lifts the breakpoint at PC, if there is one"
-    fn lift_at_pc(&mut self, space: &mut [u8]) {
-        if let Some(breakpoint) = self.at(self.vector[PC]) {
-            breakpoint.lift(space);
-        }
+    /// "lifts the breakpoint at PC, if there is one"; says whether there is.
+    fn lift_at_pc(&mut self, space: &mut [u8]) -> bool {
+        let breakpoint = self.at(self.vector[PC]);
+        breakpoint.map(|breakpoint| breakpoint.lift(space)).is_some()
     }
 
     /// "a lifted breakpoint is planted again"

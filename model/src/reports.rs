@@ -31,7 +31,7 @@ pub fn report(
         Ok(record) => record,
         Err(number) => return -number,
     };
-    if !record.accepts(kind) {
+    if !record.run.accepts(kind) {
         return -WRONG_RUN;
     }
     if !record.take(&mut memory[record.place()], kind, words) {
@@ -54,17 +54,17 @@ fn kind_and_reason(kind: u64, reason: u64) -> Option<(u8, u16)> {
 }
 
 impl Process {
-    /// "Accepted while running or stepping; TTRAP only while stepping."
-    fn accepts(&self, kind: u8) -> bool {
-        self.run == Run::Stepping || self.run == Run::Running && kind != TTRAP
-    }
-
     /// Takes an accepted report; says whether a notice goes out. "The vector is
     /// stored and a lifted breakpoint planted again."
     fn take(&mut self, space: &mut [u8], kind: u8, words: &[u16; WORDS]) -> bool {
         self.vector = *words;
         self.plant_lifted(space);
         if kind == BPT && self.passes(space) {
+            return false;
+        }
+        if kind == TTRAP && self.run == Run::Passing {
+            // K3: "the stub replants the word and the process runs, without notice"
+            self.run = Run::Running;
             return false;
         }
         // "Otherwise TRAP and TTRAP give stopped, HALT ended, BPT at a
@@ -79,13 +79,14 @@ impl Process {
     }
 
     /// "For BPT with a breakpoint at PC and remaining count above 0: the count
-    /// falls by one, that breakpoint is lifted, the run state stays and no
-    /// notice goes out."
+    /// falls by one, that breakpoint is lifted [..] and no notice goes out." The run
+    /// state is what K3 says.
     fn passes(&mut self, space: &mut [u8]) -> bool {
         match self.at(self.vector[PC]) {
             Some(breakpoint) if breakpoint.remaining > 0 => {
                 breakpoint.remaining -= 1;
                 breakpoint.lift(space);
+                self.run = self.run.after_lift();
                 true
             }
             _ => false,

@@ -133,8 +133,8 @@ fn debugged_by(process: &Process, asked: &Asked) -> Result<(), Refusal> {
 }
 
 /// 9: "wrong run state". "RESUME, SINGLE STEP: from stopped or at a
-/// breakpoint". "PROCEED BPT: only at a breakpoint". No other request asks for
-/// a run state.
+/// breakpoint". "PROCEED BPT: only at a breakpoint". K3, of passing: "RESUME, SINGLE
+/// STEP and PROCEED BPT give 9". No other request asks for a run state.
 fn run_state_fits(process: &Process, cmd: u8) -> Result<(), Refusal> {
     let fits = match cmd {
         RESUME | SINGLE_STEP => process.run.waits(),
@@ -177,7 +177,8 @@ impl Process {
 
     /// "END DEBUG: all breakpoints go, planted words put back; nobody debugs
     /// it. Stopped, at a breakpoint or stepping becomes running; ended stays."
-    /// "a freed entry is all zero": so are all eight.
+    /// K3: passing becomes running too. "a freed entry is all zero": so are all
+    /// eight.
     fn end_debug(&mut self, space: &mut [u8]) {
         for breakpoint in &mut self.breakpoints {
             breakpoint.free(space);
@@ -189,7 +190,7 @@ impl Process {
     }
 
     /// "STOP: running or stepping becomes stopped, and a lifted breakpoint is
-    /// planted again. Other states stay."
+    /// planted again. Other states stay." K3, of passing: "STOP makes it stopped".
     fn stop(&mut self, space: &mut [u8]) {
         if self.run.goes() {
             self.run = Run::Stopped;
@@ -262,7 +263,8 @@ impl Process {
         Ok(())
     }
 
-    /// "UNBREAK puts the word back if it is planted."
+    /// "UNBREAK puts the word back if it is planted." K3: the run state stays, passing
+    /// too, since it "is entered only where a breakpoint was lifted".
     fn clear_breakpoint(&mut self, space: &mut [u8], asked: &Asked) -> Result<(), Refusal> {
         // 12: "no breakpoint at that address"
         let Some(breakpoint) = self.at(asked.arg1) else {
@@ -282,9 +284,9 @@ impl Process {
     }
 
     /// "PROCEED BPT: only at a breakpoint; lifts the one at PC, if there, then
-    /// running."
+    /// running." K3: passing, "entered only where a breakpoint was lifted".
     fn proceed(&mut self, space: &mut [u8]) {
-        self.lift_at_pc(space);
-        self.run = Run::Running;
+        let lifted = self.lift_at_pc(space);
+        self.run = if lifted { self.run.after_lift() } else { Run::Running };
     }
 }

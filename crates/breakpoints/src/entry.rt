@@ -3,7 +3,8 @@ ghost use mathlib.Core.Path.{_≡_};
 ghost use Rattle.breakpoints.specs.Entry.{free, breakpointAt, withCount, withSaved, withLifted, withPlanted, validBreakAddress};
 
 // One of the eight entries of a process. A planted breakpoint, that is one in use and not lifted, has 3, 0 stored at its
-// address and the word that was there saved; a lifted one has its word back in memory until the process next stops.
+// address and the word that was there saved; a lifted one has its word back in memory for one instruction, until the process next
+// stops or reports.
 pub struct Breakpoint {
     pub used: bool,
     pub lifted: bool,

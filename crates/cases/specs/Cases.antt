@@ -4,6 +4,7 @@ use mathlib.Core.Bool.{Bool, true, false}
 use mathlib.Core.List.{List, [], _∷_, map}
 use Prim.Native.Nat.{ℕ}
 use lib.ListN.{replicate, set}
+use Rattle.run_state.specs.ReportKind.{BPT, TTRAP}
 use Rattle.rules.specs.Step.{Call, report, store}
 use Rattle.cases.specs.Case.{Case, Seen, outcomes, nothing, debuggers, vector, counts, saved, begins, moves, progress, buffer, sent, asked, answer, silent, stored}
 use Rattle.state.specs.Layout.{capacity}
@@ -123,10 +124,19 @@ words = 1 ∷ 2 ∷ 3 ∷ 4 ∷ 5 ∷ 6 ∷ 7 ∷ 256 ∷ 513 ∷ []
 
 -- a BPT report of process 2 with that vector
 abbrev pub reached : Call
-reached = report 2 2 0 words buffer
+reached = report 2 BPT 0 words buffer
 
--- P10: 'Count 2, running: the first two BPT reports there send nothing, the third sends ..'. After the first two it runs with the word put
--- back, after the third it is at the planted breakpoint
+-- the vector after the instruction at 256, of two bytes
+abbrev pub wordsThen : List ℕ
+wordsThen = 1 ∷ 2 ∷ 3 ∷ 4 ∷ 5 ∷ 6 ∷ 7 ∷ 258 ∷ 513 ∷ []
+
+-- a TTRAP report of process 2 with that vector
+abbrev pub executed : Call
+executed = report 2 TTRAP 0 wordsThen buffer
+
+-- P10: 'Count 2, running: the first two BPT reports there send nothing, the third sends ..', and 'Case P10 becomes BPT, TTRAP, BPT, TTRAP,
+-- BPT'. After each of the first two BPT reports it is passing with the word put back, after each TTRAP it runs with the breakpoint planted
+-- again, and after the third BPT it is at the planted breakpoint
 abbrev pub countCase : Case
 countCase = record {
   there = second;
@@ -134,11 +144,13 @@ countCase = record {
   lent = word;
   places = 256 ∷ 257 ∷ [];
   looks = progress;
-  calls = sent debug ∷ break 256 2 ∷ reached ∷ reached ∷ reached ∷ [];
+  calls = sent debug ∷ break 256 2 ∷ reached ∷ executed ∷ reached ∷ executed ∷ reached ∷ [];
   seen = answer 0 debug (18 ∷ 52 ∷ []) (0 ∷ 0 ∷ 0 ∷ replicate 9 0)
       ∷ answer 0 (0 ∷ 5 ∷ 255 ∷ 0 ∷ 8 ∷ 2 ∷ 1 ∷ 0 ∷ 0 ∷ 2 ∷ []) (3 ∷ 0 ∷ []) (0 ∷ 2 ∷ 0 ∷ replicate 9 0)
-      ∷ silent (18 ∷ 52 ∷ []) (0 ∷ 1 ∷ 1 ∷ words)
-      ∷ silent (18 ∷ 52 ∷ []) (0 ∷ 0 ∷ 1 ∷ words)
+      ∷ silent (18 ∷ 52 ∷ []) (5 ∷ 1 ∷ 1 ∷ words)
+      ∷ silent (3 ∷ 0 ∷ []) (0 ∷ 1 ∷ 0 ∷ wordsThen)
+      ∷ silent (18 ∷ 52 ∷ []) (5 ∷ 0 ∷ 1 ∷ words)
+      ∷ silent (3 ∷ 0 ∷ []) (0 ∷ 0 ∷ 0 ∷ wordsThen)
       ∷ answer 0 (0 ∷ 5 ∷ 255 ∷ 0 ∷ 66 ∷ 2 ∷ 0 ∷ 0 ∷ 0 ∷ 0 ∷ 1 ∷ 0 ∷ 2 ∷ 0 ∷ 3 ∷ 0 ∷ 4 ∷ 0 ∷ 5 ∷ 0 ∷ 6 ∷ 0 ∷ 7 ∷ 0 ∷ 0 ∷ 1 ∷ 1 ∷ 2 ∷ []) (3 ∷ 0 ∷ []) (3 ∷ 0 ∷ 0 ∷ words)
       ∷ [];
 }

@@ -23,6 +23,7 @@ use Rattle.rules.proofs.FreeLaws.{free-bytes}
 use Rattle.rules.proofs.CreateLaws.{create-rule}
 use Rattle.rules.proofs.DestroyLaws.{destroy-rule, nothing-is-left}
 use Rattle.rules.proofs.LedgerLaws.{ledger}
+use Rattle.rules.proofs.LoopLaws.{loops}
 use Rattle.state_bytes.specs.State.{stateFormed, stateSound}
 use Rattle.gateway.specs.Called.{Called, called, finished, lentOn, refusedBy, callOn, machineStored, Did}
 use Rattle.gateway.specs.Sequence.{Begins, Made, readFrom}
@@ -150,4 +151,5 @@ demands = record {
   isolation = isolation;
   one-memory = record { free-bytes = free-bytes; create = create-rule; destroy = destroy-rule; nothing-is-left = nothing-is-left };
   ledger = ledger;
+  loops = loops;
 }

@@ -17,6 +17,7 @@ use Rattle.rules.specs.Outsider.{only, Differ, Never}
 use Rattle.rules.specs.Together.{Away, AlikeRuns, withoutTheirs, callsOf, Isolation}
 use Rattle.rules.specs.OneMemory.{OneMemory}
 use Rattle.rules.specs.Ledger.{Ledger}
+use Rattle.rules.specs.Loops.{Loops}
 use Rattle.state_bytes.specs.Widths.{stateWidth}
 use Rattle.gateway.specs.Called.{Called, Did, lentOn, refusedBy, startOn}
 use Rattle.gateway.specs.Sequence.{Begins, Made, readFrom}
@@ -87,3 +88,5 @@ pub record Demands : Type 0 where
   pub one-memory : OneMemory
   -- free bytes and sizes always make the whole of it
   pub ledger : Ledger
+  -- a breakpoint in a loop comes back
+  pub loops : Loops

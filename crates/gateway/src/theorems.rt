@@ -4,8 +4,9 @@ ghost use Rattle.gateway.specs.Demands.{Demands};
 ghost use Rattle.gateway.specs.Lengths.{Lengths};
 
 // Calls of this crate on bytes, one after another with stores by the machine between them, are a run of the rules, from a fresh start or
-// wherever the tests 1 and 2 pass; so demand 1, the rights, demand 3, what CREATE and DESTROY do to the one memory and the ledger of its
-// bytes hold of them. What one call answers and leaves is `Did`, which the contracts of `request` and `report` ensure.
+// wherever the tests 1 and 2 pass; so demand 1, the rights, demand 3, what CREATE and DESTROY do to the one memory, the ledger of its bytes
+// and that breakpoints in loops come back hold of them. What one call answers and leaves is `Did`, which the contracts of `request` and
+// `report` ensure.
 pub fn demands()
     ensures { λ _. ⌜ Demands ⌝ }
 {}

@@ -12,11 +12,12 @@ use Rattle.breakpoints.specs.Seen.{restored}
 use lib.Dec.{eqb, ltb}
 use Rattle.lists.proofs.Bool.{&&-left, &&-right}
 use Rattle.run_state.specs.ReportKind.{BPT}
+use Rattle.run_state.specs.RunState.{afterPass, goesOn}
 use Rattle.process.specs.declared.record.Process.{Process}
 use Rattle.process.specs.declared.report.Verdict.{Verdict}
-use Rattle.process.specs.declared.report.Verdict.the-variants.{Stops, CountsDown}
+use Rattle.process.specs.declared.report.Verdict.the-variants.{Stops, CountsDown, GoesOn}
 use Rattle.breakpoints.specs.declared.entry_query.EntryQuery.the-variants.{At}
-use Rattle.process.specs.Record.{entry, withEntry, withVector}
+use Rattle.process.specs.Record.{entry, withRun, withEntry, withVector}
 use Rattle.process.specs.Find.{find}
 use Rattle.process.specs.Local.{Local, local, extent}
 use Rattle.process.specs.Planting.{liftedIn}
@@ -46,11 +47,12 @@ pub record Counts (kind : ℕ) (p : Process) (k : ℕ) : Type 0 where
 module _ (kind : ℕ) (p : Process) where
   pub counts : (k : ℕ) → verdictOf kind p ≡ CountsDown k → Counts kind p k
   unfolding verdictOf
-  counts k e = go (passes kind p) refl e
+  counts k e = go (goesOn kind (p .run)) (passes kind p) refl e
     where
-      go : (t : Bool) → passes kind p ≡ t → cond t (CountsDown (find (At (pc p)) p)) Stops ≡ CountsDown k → Counts kind p k
-      go true q e = record { passing = q; entry-is = cc }
-      go false q e = let z : _≡_ {A = ℕ} 0 1 = cc in absurd (omega arith)
+      go : (s t : Bool) → passes kind p ≡ t → cond s GoesOn (cond t (CountsDown (find (At (pc p)) p)) Stops) ≡ CountsDown k → Counts kind p k
+      go true t q e = let z : _≡_ {A = ℕ} 0 1 = cc in absurd (omega arith)
+      go false true q e = record { passing = q; entry-is = cc }
+      go false false q e = let z : _≡_ {A = ℕ} 0 1 = cc in absurd (omega arith)
 
   pub counts-low : (k : ℕ) → verdictOf kind p ≡ CountsDown k → k < 8
   counts-low k e = let c = counts k e in rw (c .entry-is) at (passes-found kind p (c .passing))
@@ -71,6 +73,7 @@ recipient-host kind words l = go (verdictOf kind (storeVectorAndReplant words l 
     go : (v : Verdict) → not (eqb (toldBy v (l .process .host)) 0) ≡ true → toldBy v (l .process .host) ≡ l .process .host
     go Stops e = refl
     go (CountsDown k) e = absurd (true≢false (sym e))
+    go GoesOn e = absurd (true≢false (sym e))
 
 -- a report leaves as many bytes and entries as there were
 pub length-reported : (kind : ℕ) (words : List ℕ) (l : Local) → length (reported kind words l .bytes) ≡ length (l .bytes)
@@ -80,6 +83,7 @@ length-reported kind words l = go (verdictOf kind (storeVectorAndReplant words l
     go : (v : Verdict) → length (carriedOut v kind (storeVectorAndReplant words l) .bytes) ≡ length (l .bytes)
     go Stops = length-replanted (onRecord (withVector words) l)
     go (CountsDown k) = length-liftedIn k _ ∙ length-replanted (onRecord (withVector words) l)
+    go GoesOn = length-replanted (onRecord (withVector words) l)
 
 pub eight-reported : (kind : ℕ) (words : List ℕ) (l : Local) → length (reported kind words l .process .breaks) ≡ length (l .process .breaks)
 unfolding reported storeVectorAndReplant passed liftedIn
@@ -88,6 +92,7 @@ eight-reported kind words l = go (verdictOf kind (storeVectorAndReplant words l 
     go : (v : Verdict) → length (carriedOut v kind (storeVectorAndReplant words l) .process .breaks) ≡ length (l .process .breaks)
     go Stops = eight-replanted (onRecord (withVector words) l)
     go (CountsDown k) = simp length-set (eight-replanted (onRecord (withVector words) l))
+    go GoesOn = eight-replanted (onRecord (withVector words) l)
 
 pub extent-reported : (kind : ℕ) (words : List ℕ) (l : Local) → extent (reported kind words l .process) ≡ extent (l .process)
 unfolding reported storeVectorAndReplant passed liftedIn
@@ -96,10 +101,11 @@ extent-reported kind words l = go (verdictOf kind (storeVectorAndReplant words l
     go : (v : Verdict) → extent (carriedOut v kind (storeVectorAndReplant words l) .process) ≡ extent (l .process)
     go Stops = extent-replanted (onRecord (withVector words) l)
     go (CountsDown k) = extent-replanted (onRecord (withVector words) l)
+    go GoesOn = extent-replanted (onRecord (withVector words) l)
 
 -- the entry that is passed is written once, with its count and its mark
 pub passed-once : (k : ℕ) (l : Local) → k < length (l .process .breaks)
-    → passed k l ≡ local (withEntry k (withLifted (withCount (entry (l .process) k .count - 1) (entry (l .process) k))) (l .process)) (restored (entry (l .process) k) (l .bytes))
+    → passed k l ≡ local (withRun (afterPass (l .process .run)) (withEntry k (withLifted (withCount (entry (l .process) k .count - 1) (entry (l .process) k))) (l .process))) (restored (entry (l .process) k) (l .bytes))
 unfolding passed liftedIn restored
 passed-once k l low =
     let b = withCount (entry (l .process) k .count - 1) (entry (l .process) k) in

@@ -16,7 +16,7 @@ use Rattle.breakpoints.specs.Seen.{planted}
 use Rattle.process.specs.Record.{entry, withEntry}
 use Rattle.process.specs.Find.{find}
 use Rattle.process.specs.Sound.{Sound}
-use Rattle.run_state.specs.RunState.{moving}
+use Rattle.run_state.specs.RunState.{steppingOrPassing}
 use Rattle.process.specs.Local.{Local, local, extent, Proper}
 use Rattle.process.specs.Planting.{plantedIn, liftedIn, replanted, liftedAt}
 use Rattle.process.proofs.FindLaws.{matches-lifted, matches-at, find-matches, find-before, lifted-matches}
@@ -29,9 +29,9 @@ abbrev pub NoneLifted : Process → Type 0
 NoneLifted p = (k : ℕ) → k < 8 → entry p k .used ≡ true → entry p k .lifted ≡ true → ⊥
 
 module _ (p : Process) (s : Sound p) (eight : length (p .breaks) ≡ 8) where
-  -- a process that does not move has none
-  pub still-none : moving (p .run) ≡ false → NoneLifted p
-  still-none e k h u x = true≢false (sym (s .moves k h u x) ∙ e)
+  -- a process that is neither stepping nor passing has none
+  pub still-none : steppingOrPassing (p .run) ≡ false → NoneLifted p
+  still-none e k h u x = true≢false (sym (s .lifted-while k h u x) ∙ e)
 
   -- ---- one entry
 
@@ -43,34 +43,34 @@ module _ (p : Process) (s : Sound p) (eight : length (p .breaks) ≡ 8) where
       → ((j : ℕ) → j < 8 → (j ≡ k → ⊥) → entry p j .used ≡ true → entry p j .address ≡ b .address → ⊥) → Sound (withEntry k (planted m b) p)
   sound-planted k b m h host even within apart =
       sound-entry p s eight k h (planted m b)
-      (λ u. record { hosted = host; even = even; within = within; moves = λ z. absurd (true≢false (sym z)) })
+      (λ u. record { hosted = host; even = even; within = within; lifted-while = λ z. absurd (true≢false (sym z)) })
       (λ j i n v u. record { different = apart j i n v; one-lifted = λ c d. true≢false (sym d) })
 
-  -- lifted while the process moves and no other is
-  pub sound-lifted : (k : ℕ) → k < 8 → entry p k .used ≡ true → moving (p .run) ≡ true → NoneLifted p → Sound (withEntry k (withLifted (entry p k)) p)
+  -- lifted while the process is stepping or passing and no other is
+  pub sound-lifted : (k : ℕ) → k < 8 → entry p k .used ≡ true → steppingOrPassing (p .run) ≡ true → NoneLifted p → Sound (withEntry k (withLifted (entry p k)) p)
   sound-lifted k h u m none =
       let e = sound-kept p s k h u in
       sound-entry p s eight k h (withLifted (entry p k))
-      (λ v. record { hosted = e .hosted; even = e .even; within = e .within; moves = λ z. m })
+      (λ v. record { hosted = e .hosted; even = e .even; within = e .within; lifted-while = λ z. m })
       (λ j i n v w. record { different = sound-apart p s j k i h n v u .different; one-lifted = λ c d. none j i v c })
 
   -- with another count
   pub sound-count : (k n : ℕ) → k < 8 → Sound (withEntry k (withCount n (entry p k)) p)
   sound-count k n h =
       sound-entry p s eight k h (withCount n (entry p k))
-      (λ u. let e = sound-kept p s k h u in record { hosted = e .hosted; even = e .even; within = e .within; moves = e .moves })
+      (λ u. let e = sound-kept p s k h u in record { hosted = e .hosted; even = e .even; within = e .within; lifted-while = e .lifted-while })
       (λ j i m v u. let e = sound-apart p s j k i h m v u in record { different = e .different; one-lifted = e .one-lifted })
 
   -- ---- what finds its entry first
 
-  pub sound-liftedAt : (pc : ℕ) (m : List ℕ) → moving (p .run) ≡ true → NoneLifted p → Sound (liftedAt pc (local p m) .process)
+  pub sound-liftedAt : (pc : ℕ) (m : List ℕ) → steppingOrPassing (p .run) ≡ true → NoneLifted p → Sound (liftedAt pc (local p m) .process)
   unfolding liftedAt liftedIn
-  sound-liftedAt pc m moves none = go (ltb (find (At pc) p) 8) refl
+  sound-liftedAt pc m while none = go (ltb (find (At pc) p) 8) refl
     where
       go : (t : Bool) → ltb (find (At pc) p) 8 ≡ t → Sound (cond t (liftedIn (find (At pc) p) (local p m)) (local p m) .process)
       go true e =
           let h : find (At pc) p < 8 = ltb-true _ _ e in
-          sound-lifted (find (At pc) p) h (matches-at pc (entry p (find (At pc) p)) (find-matches (At pc) p eight h) .0) moves none
+          sound-lifted (find (At pc) p) h (matches-at pc (entry p (find (At pc) p)) (find-matches (At pc) p eight h) .0) while none
       go false e = s
 
   pub sound-replanted : (m : List ℕ) → Sound (replanted (local p m) .process)

@@ -15,7 +15,7 @@ use Rattle.process.specs.declared.record.Process.{Process}
 use Rattle.breakpoints.specs.Entry.{free}
 use Rattle.process.specs.Record.{noBreaks, entry, withHost, withRun, withVector, withBreaks, withEntry}
 use Rattle.process.specs.Sound.{Sound, SizeRight, NoBreakpoints}
-use Rattle.run_state.specs.RunState.{moving}
+use Rattle.run_state.specs.RunState.{steppingOrPassing}
 
 -- ---- fields other than the entries
 
@@ -28,11 +28,11 @@ sound-vector v p s = record {
   even = s .even;
   within = s .within;
   one-lifted = s .one-lifted;
-  moves = s .moves;
+  lifted-while = s .lifted-while;
 }
 
 -- a run state in which what is lifted may be
-pub sound-run : (r : Run) (p : Process) → ((k : ℕ) → k < 8 → entry p k .used ≡ true → entry p k .lifted ≡ true → moving r ≡ true) → Sound p → Sound (withRun r p)
+pub sound-run : (r : Run) (p : Process) → ((k : ℕ) → k < 8 → entry p k .used ≡ true → entry p k .lifted ≡ true → steppingOrPassing r ≡ true) → Sound p → Sound (withRun r p)
 sound-run r p m s = record {
   sized = s .sized;
   absent = s .absent;
@@ -41,7 +41,7 @@ sound-run r p m s = record {
   even = s .even;
   within = s .within;
   one-lifted = s .one-lifted;
-  moves = m;
+  lifted-while = m;
 }
 
 -- a host for a process that is there
@@ -54,7 +54,7 @@ sound-host h p t n s = record {
   even = s .even;
   within = s .within;
   one-lifted = s .one-lifted;
-  moves = s .moves;
+  lifted-while = s .lifted-while;
 }
 
 -- ---- no breakpoints at all
@@ -75,7 +75,7 @@ sound-free p n e a =
       even = λ k h u. absurd (never k h u);
       within = λ k h u. absurd (never k h u);
       one-lifted = λ j k l h v u x y. never k h u;
-      moves = λ k h u x. absurd (never k h u);
+      lifted-while = λ k h u x. absurd (never k h u);
     }
 
 -- ---- entries that are alike
@@ -102,7 +102,7 @@ sound-alike bs p a s = record {
       let b = a j (omega arith) in
       let c = a k h in
       s .one-lifted j k l h (sym (b .used) ∙ v) (sym (c .used) ∙ u) (sym (b .lifted) ∙ x) (sym (c .lifted) ∙ y);
-  moves = λ k h u x. s .moves k h (sym (a k h .used) ∙ u) (sym (a k h .lifted) ∙ x);
+  lifted-while = λ k h u x. s .lifted-while k h (sym (a k h .used) ∙ u) (sym (a k h .lifted) ∙ x);
 }
 
 -- ---- another breakpoint in one entry
@@ -112,7 +112,7 @@ pub record Kept (p : Process) (b : Breakpoint) : Type 0 where
   pub hosted : p .host ≡ 0 → ⊥
   pub even : b .address % 2 ≡ 0
   pub within : b .address + 2 ≤ p .size
-  pub moves : b .lifted ≡ true → moving (p .run) ≡ true
+  pub lifted-while : b .lifted ≡ true → steppingOrPassing (p .run) ≡ true
 
 -- and of two
 pub record Apart (b c : Breakpoint) : Type 0 where
@@ -128,7 +128,7 @@ sound-kept p s k h u = record {
   hosted = λ e. true≢false (sym u ∙ s .unhosted e k h);
   even = s .even k h u;
   within = s .within k h u;
-  moves = s .moves k h u;
+  lifted-while = s .lifted-while k h u;
 }
 
 pub sound-apart : (p : Process) → Sound p → (j k : ℕ) → j < 8 → k < 8 → (j ≡ k → ⊥) → entry p j .used ≡ true → entry p k .used ≡ true → Apart (entry p j) (entry p k)
@@ -157,7 +157,7 @@ module _ (p : Process) (s : Sound p) (eight : length (p .breaks) ≡ 8) (k : ℕ
   kept-at j l u = go (eqb j k) refl
     where
       to : (c : Breakpoint) → Kept p c → Kept changed c
-      to c x = record { hosted = x .hosted; even = x .even; within = x .within; moves = x .moves }
+      to c x = record { hosted = x .hosted; even = x .even; within = x .within; lifted-while = x .lifted-while }
 
       go : (t : Bool) → eqb j k ≡ t → Kept changed (entry changed j)
       go true e = let q : entry changed j ≡ b = rw (eqb-true j k e) same in rw q (to b (kept (rw q at u)))
@@ -199,5 +199,5 @@ module _ (p : Process) (s : Sound p) (eight : length (p .breaks) ≡ 8) (k : ℕ
     even = λ j l u. kept-at j l u .even;
     within = λ j l u. kept-at j l u .within;
     one-lifted = λ i j l m u v. apart-at i j l m u v .one-lifted;
-    moves = λ j l u. kept-at j l u .moves;
+    lifted-while = λ j l u. kept-at j l u .lifted-while;
   }

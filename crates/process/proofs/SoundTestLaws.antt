@@ -17,7 +17,7 @@ use Rattle.breakpoints.specs.EntryQuery.{matches}
 use Rattle.process.specs.Find.{find}
 use Rattle.breakpoints.specs.Entry.{validBreakAddress}
 use Rattle.process.specs.Sound.{Sound, SizeRight, NoBreakpoints, absentHasNoHost, liftSound, usedSound, entrySound, keepsRules, soundTest}
-use Rattle.run_state.specs.RunState.{moving}
+use Rattle.run_state.specs.RunState.{steppingOrPassing}
 use Rattle.process.specs.Theorems.{TestIsSound}
 use Rattle.process.proofs.FindLaws.{lifted-matches, at-matches, find-before, find-is}
 
@@ -64,15 +64,15 @@ module _ (p : Process) (s : soundTest p ≡ true) where
     first-there = eqb-true _ _ (&&-left (eqb (find (At (entry p k .address)) p) k) _ firsts)
 
     module _ (l : entry p k .lifted ≡ true) where
-      lift : moving (p .run) && eqb (find Lifted p) k ≡ true
+      lift : steppingOrPassing (p .run) && eqb (find Lifted p) k ≡ true
       unfolding liftSound
       lift = rw l at (&&-right (eqb (find (At (entry p k .address)) p) k) _ firsts)
 
-      moves : moving (p .run) ≡ true
-      moves = &&-left (moving (p .run)) _ lift
+      lifted-while : steppingOrPassing (p .run) ≡ true
+      lifted-while = &&-left (steppingOrPassing (p .run)) _ lift
 
       first-lifted : find Lifted p ≡ k
-      first-lifted = eqb-true _ _ (&&-right (moving (p .run)) _ lift)
+      first-lifted = eqb-true _ _ (&&-right (steppingOrPassing (p .run)) _ lift)
 
   unused : p .host ≡ 0 → NoBreakpoints p
   unused e k h = go (entry p k .used) refl
@@ -94,7 +94,7 @@ module _ (p : Process) (s : soundTest p ≡ true) where
     even = even;
     within = within;
     one-lifted = λ j k l h v u a b. find-before Lifted p j (rw (first-lifted k h u b) l) (lifted-matches (entry p j) v a);
-    moves = moves;
+    lifted-while = lifted-while;
   }
 
 -- ---- from the rule to the test
@@ -124,9 +124,9 @@ module _ (p : Process) (eight : length (p .breaks) ≡ 8) (s : Sound p) where
     unfolding liftSound
     lift-sound = go (entry p k .lifted) refl
       where
-        go : (t : Bool) → entry p k .lifted ≡ t → not t || (moving (p .run) && eqb (find Lifted p) k) ≡ true
+        go : (t : Bool) → entry p k .lifted ≡ t → not t || (steppingOrPassing (p .run) && eqb (find Lifted p) k) ≡ true
         go true e =
-            &&-both (moving (p .run)) (eqb (find Lifted p) k) (s .moves k h u e)
+            &&-both (steppingOrPassing (p .run)) (eqb (find Lifted p) k) (s .lifted-while k h u e)
             (eq-eqb _ _ (find-is Lifted p eight k h (lifted-matches (entry p k) u e) (none-lifted k h u e)))
         go false e = refl
 

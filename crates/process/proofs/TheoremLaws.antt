@@ -14,22 +14,22 @@ use Rattle.lists.proofs.Buffer.{part-paste, getD-paste-before, getD-paste-behin
 use Rattle.breakpoints.specs.declared.entry.Breakpoint.{Breakpoint}
 use Rattle.process.specs.declared.record.Process.{Process}
 use Rattle.run_state.specs.declared.Run.{Run}
-use Rattle.run_state.specs.declared.Run.the-variants.{Running, Stepping, Stopped}
+use Rattle.run_state.specs.declared.Run.the-variants.{Running, Stepping, Stopped, Passing}
 use Rattle.process.specs.declared.report.Verdict.{Verdict}
-use Rattle.process.specs.declared.report.Verdict.the-variants.{Stops, CountsDown}
+use Rattle.process.specs.declared.report.Verdict.the-variants.{Stops, CountsDown, GoesOn}
 use Rattle.breakpoints.specs.declared.entry_query.EntryQuery.the-variants.{Free, Lifted, At}
 use Rattle.breakpoints.specs.Entry.{free, breakpointAt, withCount}
 use Rattle.process.specs.Record.{noBreaks, entry, fresh, withHost, withRun, withVector, withBreaks, withEntry}
 use Rattle.process.specs.Find.{find}
 use Rattle.process.specs.Sound.{Sound, SizeRight}
-use Rattle.run_state.specs.RunState.{moving, stoppedOrAtBreak, atBreak, released, accepts, runAfter}
+use Rattle.run_state.specs.RunState.{moving, steppingOrPassing, stoppedOrAtBreak, atBreak, released, afterPass, accepts, runAfter}
 use Rattle.breakpoints.specs.Seen.{putWord, isPlanted, restored, seen, savedFrom}
 use Rattle.process.specs.Local.{Local, local, extent, Proper}
 use Rattle.process.specs.Planting.{plantedIn, liftedIn, removedFrom, replanted, liftedAt}
 use Rattle.process.specs.Request.{pc, onRecord, hasBreak, hasRoom, endDebugged, stopped, stepped, proceeded, examined, toBeSeen, deposited, breakSet, breakRemoved, created, cleared}
 use Rattle.process.specs.Report.{storeVectorAndReplant, verdictOf, passed, carriedOut, reported}
-use Rattle.process.specs.Theorems.{seenOf, DepositIsSeen, SeenStays, EndDebugRestores, StoreIsUnseen, SoundStays}
-use Rattle.run_state.proofs.RunLaws.{stoppedOrAtBreak-still, atBreak-stopped, accepts-moves}
+use Rattle.process.specs.Theorems.{seenOf, DepositIsSeen, SeenStays, EndDebugRestores, StoreIsUnseen, RunningIsPlanted, SoundStays}
+use Rattle.run_state.proofs.RunLaws.{stoppedOrAtBreak-still, atBreak-stopped, after-pass-lifts, accepts-moves}
 use Rattle.process.proofs.FindLaws.{matches-at, find-matches, find-before, at-matches}
 use Rattle.breakpoints.proofs.SeenLaws.{length-seen, restored-planted}
 use Rattle.process.proofs.DepositLaws.{sheltered-seen, map-alike}
@@ -140,6 +140,7 @@ report-seen kind words l g = go (verdictOf kind (storeVectorAndReplant words l .
     go : (v : Verdict) → verdictOf kind (storeVectorAndReplant words l .process) ≡ v → seenOf (carriedOut v kind (storeVectorAndReplant words l)) ≡ seenOf (storeVectorAndReplant words l)
     go Stops e = refl
     go (CountsDown k) e = passed-seen k (storeVectorAndReplant words l) (counts-low kind (storeVectorAndReplant words l .process) k e) (vector-proper words l g)
+    go GoesOn e = refl
 
 pub seen-stays : SeenStays
 seen-stays = record { break = break-seen; unbreak = unbreak-seen; stop = stop-seen; step = step-seen; proceed = proceed-seen; report = report-seen }
@@ -202,6 +203,16 @@ pub store-is-unseen : StoreIsUnseen
 unfolding StoreIsUnseen
 store-is-unseen l k i v h p c = under (l .process .breaks) (l .bytes) k i v h p c
 
+-- ---- a running process
+
+pub running-is-planted : RunningIsPlanted
+unfolding RunningIsPlanted
+running-is-planted p s r k h u = go (entry p k .lifted) refl
+  where
+    go : (t : Bool) → entry p k .lifted ≡ t → isPlanted (entry p k) ≡ true
+    go true x = let while : steppingOrPassing (p .run) ≡ true = s .lifted-while k h u x in absurd (true≢false (sym (rw r at while)))
+    go false x = rw (u, x)
+
 -- ---- a sound record stays sound
 
 end-debug-sound : (l : Local) → Proper l → Sound (endDebugged l .process)
@@ -220,20 +231,25 @@ stop-sound l g = go (moving (l .process .run))
         (sound-replanted (l .process) (sound-of l g) (g .eight) (l .bytes))
     go false = sound-of l g
 
--- a breakpoint that is lifted as a process that had none lifted starts to move
-lifted-moves : (r : Run) (pc : ℕ) (l : Local) → Proper l → moving r ≡ true → NoneLifted (l .process) → Sound (withRun r (liftedAt pc l .process))
-unfolding liftedAt liftedIn
-lifted-moves r pc l g m none = go (ltb (find (At pc) (l .process)) 8) refl
-  where
-    moved : Sound (withRun r (l .process))
-    moved = sound-run r (l .process) (λ k h u x. m) (sound-of l g)
+-- the breakpoint in an entry is lifted as a process that had none lifted starts to step or to pass
+module _ (l : Local) (g : Proper l) (none : NoneLifted (l .process)) where
+  lifted-in-sound : (r : Run) (k : ℕ) → steppingOrPassing r ≡ true → k < 8 → entry (l .process) k .used ≡ true → Sound (withRun r (liftedIn k l .process))
+  unfolding liftedIn
+  lifted-in-sound r k while h u =
+      sound-lifted (withRun r (l .process)) (sound-run r (l .process) (λ j i v x. while) (sound-of l g)) (g .eight) k h u while none
 
-    go : (t : Bool) → ltb (find (At pc) (l .process)) 8 ≡ t → Sound (withRun r (cond t (liftedIn (find (At pc) (l .process)) l) l .process))
-    go true e =
-        let h : find (At pc) (l .process) < 8 = ltb-true _ _ e in
-        let u = matches-at pc (entry (l .process) (find (At pc) (l .process))) (find-matches (At pc) (l .process) (g .eight) h) .0 in
-        sound-lifted (withRun r (l .process)) moved (g .eight) (find (At pc) (l .process)) h u m none
-    go false e = moved
+  -- and the one at PC, if there is one
+  lifted-at-sound : (r other : Run) (pc : ℕ) → steppingOrPassing r ≡ true
+      → Sound (withRun (cond (hasBreak pc (l .process)) r other) (liftedAt pc l .process))
+  unfolding liftedAt hasBreak
+  lifted-at-sound r other pc while = go (ltb (find (At pc) (l .process)) 8) refl
+    where
+      go : (t : Bool) → ltb (find (At pc) (l .process)) 8 ≡ t
+          → Sound (withRun (cond t r other) (cond t (liftedIn (find (At pc) (l .process)) l) l .process))
+      go true e =
+          let h : find (At pc) (l .process) < 8 = ltb-true _ _ e in
+          lifted-in-sound r (find (At pc) (l .process)) while h (matches-at pc _ (find-matches (At pc) (l .process) (g .eight) h) .0)
+      go false e = sound-run other (l .process) (λ k h u x. absurd (none k h u x)) (sound-of l g)
 
 step-sound : (l : Local) → Proper l → stoppedOrAtBreak (l .process .run) ≡ true → Sound (stepped l .process)
 unfolding stepped
@@ -242,15 +258,23 @@ step-sound l g e = go (atBreak (l .process .run))
     none : NoneLifted (l .process)
     none = still-none (l .process) (sound-of l g) (g .eight) (stoppedOrAtBreak-still (l .process .run) e)
 
+    same : (t : Bool) → cond t Stepping Stepping ≡ Stepping
+    same true = refl
+    same false = refl
+
     go : (t : Bool) → Sound (onRecord (withRun Stepping) (cond t (liftedAt (pc (l .process)) l) l) .process)
-    go true = lifted-moves Stepping (pc (l .process)) l g refl none
+    go true = rw same at (lifted-at-sound l g none Stepping Stepping (pc (l .process)) refl)
     go false = sound-run Stepping (l .process) (λ k h u x. refl) (sound-of l g)
+
+resume-sound : (p : Process) → Sound p → stoppedOrAtBreak (p .run) ≡ true → Sound (withRun Running p)
+resume-sound p s e =
+    sound-run Running p (λ k h u x. absurd (true≢false (sym (s .lifted-while k h u x) ∙ stoppedOrAtBreak-still (p .run) e))) s
 
 proceed-sound : (l : Local) → Proper l → atBreak (l .process .run) ≡ true → Sound (proceeded l .process)
 unfolding proceeded
 proceed-sound l g e =
-    lifted-moves Running (pc (l .process)) l g refl
-    (still-none (l .process) (sound-of l g) (g .eight) (stoppedOrAtBreak-still (l .process .run) (atBreak-stopped (l .process .run) e)))
+    let still = stoppedOrAtBreak-still (l .process .run) (atBreak-stopped (l .process .run) e) in
+    lifted-at-sound l g (still-none (l .process) (sound-of l g) (g .eight) still) Passing Running (pc (l .process)) refl
 
 deposit-sound : (at : ℕ) (string : List ℕ) (l : Local) → Proper l → Sound (deposited at string l .process)
 unfolding deposited
@@ -326,22 +350,26 @@ none-counted k n p h none j i = go (eqb j k) refl
     go false e = rw (getD-set-other (p .breaks) k j (withCount n (entry p k)) free (eqb-false j k e)) (none j i)
 
 passed-sound : (k : ℕ) (l : Local) → k < 8 → Proper l → entry (l .process) k .used ≡ true → moving (l .process .run) ≡ true → NoneLifted (l .process) → Sound (passed k l .process)
-unfolding passed liftedIn
+unfolding passed
 passed-sound k l h g u m none =
     let n = entry (l .process) k .count - 1 in
     let c = counted-proper k n l h g in
     let e = g .eight in
     let long : k < length (l .process .breaks) = omega arith in
     let here = entry-counted k n (l .process) long in
-    sound-lifted (withEntry k (withCount n (entry (l .process) k)) (l .process)) (sound-of _ c) (c .eight) k h (rw here u) m (none-counted k n (l .process) long none)
+    lifted-in-sound _ c (none-counted k n (l .process) long none) (afterPass (l .process .run)) k (after-pass-lifts (l .process .run) m) h (rw here u)
 
 report-sound : (kind : ℕ) (words : List ℕ) (l : Local) → Proper l → accepts kind (l .process .run) ≡ true → Sound (reported kind words l .process)
 unfolding reported
 report-sound kind words l g a = go (verdictOf kind (storeVectorAndReplant words l .process)) refl
   where
+    stored-run : (r : Run) → Sound (withRun r (storeVectorAndReplant words l .process))
+    stored-run r =
+        sound-run r (storeVectorAndReplant words l .process) (λ k h u x. absurd (none-stored words l g k h u x)) (sound-of (storeVectorAndReplant words l) (vector-proper words l g))
+
     go : (v : Verdict) → verdictOf kind (storeVectorAndReplant words l .process) ≡ v → Sound (carriedOut v kind (storeVectorAndReplant words l) .process)
-    go Stops e =
-        sound-run (runAfter kind) (storeVectorAndReplant words l .process) (λ k h u x. absurd (none-stored words l g k h u x)) (sound-of (storeVectorAndReplant words l) (vector-proper words l g))
+    go Stops e = stored-run (runAfter kind)
+    go GoesOn e = stored-run Running
     go (CountsDown k) e =
         let proper′ = vector-proper words l g in
         passed-sound k (storeVectorAndReplant words l) (counts-low kind (storeVectorAndReplant words l .process) k e) proper′ (counts-used kind (storeVectorAndReplant words l .process) (proper′ .eight) k e)
@@ -352,7 +380,7 @@ sound-stays = record {
   debug = λ host p s t n. sound-host host p t n s;
   end-debug = end-debug-sound;
   stop = stop-sound;
-  resume = λ p s. sound-run Running p (λ k h u x. refl) s;
+  resume = resume-sound;
   step = step-sound;
   proceed = proceed-sound;
   deposit = deposit-sound;

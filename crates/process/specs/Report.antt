@@ -4,10 +4,11 @@ use mathlib.Core.List.{List}
 use Prim.Native.Nat.{ℕ, _-_}
 use lib.Dec.{ltb, eqb}
 use Rattle.run_state.specs.ReportKind.{BPT}
-use Rattle.run_state.specs.RunState.{runAfter}
+use Rattle.run_state.specs.declared.Run.the-variants.{Running}
+use Rattle.run_state.specs.RunState.{runAfter, afterPass, goesOn}
 use Rattle.process.specs.declared.record.Process.{Process}
 use Rattle.process.specs.declared.report.Verdict.{Verdict}
-use Rattle.process.specs.declared.report.Verdict.the-variants.{Stops, CountsDown}
+use Rattle.process.specs.declared.report.Verdict.the-variants.{Stops, CountsDown, GoesOn}
 use Rattle.breakpoints.specs.declared.entry_query.EntryQuery.the-variants.{At}
 use Rattle.breakpoints.specs.Entry.{withCount}
 use Rattle.process.specs.Record.{entry, withRun, withVector, withEntry}
@@ -24,18 +25,21 @@ storeVectorAndReplant words l = replanted (onRecord (withVector words) l)
 unfoldable pub passes : ℕ → Process → Bool
 passes kind p = eqb kind BPT && (hasBreak (pc p) p && ltb 0 (entry p (find (At (pc p)) p) .count))
 
--- what a report comes to, at a process whose vector is stored: the breakpoint at PC counts down, or the process stops
+-- what a report comes to, at a process whose vector is stored: it goes on, the breakpoint at PC counts down, or it stops
 unfoldable pub verdictOf : ℕ → Process → Verdict
-verdictOf kind p = cond (passes kind p) (CountsDown (find (At (pc p)) p)) Stops
+verdictOf kind p = cond (goesOn kind (p .run)) GoesOn (cond (passes kind p) (CountsDown (find (At (pc p)) p)) Stops)
 
--- 'the count falls by one, that breakpoint is lifted, the run state stays'
+-- 'the count falls by one, that breakpoint is lifted', and a running process is passing: 'a silent pass'
 unfoldable pub passed : ℕ → Local → Local
-passed k l = liftedIn k (onRecord (withEntry k (withCount (entry (l .process) k .count - 1) (entry (l .process) k))) l)
+passed k l =
+    onRecord (withRun (afterPass (l .process .run)))
+    (liftedIn k (onRecord (withEntry k (withCount (entry (l .process) k .count - 1) (entry (l .process) k))) l))
 
--- what each verdict does
+-- what each verdict does; of one that goes on: 'the stub replants the word and the process runs'
 abbrev pub carriedOut : Verdict → ℕ → Local → Local
 carriedOut Stops kind l = onRecord (withRun (runAfter kind)) l
 carriedOut (CountsDown k) kind l = passed k l
+carriedOut GoesOn kind l = onRecord (withRun Running) l
 
 -- a report about a process that accepts it
 unfoldable pub reported : ℕ → List ℕ → Local → Local
@@ -46,6 +50,7 @@ reported kind words l =
 abbrev pub toldBy : Verdict → ℕ → ℕ
 toldBy Stops host = host
 toldBy (CountsDown k) host = 0
+toldBy GoesOn host = 0
 
 -- the host that a report about a process tells; 0 is nobody
 unfoldable pub recipientOf : ℕ → List ℕ → Local → ℕ

@@ -6,7 +6,7 @@ use lib.ListN.{length, take, drop, getD, replicate}
 use lib.Seq.{paste}
 use lib.Dec.{ltb}
 use Rattle.lists.specs.Word.{lowFirst, vectorOf}
-use Rattle.run_state.specs.declared.Run.the-variants.{Running, Stepping, Stopped}
+use Rattle.run_state.specs.declared.Run.the-variants.{Running, Stepping, Stopped, Passing}
 use Rattle.process.specs.declared.record.Process.{Process}
 use Rattle.breakpoints.specs.declared.entry.Breakpoint.{Breakpoint}
 use Rattle.breakpoints.specs.declared.entry_query.EntryQuery.the-variants.{Free, At}
@@ -56,7 +56,7 @@ endDebugged l =
 
 -- ---- STOP, RESUME, SINGLE STEP, PROCEED BPT
 
--- 'running or stepping becomes stopped, and a lifted breakpoint is planted again. Other states stay.'
+-- 'running or stepping becomes stopped, and a lifted breakpoint is planted again. Other states stay.'; of passing: 'STOP makes it stopped'
 unfoldable pub stopped : Local → Local
 stopped l = cond (moving (l .process .run)) (onRecord (withRun Stopped) (replanted l)) l
 
@@ -69,9 +69,10 @@ unfoldable pub stepped : Local → Local
 stepped l =
     onRecord (withRun Stepping) (cond (atBreak (l .process .run)) (liftedAt (pc (l .process)) l) l)
 
--- 'lifts the one at PC, if there, then running'
+-- 'lifts the one at PC, if there, then running'; but passing 'where a breakpoint was lifted'
 unfoldable pub proceeded : Local → Local
-proceeded l = onRecord (withRun Running) (liftedAt (pc (l .process)) l)
+proceeded l =
+    onRecord (withRun (cond (hasBreak (pc (l .process)) (l .process)) Passing Running)) (liftedAt (pc (l .process)) l)
 
 -- ---- DEPOSIT and EXAMINE
 

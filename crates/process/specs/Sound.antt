@@ -4,7 +4,7 @@ use mathlib.Core.Bool.{Bool, true, false, not, _&&_, _||_}
 use Prim.Native.Nat.{ℕ, _+_, _≤_, _<_, _%_}
 use lib.Dec.{eqb}
 use Rattle.lists.specs.Every.{below}
-use Rattle.run_state.specs.RunState.{moving}
+use Rattle.run_state.specs.RunState.{steppingOrPassing}
 use Rattle.process.specs.declared.record.Process.{Process}
 use Rattle.breakpoints.specs.declared.entry_query.EntryQuery.the-variants.{Lifted, At}
 use Rattle.breakpoints.specs.Entry.{validBreakAddress}
@@ -36,8 +36,8 @@ pub record Sound (p : Process) : Type 0 where
   pub within : (k : ℕ) → k < entryCount → entry p k .used ≡ true → entry p k .address + 2 ≤ p .size
   -- 'at most one is lifted'
   pub one-lifted : (j k : ℕ) → j < k → k < entryCount → entry p j .used ≡ true → entry p k .used ≡ true → entry p j .lifted ≡ true → entry p k .lifted ≡ true → ⊥
-  -- 'and only while running or stepping'
-  pub moves : (k : ℕ) → k < entryCount → entry p k .used ≡ true → entry p k .lifted ≡ true → moving (p .run) ≡ true
+  -- 'Sound now allows a lifted one only while stepping or passing.'
+  pub lifted-while : (k : ℕ) → k < entryCount → entry p k .used ≡ true → entry p k .lifted ≡ true → steppingOrPassing (p .run) ≡ true
 
 -- an absent process has no host
 unfoldable pub absentHasNoHost : Process → Bool
@@ -47,9 +47,9 @@ absentHasNoHost p = p .there || eqb (p .host) 0
 abbrev pub addressIsUnique : Process → ℕ → Bool
 addressIsUnique p k = eqb (find (At (entry p k .address)) p) k
 
--- an entry is not lifted, or the process moves and no earlier entry is lifted
+-- an entry is not lifted, or the process is stepping or passing and no earlier entry is lifted
 unfoldable pub liftSound : Process → ℕ → Bool
-liftSound p k = not (entry p k .lifted) || (moving (p .run) && eqb (find Lifted p) k)
+liftSound p k = not (entry p k .lifted) || (steppingOrPassing (p .run) && eqb (find Lifted p) k)
 
 -- an entry in use: there is a host, the address is valid, no earlier entry has it, and it may be lifted if it is
 unfoldable pub usedSound : Process → ℕ → Bool

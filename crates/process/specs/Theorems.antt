@@ -54,12 +54,17 @@ StoreIsUnseen =
     (l : Local) (k i v : ℕ) → k < length (l .process .breaks) → isPlanted (entry (l .process) k) ≡ true
     → (i ≡ entry (l .process) k .address) ⊎ (i ≡ entry (l .process) k .address + 1) → seen (l .process .breaks) (set (l .bytes) i v) ≡ seenOf l
 
+-- 'Breakpoints in loops never come back.' no more: while a sound process runs, every breakpoint of it is planted
+unfoldable pub RunningIsPlanted : Type 0
+RunningIsPlanted =
+    (p : Process) → Sound p → p .run ≡ Running → (k : ℕ) → k < entryCount → entry p k .used ≡ true → isPlanted (entry p k) ≡ true
+
 -- a sound record stays sound, whatever a request or a report does to it
 pub record SoundStays : Type 0 where
   pub debug : (host : ℕ) (p : Process) → Sound p → p .there ≡ true → (host ≡ 0 → ⊥) → Sound (withHost host p)
   pub end-debug : (l : Local) → Proper l → Sound (endDebugged l .process)
   pub stop : (l : Local) → Proper l → Sound (stopped l .process)
-  pub resume : (p : Process) → Sound p → Sound (withRun Running p)
+  pub resume : (p : Process) → Sound p → stoppedOrAtBreak (p .run) ≡ true → Sound (withRun Running p)
   pub step : (l : Local) → Proper l → stoppedOrAtBreak (l .process .run) ≡ true → Sound (stepped l .process)
   pub proceed : (l : Local) → Proper l → atBreak (l .process .run) ≡ true → Sound (proceeded l .process)
   pub deposit : (at : ℕ) (string : List ℕ) (l : Local) → Proper l → Sound (deposited at string l .process)

@@ -17,6 +17,8 @@ pub enum Verdict {
     Stops,
     // The process passes the breakpoint in this entry silently.
     CountsDown(usize),
+    // The process has executed the instruction under a lifted breakpoint, and runs; nobody is told.
+    GoesOn,
 }
 
 // A process after a report, and the host that is told of it; 0 is nobody.
@@ -36,10 +38,14 @@ impl Process {
         p.replant(bytes)
     }
 
-    // A BPT at a breakpoint whose count is above 0 counts down; any other report stops the process.
+    // A TTRAP while passing lets the process go on; a BPT at a breakpoint whose count is above 0 counts down; any other report stops it.
     fn verdict(self, kind: u8) -> Verdict
         ensures { λ r. ⌜ r ≡ verdictOf kind self ⌝ }
     {
+        let run = self.run;
+        if run.goes_on(kind) {
+            return Verdict::GoesOn;
+        }
         if kind != BPT {
             return Verdict::Stops;
         }
@@ -54,7 +60,7 @@ impl Process {
         Verdict::Stops
     }
 
-    // Passes the breakpoint in entry k: its count falls by one, and it is lifted.
+    // Passes the breakpoint in entry k: its count falls by one, it is lifted, and a running process is passing.
     fn pass(self, k: usize, bytes: &mut [u8]) -> Self
         requires { ⌜ (k < entryCount) × Inside self (now bytes) × (0 < entry self k .count) ⌝ }
         ensures { λ r. ⌜ r ≡ passed k (local self (now (bytes .entry))) .process ⌝ }
@@ -62,7 +68,19 @@ impl Process {
     {
         let b = self.breaks[k];
         b.restore(bytes);
-        self.with_entry(k, b.with_count(b.count - 1).with_lifted())
+        let run = self.run;
+        let p = self.with_entry(k, b.with_count(b.count - 1).with_lifted());
+        p.with_run(run.after_pass())
+    }
+
+    // This process after a report, and whom it tells.
+    fn telling(self, host: u8) -> ReportResult
+        ensures { λ r. ⌜ (r .process ≡ self) × (r .told ≡ host) ⌝ }
+    {
+        ReportResult {
+            process: self,
+            told: host,
+        }
     }
 
     // A report of this kind about a process that accepts it.
@@ -75,14 +93,9 @@ impl Process {
         let p = self.store_vector_and_replant(vector, bytes);
         let verdict = p.verdict(kind);
         match verdict {
-            Verdict::Stops => ReportResult {
-                process: p.with_run(Run::after(kind)),
-                told: self.host,
-            },
-            Verdict::CountsDown(k) => ReportResult {
-                process: p.pass(k, bytes),
-                told: 0,
-            },
+            Verdict::Stops => p.with_run(Run::after(kind)).telling(self.host),
+            Verdict::CountsDown(k) => p.pass(k, bytes).telling(0),
+            Verdict::GoesOn => p.with_run(Run::Running).telling(0),
         }
     }
 }

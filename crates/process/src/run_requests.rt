@@ -1,6 +1,8 @@
 // The requests that stop a process or let it go on: STOP, RESUME, SINGLE STEP and PROCEED BPT. The gateway has tested before that the
 // record is sound, that the process has all its bytes, and what the request itself asks.
+use crate::find::FoundEntry;
 use crate::record::Process;
+use breakpoints::EntryQuery;
 use run_state::Run;
 ghost use mathlib.Core.Path.{_≡_};
 ghost use Rattle.process.specs.Local.{local, Tested};
@@ -45,7 +47,11 @@ impl Process {
         ensures { λ r. ⌜ r ≡ proceeded (local self (now (bytes .entry))) .process ⌝ }
         ensures { λ _. ⌜ now (bytes .exit) ≡ proceeded (local self (now (bytes .entry))) .bytes ⌝ }
     {
-        let p = self.lift_at(self.pc(), bytes);
-        p.with_run(Run::Running)
+        let found = self.find(EntryQuery::At(self.pc()));
+        let FoundEntry::Index(k) = found else {
+            return self.with_run(Run::Running);
+        };
+        let p = self.lift_in(k, bytes);
+        p.with_run(Run::Passing)
     }
 }

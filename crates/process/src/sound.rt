@@ -42,7 +42,7 @@ impl Process {
         if self.there { true } else { self.host == 0 }
     }
 
-    // Entry k, which is in use, is not lifted, or the process moves and no earlier entry is lifted.
+    // Entry k, which is in use, is not lifted, or the process is stepping or passing and no earlier entry is lifted.
     fn lift_sound(self, k: usize, lifted: bool, earlier: bool) -> bool
         requires { ⌜ (k < entryCount) × (entry self k .used ≡ true) × (lifted ≡ entry self k .lifted) × (earlier ≡ ltb (find Lifted self) k) ⌝ }
         ensures { λ r. ⌜ r ≡ liftSound self k ⌝ }
@@ -54,7 +54,7 @@ impl Process {
             return false;
         }
         let run = self.run;
-        run.moving()
+        run.stepping_or_passing()
     }
 
     // No entry before k, which is in use, has its address.

@@ -1,6 +1,6 @@
 // What is proved of a process by itself. These functions do nothing: each one's contract is a theorem, so that the check of this
 // crate includes it.
-ghost use Rattle.process.specs.Theorems.{TestIsSound, DepositIsSeen, SeenStays, EndDebugRestores, StoreIsUnseen, SoundStays};
+ghost use Rattle.process.specs.Theorems.{TestIsSound, DepositIsSeen, SeenStays, EndDebugRestores, StoreIsUnseen, RunningIsPlanted, SoundStays};
 
 // The test of soundness passes exactly the sound records.
 pub fn test_is_sound()
@@ -25,6 +25,11 @@ pub fn end_debug_restores()
 // What the machine stores into a planted word is not seen.
 pub fn store_is_unseen()
     ensures { λ _. ⌜ StoreIsUnseen ⌝ }
+{}
+
+// While a sound process runs, every breakpoint of it is planted.
+pub fn running_is_planted()
+    ensures { λ _. ⌜ RunningIsPlanted ⌝ }
 {}
 
 // A sound record stays sound under every request and report.

@@ -23,3 +23,5 @@ pub mod FreeLaws
 pub mod CreateLaws
 pub mod DestroyLaws
 pub mod LedgerLaws
+pub mod LapLaws
+pub mod LoopLaws

@@ -161,8 +161,8 @@ destroy-proper = proper-of (local cleared []) (sound-stays .destroy) refl refl
 pub host-proper : (host : ℕ) (l : Local) → Proper l → l .process .there ≡ true → (host ≡ 0 → ⊥) → Proper (onRecord (withHost host) l)
 host-proper host l g there n = proper-of (onRecord (withHost host) l) (sound-stays .debug host (l .process) (sound-of l g) there n) (g .eight) (g .tested .size)
 
-pub resume-proper : (l : Local) → Proper l → Proper (onRecord (withRun Running) l)
-resume-proper l g = proper-of (onRecord (withRun Running) l) (sound-stays .resume (l .process) (sound-of l g)) (g .eight) (g .tested .size)
+pub resume-proper : (l : Local) → Proper l → stoppedOrAtBreak (l .process .run) ≡ true → Proper (onRecord (withRun Running) l)
+resume-proper l g e = proper-of (onRecord (withRun Running) l) (sound-stays .resume (l .process) (sound-of l g) e) (g .eight) (g .tested .size)
 
 pub vector-proper : (v : List ℕ) (l : Local) → Proper l → Proper (onRecord (withVector v) l)
 vector-proper v l g = proper-of (onRecord (withVector v) l) (sound-stays .deposit-vector v (l .process) (sound-of l g)) (g .eight) (g .tested .size)

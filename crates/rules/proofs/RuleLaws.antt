@@ -23,7 +23,7 @@ use Rattle.process.specs.Local.{Local, Proper}
 use Rattle.process.specs.Planting.{plantedIn, liftedIn, removedFrom, replanted, liftedAt}
 use Rattle.process.specs.Request.{pc, onRecord, hasBreak, hasRoom, endDebugged, stopped, resumed, stepped, proceeded, deposited, vectorAfter, vectorDeposited, breakSet, breakRemoved, cleared, destroyed}
 use Rattle.process.specs.declared.report.Verdict.{Verdict}
-use Rattle.process.specs.declared.report.Verdict.the-variants.{Stops, CountsDown}
+use Rattle.process.specs.declared.report.Verdict.the-variants.{Stops, CountsDown, GoesOn}
 use Rattle.process.specs.Report.{storeVectorAndReplant, verdictOf, passed, carriedOut, reported}
 use Rattle.rules.specs.Rule.{Public, public, Rule, rules, noRule, debugRule, endDebugRule, examineRule, breakRule, unbreakRule, plain, whileRun, inRange, upTo, ruleOf}
 use Rattle.rules.specs.Access.{Asker, by}
@@ -109,7 +109,7 @@ pub public-replanted : (l : Local) → public (replanted l .process) ≡ public 
 unfolding replanted plantedIn public
 public-replanted l = by-public (ltb (find Lifted (l .process)) 8) _ l _ refl refl
 
-public-liftedAt : (at : ℕ) (l : Local) → public (liftedAt at l .process) ≡ public (l .process)
+pub public-liftedAt : (at : ℕ) (l : Local) → public (liftedAt at l .process) ≡ public (l .process)
 unfolding liftedAt liftedIn public
 public-liftedAt at l = by-public (ltb (find (At at) (l .process)) 8) _ l _ refl refl
 
@@ -120,6 +120,7 @@ public-reported kind words l = go (verdictOf kind (storeVectorAndReplant words l
     go : (v : Verdict) → public (carriedOut v kind (storeVectorAndReplant words l) .process) ≡ public (l .process)
     go Stops = public-replanted (onRecord (withVector words) l)
     go (CountsDown k) = public-replanted (onRecord (withVector words) l)
+    go GoesOn = public-replanted (onRecord (withVector words) l)
 
 -- ---- the words of the vector
 
@@ -141,6 +142,7 @@ count-reported kind words l = go (verdictOf kind (storeVectorAndReplant words l 
     go : (v : Verdict) → count (carriedOut v kind (storeVectorAndReplant words l)) ≡ length words
     go Stops = count-replanted (onRecord (withVector words) l)
     go (CountsDown k) = count-replanted (onRecord (withVector words) l)
+    go GoesOn = count-replanted (onRecord (withVector words) l)
 
 -- ---- rows that ask the right, and leave the public part
 
@@ -228,7 +230,7 @@ deposit-row =
 
 resume-row : Row 5 (whileRun stoppedOrAtBreak (λ h s. resumed))
 unfolding public
-resume-row = quiet-row 5 (whileRun stoppedOrAtBreak (λ h s. resumed)) (by-others 5 refl refl refl) held (λ h s l. refl) (λ h s l n. n) (λ h s l g p. resume-proper l g)
+resume-row = quiet-row 5 (whileRun stoppedOrAtBreak (λ h s. resumed)) (by-others 5 refl refl refl) held (λ h s l. refl) (λ h s l n. n) (λ h s l g p. resume-proper l g (p .runs))
 
 examine-row : Row 6 examineRule
 examine-row = quiet-row 6 examineRule (by-others 6 refl refl refl) held (λ h s l. refl) (λ h s l n. n) (λ h s l g p. g)

@@ -14,3 +14,4 @@ pub mod Total
 pub mod Rights
 pub mod OneMemory
 pub mod Ledger
+pub mod Loops

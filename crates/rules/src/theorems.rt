@@ -4,6 +4,7 @@ ghost use Rattle.rules.specs.Total.{Total};
 ghost use Rattle.rules.specs.Rights.{Rights};
 ghost use Rattle.rules.specs.OneMemory.{OneMemory};
 ghost use Rattle.rules.specs.Ledger.{Ledger};
+ghost use Rattle.rules.specs.Loops.{Loops};
 ghost use Rattle.rules.specs.Together.{Isolation};
 
 // Every call is answered by the number of the first test that fails, or granted where none does; a refusal changes nothing; a sound state
@@ -33,4 +34,10 @@ pub fn one_memory()
 // Free bytes and the sizes that calls and answers tell make 16,384, over lists of any length.
 pub fn ledger()
     ensures { λ _. ⌜ Ledger ⌝ }
+{}
+
+// Breakpoints in loops come back: while a process runs, every breakpoint of it is planted; one with a remaining count is passed that many
+// times and nothing is sent, and then it sends the notice every time, whatever else is called meanwhile.
+pub fn loops()
+    ensures { λ _. ⌜ Loops ⌝ }
 {}

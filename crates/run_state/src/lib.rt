@@ -1,7 +1,7 @@
 // The run state of a process: its cases, their numbers, every question that is asked of one, and what a machine report of each kind
-// makes of it. A new run state changes this crate alone.
+// makes of it. What is asked of a new run state is answered in this crate alone.
 ghost use mathlib.Core.Path.{_≡_};
-ghost use Rattle.run_state.specs.RunState.{runNumber, isRunNumber, runOf, moving, stepping, stoppedOrAtBreak, atBreak, released, accepts, runAfter};
+ghost use Rattle.run_state.specs.RunState.{runNumber, isRunNumber, runOf, moving, passing, steppingOrPassing, stoppedOrAtBreak, atBreak, released, afterPass, goesOn, accepts, runAfter};
 
 // The kinds of machine report.
 pub const TRAP: u8 = 0;
@@ -13,15 +13,16 @@ pub const BPT: u8 = 2;
 pub const TTRAP: u8 = 3;
 
 // The highest number of a run state.
-pub const LAST_RUN_NUMBER: u8 = 4;
+pub const LAST_RUN_NUMBER: u8 = 5;
 
-// What a process is doing.
+// What a process is doing. Passing: it executes the one instruction under a breakpoint that was lifted, and then runs.
 pub enum Run {
     Running,
     Stepping,
     Stopped,
     AtBreak,
     Ended,
+    Passing,
 }
 
 impl Run {
@@ -35,10 +36,11 @@ impl Run {
             Run::Stopped => 2,
             Run::AtBreak => 3,
             Run::Ended => 4,
+            Run::Passing => 5,
         }
     }
 
-    // Running or stepping.
+    // Running, stepping or passing.
     pub fn moving(self) -> bool
         ensures { λ r. ⌜ r ≡ moving self ⌝ }
     {
@@ -48,11 +50,26 @@ impl Run {
             Run::Stopped => false,
             Run::AtBreak => false,
             Run::Ended => false,
+            Run::Passing => true,
         }
     }
 
-    fn stepping(self) -> bool
-        ensures { λ r. ⌜ r ≡ stepping self ⌝ }
+    fn passing(self) -> bool
+        ensures { λ r. ⌜ r ≡ passing self ⌝ }
+    {
+        match self {
+            Run::Running => false,
+            Run::Stepping => false,
+            Run::Stopped => false,
+            Run::AtBreak => false,
+            Run::Ended => false,
+            Run::Passing => true,
+        }
+    }
+
+    // Whether the machine executes one instruction and then reports TTRAP; a breakpoint may be lifted only then.
+    pub fn stepping_or_passing(self) -> bool
+        ensures { λ r. ⌜ r ≡ steppingOrPassing self ⌝ }
     {
         match self {
             Run::Running => false,
@@ -60,6 +77,7 @@ impl Run {
             Run::Stopped => false,
             Run::AtBreak => false,
             Run::Ended => false,
+            Run::Passing => true,
         }
     }
 
@@ -72,6 +90,7 @@ impl Run {
             Run::Stopped => true,
             Run::AtBreak => true,
             Run::Ended => false,
+            Run::Passing => false,
         }
     }
 
@@ -84,6 +103,7 @@ impl Run {
             Run::Stopped => false,
             Run::AtBreak => true,
             Run::Ended => false,
+            Run::Passing => false,
         }
     }
 
@@ -97,7 +117,32 @@ impl Run {
             Run::Stopped => Run::Running,
             Run::AtBreak => Run::Running,
             Run::Ended => Run::Ended,
+            Run::Passing => Run::Running,
         }
+    }
+
+    // The run state of a process that passes a breakpoint without notice: a running one is passing now.
+    pub fn after_pass(self) -> Run
+        ensures { λ r. ⌜ r ≡ afterPass self ⌝ }
+    {
+        match self {
+            Run::Running => Run::Passing,
+            Run::Stepping => Run::Stepping,
+            Run::Stopped => Run::Stopped,
+            Run::AtBreak => Run::AtBreak,
+            Run::Ended => Run::Ended,
+            Run::Passing => Run::Passing,
+        }
+    }
+
+    // Whether a process in this run state goes on after a report of this kind, which nobody is told of: TTRAP while passing.
+    pub fn goes_on(self, kind: u8) -> bool
+        ensures { λ r. ⌜ r ≡ goesOn kind self ⌝ }
+    {
+        if kind != TTRAP {
+            return false;
+        }
+        self.passing()
     }
 
     // Whether a process in this run state may send a report of this kind.
@@ -105,7 +150,7 @@ impl Run {
         ensures { λ r. ⌜ r ≡ accepts kind self ⌝ }
     {
         if kind == TTRAP {
-            self.stepping()
+            self.stepping_or_passing()
         } else {
             self.moving()
         }
@@ -147,6 +192,9 @@ pub fn run_of(n: u8) -> Run
     }
     if n == 4 {
         return Run::Ended;
+    }
+    if n == 5 {
+        return Run::Passing;
     }
     Run::Running
 }

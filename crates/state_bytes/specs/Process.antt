@@ -41,7 +41,7 @@ processOf m = record {
 
 -- ---- bytes that are a process's
 
--- the flag is 0 or 1, and the run state one of the five; any size is formed
+-- the flag is 0 or 1, and the run state one of the six; any size is formed
 unfoldable pub headFormed : List ℕ → Bool
 headFormed m = leb (getD m thereAt 0) 1 && isRunNumber (getD m runAt 0)
 
@@ -51,7 +51,7 @@ processFormed m = headFormed m && everyChunk entryWidth entryFormed entryCount (
 
 -- ---- and of a sound record
 
--- the run state is one of the five, the size is valid, and the process is there, or absent with no host
+-- the run state is one of the six, the size is valid, and the process is there, or absent with no host
 unfoldable pub headSound : List ℕ → Bool
 headSound m =
     isRunNumber (getD m runAt 0)

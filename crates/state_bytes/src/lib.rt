@@ -3,7 +3,7 @@
 //     87 bytes for each of the eight processes, from process 0 on:
 //         0        there: 0 or 1
 //         1        the host that debugs it, or 0
-//         2        run state: 0 running, 1 stepping, 2 stopped, 3 at a breakpoint, 4 ended
+//         2        run state: 0 running, 1 stepping, 2 stopped, 3 at a breakpoint, 4 ended, 5 passing
 //         3, 4     size
 //         5 to 22  the nine words R0 to R5, SP, PC, PS
 //         23       8 bytes for each of the eight entries:

@@ -117,7 +117,7 @@ pub(crate) fn put_process(p: Process, bytes: &mut [u8])
     put_entries(breaks, &mut bytes[ENTRIES_AT..]);
 }
 
-// The run state is one of the five, the size is valid, and the process is there, or absent with no host.
+// The run state is one of the six, the size is valid, and the process is there, or absent with no host.
 pub(crate) fn head_sound(bytes: &[u8]) -> bool
     requires { ⌜ headWidth ≤ length (now bytes) ⌝ }
     ensures { λ r. ⌜ r ≡ headSound (now (bytes .entry)) ⌝ }

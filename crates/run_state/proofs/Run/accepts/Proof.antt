@@ -7,19 +7,19 @@ use Rattle.run_state.specs.RunState.{accepts}
 use Rattle.run_state.proofs.Run.accepts.Statement.{statement}
 use Rattle.run_state.proofs.Run.accepts.Tie as tie
 
-stepping-requires : tie.Need-stepping-requires
-stepping-requires c κs = search needs
+stepping-or-passing-requires : tie.Need-stepping-or-passing-requires
+stepping-or-passing-requires c κs = search needs
 
 moving-requires : tie.Need-moving-requires
 moving-requires c κs = search needs
 
 returns : tie.Need-returns
 unfolding accepts
-returns c = let ttrap : c .before .before .args .kind ≡ 3 = omega arith in rw (eq-eqb _ _ ttrap) (c .stepping .ensures)
+returns c = let ttrap : c .before .before .args .kind ≡ 3 = omega arith in rw (eq-eqb _ _ ttrap) (c .stepping-or-passing .ensures)
 
 returns-2 : tie.Need-returns-2
 unfolding accepts
 returns-2 c = let other : c .before .before .args .kind ≡ 3 → ⊥ = λ ttrap. omega arith in rw (ne-eqb _ _ other) (c .moving .ensures)
 
 pub accepts-spec : {M : Type 1} → statement M
-accepts-spec = tie.close (tie.spec stepping-requires moving-requires returns returns-2)
+accepts-spec = tie.close (tie.spec stepping-or-passing-requires moving-requires returns returns-2)

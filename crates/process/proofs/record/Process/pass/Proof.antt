@@ -31,15 +31,23 @@ with-lifted-requires c κs = search needs
 with-entry-requires : tie.Need-with-entry-requires
 with-entry-requires c κs = search needs
 
+after-pass-requires : tie.Need-after-pass-requires
+after-pass-requires c κs = search needs
+
+with-run-requires : tie.Need-with-run-requires
+with-run-requires c κs = search needs
+
 same-length : tie.Need-same-length
 same-length c = search needs
 
 returns : tie.Need-returns
 returns c =
-    let s = c .before .before .before .before .before .before .before .before .before .before in
+    let w = c .before .before in
+    let r = w .before .before .before .before .before .before in
+    let s = r .before .before .before .before in
     let a = s .args in
     let eight = simp length-map at (s .good .0 .1 .1 .1 .1 .1 .1 .0 .1 .0 .1) in
-    rw (passed-once (a .k) (local (a .t1) (a .bytes .now)) (omega (arith, eight, s .pre .0)), c .with-entry .ensures, c .before .with-lifted .ensures, c .before .before .with-count .ensures) (refl, c .before .before .before .before .before .before .restore .ensures)
+    rw (passed-once (a .k) (local (a .t1) (a .bytes .now)) (omega (arith, eight, s .pre .0)), c .with-run .ensures, c .before .after-pass .ensures, w .with-entry .ensures, w .before .with-lifted .ensures, w .before .before .with-count .ensures) (refl, r .restore .ensures)
 
 pub pass-spec : {M : Type 1} → statement M
 pass-spec =
@@ -52,5 +60,7 @@ pass-spec =
     with-count-requires
     with-lifted-requires
     with-entry-requires
+    after-pass-requires
+    with-run-requires
     same-length
     returns)

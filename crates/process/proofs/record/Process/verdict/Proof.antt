@@ -11,9 +11,18 @@ use borrow.Author.Needs.{needs}
 use Rattle.process.proofs.record.Process.verdict.Statement.{statement}
 use Rattle.process.proofs.record.Process.verdict.Tie as tie
 
+goes-on-requires : tie.Need-goes-on-requires
+goes-on-requires c κs = search needs
+
 returns : tie.Need-returns
+unfolding verdictOf
+returns c = rw (← c .before .goes-on .ensures, c .if1 .taken)
+
+returns-2 : tie.Need-returns-2
 unfolding verdictOf passes
-returns c = rw (ne-eqb _ _ (c .if1 .taken))
+returns-2 c =
+    let i = c .before in
+    rw (← i .before .goes-on .ensures, i .if1 .left, ne-eqb _ _ (c .if2 .taken))
 
 pc-requires : tie.Need-pc-requires
 pc-requires c κs = search needs
@@ -27,20 +36,21 @@ enum-known-found c = search needs
 enum-told : tie.Need-enum-told
 enum-told c = search needs
 
-returns-2 : tie.Need-returns-2
+returns-3 : tie.Need-returns-3
 unfolding verdictOf passes hasBreak
-returns-2 c =
+returns-3 c =
     let f = c .before .before in
     let p = f .before in
-    let none = found-nowhere (find (At (p .pc .result)) (p .before .before .args .t1)) (sym (f .find .ensures) ∙ c .enum-told .given .1) in
-    rw (eq-eqb _ _ (p .before .if1 .left), ← p .pc .ensures, le-ltb _ _ none)
+    let i = p .before .before in
+    let none = found-nowhere (find (At (p .pc .result)) (i .before .before .args .t1)) (sym (f .find .ensures) ∙ c .enum-told .given .1) in
+    rw (← i .before .goes-on .ensures, i .if1 .left, eq-eqb _ _ (p .before .if2 .left), ← p .pc .ensures, le-ltb _ _ none)
 
 mul-b : tie.Need-mul-b
 mul-b c =
     let g = c .before in
     let f = g .before .before in
     let p = f .before in
-    let at = found-index (find (At (p .pc .result)) (p .before .before .args .t1)) _ (sym (f .find .ensures) ∙ g .found .given .1) in
+    let at = found-index (find (At (p .pc .result)) (p .before .before .before .before .args .t1)) _ (sym (f .find .ensures) ∙ g .found .given .1) in
     omega arith
 
 element-copy-out-b : tie.Need-element-copy-out-b
@@ -48,17 +58,8 @@ element-copy-out-b c =
     let g = c .before in
     let f = g .before .before in
     let p = f .before in
-    let at = found-index (find (At (p .pc .result)) (p .before .before .args .t1)) _ (sym (f .find .ensures) ∙ g .found .given .1) in
+    let at = found-index (find (At (p .pc .result)) (p .before .before .before .before .args .t1)) _ (sym (f .find .ensures) ∙ g .found .given .1) in
     omega arith
-
-returns-3 : tie.Need-returns-3
-unfolding verdictOf passes hasBreak
-returns-3 c =
-    let g = c .before .before .before .before in
-    let f = g .before .before in
-    let p = f .before in
-    let at = found-index (find (At (p .pc .result)) (p .before .before .args .t1)) _ (sym (f .find .ensures) ∙ g .found .given .1) in
-    rw (eq-eqb _ _ (p .before .if1 .left), ← p .pc .ensures, lt-ltb _ _ (at .low), at .same, lt-ltb _ _ (c .if2 .taken))
 
 returns-4 : tie.Need-returns-4
 unfolding verdictOf passes hasBreak
@@ -66,20 +67,33 @@ returns-4 c =
     let g = c .before .before .before .before in
     let f = g .before .before in
     let p = f .before in
-    let at = found-index (find (At (p .pc .result)) (p .before .before .args .t1)) _ (sym (f .find .ensures) ∙ g .found .given .1) in
-    rw (eq-eqb _ _ (p .before .if1 .left), ← p .pc .ensures, lt-ltb _ _ (at .low), at .same, le-ltb _ _ (c .if2 .left))
+    let i = p .before .before in
+    let at = found-index (find (At (p .pc .result)) (i .before .before .args .t1)) _ (sym (f .find .ensures) ∙ g .found .given .1) in
+    rw (← i .before .goes-on .ensures, i .if1 .left, eq-eqb _ _ (p .before .if2 .left), ← p .pc .ensures, lt-ltb _ _ (at .low), at .same, lt-ltb _ _ (c .if3 .taken))
+
+returns-5 : tie.Need-returns-5
+unfolding verdictOf passes hasBreak
+returns-5 c =
+    let g = c .before .before .before .before in
+    let f = g .before .before in
+    let p = f .before in
+    let i = p .before .before in
+    let at = found-index (find (At (p .pc .result)) (i .before .before .args .t1)) _ (sym (f .find .ensures) ∙ g .found .given .1) in
+    rw (← i .before .goes-on .ensures, i .if1 .left, eq-eqb _ _ (p .before .if2 .left), ← p .pc .ensures, lt-ltb _ _ (at .low), at .same, le-ltb _ _ (c .if3 .left))
 
 pub verdict-spec : {M : Type 1} → statement M
 verdict-spec =
     tie.close
     (tie.spec
+    goes-on-requires
     returns
+    returns-2
     pc-requires
     find-requires
     enum-known-found
     enum-told
-    returns-2
+    returns-3
     mul-b
     element-copy-out-b
-    returns-3
-    returns-4)
+    returns-4
+    returns-5)

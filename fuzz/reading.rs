@@ -1,0 +1,145 @@
+//! Reading the fuzzer's bytes: what each record stands for, as the head of target.rs says.
+
+use crate::sides::Call;
+use model::*;
+
+pub struct Records<'a>(pub &'a [u8]);
+
+impl Records<'_> {
+    pub fn take(&mut self, n: usize) -> &[u8] {
+        let (taken, rest) = self.0.split_at(n.min(self.0.len()));
+        self.0 = rest;
+        taken
+    }
+
+    pub fn next(&mut self) -> Option<[u8; 8]> {
+        if self.0.is_empty() {
+            return None;
+        }
+        let mut record = [0; 8];
+        let taken = self.take(8);
+        record[..taken.len()].copy_from_slice(taken);
+        Some(record)
+    }
+}
+
+pub fn word(high: u8, low: u8) -> u16 {
+    u16::from_be_bytes([high, low])
+}
+
+/// One of the processes of which this holds, if there is one.
+fn pick(by: u8, records: &State, test: impl Fn(&Process) -> bool) -> Option<u8> {
+    let fit: Vec<u8> = (0..8).filter(|&p| test(&records.processes[usize::from(p)])).collect();
+    fit.get(usize::from(by) % fit.len().max(1)).copied()
+}
+
+/// The address of one of a process's breakpoints, if it has any.
+fn used_address(by: u8, process: &Process) -> Option<u16> {
+    let used: Vec<u16> = process.breakpoints.iter().filter(|b| b.used).map(|b| b.address).collect();
+    used.get(usize::from(by) % used.len().max(1)).copied()
+}
+
+/// Where bits 3 and 5 move an address or a count to.
+fn moved(first: u8, n: u16) -> u16 {
+    const EDGES: [u16; 19] = [
+        0, 1, 2, 16, 17, 18, 255, 256, 257, 1534, 1535, 1536, 4092, 4094, 4095, 4096, 4097, 65_534,
+        65_535,
+    ];
+    match (first & 8 != 0, first & 32 != 0) {
+        (_, true) => EDGES[usize::from(n) % EDGES.len()],
+        (true, false) => n % 20,
+        _ => n,
+    }
+}
+
+/// The size that a CREATE asks for.
+fn size_from(first: u8, n: u16, free: usize) -> u16 {
+    let free = free.min(4096) as u16;
+    let edges = [0, 2, 4094, 4096, free, free + 2, free.saturating_sub(2), 2048, 4098, 3];
+    match first & 32 {
+        0 => moved(first, n) % 4097 & !1,
+        _ => edges[usize::from(n) % edges.len()],
+    }
+}
+
+/// A request; with bit 6 the host that debugs a process asks for it, and UNBREAK names one of its breakpoints.
+pub fn request_from(r: [u8; 8], records: &State) -> Call {
+    let free = MEMORY.saturating_sub(used_bytes(records));
+    let (any, near, longer) = (r[0] & 128 != 0, r[0] & 8 != 0, r[0] & 16 != 0);
+    let [_, mut host, mut cmd, mut pid, ..] = r;
+    let (mut arg1, mut arg2) = (moved(r[0], word(r[4], r[5])), moved(r[0], word(r[6], r[7])));
+    if !any {
+        let processes = if near { 2 } else { 8 };
+        (host, cmd, pid) = (5 + host % 4 / 3, cmd % 14, pid % processes);
+        if matches!(cmd, NOP | CREATE_PROCESS) {
+            pid = 0;
+        }
+        match cmd {
+            DEPOSIT | EXAMINE | DEPOSIT_STATE_VECTOR | BREAK | UNBREAK => {}
+            CREATE_PROCESS => arg1 = size_from(r[0], word(r[4], r[5]), free),
+            _ => arg1 = 0,
+        }
+        if !matches!(cmd, DEPOSIT | EXAMINE | DEPOSIT_STATE_VECTOR | BREAK) {
+            arg2 = 0;
+        }
+    }
+    let debugged = pick(r[3], records, |process| process.host != NOBODY).filter(|_| r[0] & 64 != 0);
+    if let (Some(p), false) = (debugged, any || matches!(cmd, NOP | CREATE_PROCESS)) {
+        let process = &records.processes[usize::from(p)];
+        (host, pid) = (process.host, p);
+        if cmd == UNBREAK {
+            arg1 = used_address(r[5], process).unwrap_or(arg1);
+        }
+    }
+    let string = match cmd {
+        DEPOSIT | DEPOSIT_STATE_VECTOR => usize::from(arg2).min(LONGEST_STRING),
+        _ => 0,
+    };
+    let [a, b] = arg1.to_be_bytes();
+    let [c, d] = arg2.to_be_bytes();
+    let mut message = vec![0, host, 255, 0, cmd, pid, a, b, c, d];
+    message.extend((0..string + usize::from(longer)).map(|i| (i as u8).wrapping_mul(7) ^ r[1]));
+    Call::Request { message }
+}
+
+/// A report; with bit 6 one that a machine is likely to make: a process that runs comes to one of its breakpoints, or has done its one
+/// instruction.
+pub fn report_from(r: [u8; 8], records: &State) -> Call {
+    let (any, near) = (r[0] & 128 != 0, r[0] & 8 != 0);
+    let [_, mut process, mut kind, ..] = r;
+    let (mut reason, mut pc) = (word(r[3], r[4]), moved(r[0], word(r[5], r[6])));
+    if !any {
+        (process, kind) = (process % if near { 2 } else { 8 }, kind % 4);
+        if kind != TRAP {
+            reason = 0;
+        }
+    }
+    let going = pick(r[1], records, |process| process.there && process.run.goes());
+    if let (Some(p), false, true) = (going, any, r[0] & 64 != 0) {
+        let running = &records.processes[usize::from(p)];
+        pc = used_address(r[6], running).unwrap_or(pc);
+        (process, reason) = (p, 0);
+        kind = if running.run == Run::Running || r[2] & 1 == 0 { BPT } else { TTRAP };
+    }
+    let mut words: Vec<u8> = (0..VECTOR).map(|i| (i as u8).wrapping_mul(r[7])).collect();
+    words[2 * PC..2 * PC + 2].copy_from_slice(&pc.to_le_bytes());
+    let wide = |n: u64| n | if any { u64::from(r[7] & 1) << (8 + r[7] % 56) } else { 0 };
+    let (process, kind) = (wide(process.into()), kind.into());
+    Call::Report { process, kind, reason: reason.into(), words }
+}
+
+/// A desk's call: bit 6 reads the message that the record would ask with, as an answer; otherwise its fields are written, with bit 7 wider
+/// by one bit.
+pub fn desk_from(r: [u8; 8]) -> Call {
+    let Call::Request { mut message } = request_from(r, &NONE_THERE) else { unreachable!() };
+    if r[0] & 64 != 0 {
+        message[4] = r[2];
+        return Call::Read { message };
+    }
+    let word = |at: usize| u64::from(u16::from_be_bytes([message[at], message[at + 1]]));
+    let mut fields = [message[1].into(), message[4].into(), message[5].into(), word(6), word(8)];
+    if r[0] & 128 != 0 {
+        fields[usize::from(r[1]) % FIELDS] |= 1 << (r[3] % 64);
+    }
+    Call::Write { fields, string: message.split_off(HEAD) }
+}

@@ -1,0 +1,54 @@
+//! What K3 says of every granted call, and what a report leaves as it was. The fuzzer
+//! uses this too.
+
+use crate::layout::changed;
+use crate::sides::{Call, Side};
+use model::*;
+
+/// What K3 says of the process that a granted call changes, should both sides break it.
+pub fn broken_passing(call: &Call, before: &Side, after: &Side) -> Option<&'static str> {
+    if !matches!(call, Call::Request { .. } | Call::Report { .. }) {
+        return None;
+    }
+    let p = changed(call, after)?;
+    let was = decode(before.state.bytes())?.processes[p];
+    let is = decode(after.state.bytes())?.processes[p];
+    let lifted = is.breakpoints.iter().any(|b| b.used && b.lifted);
+    if is.run == Run::Passing && was.run != Run::Passing && !lifted {
+        return Some("both: passing is entered, and no breakpoint was lifted");
+    }
+    if was.run == Run::Passing && is.run != Run::Passing && !leaves(call) {
+        return Some("both: passing is left by a call that does not end it");
+    }
+    let keeps = matches!(call, Call::Report { .. }) || asks(call, |cmd| RUNS.contains(&cmd));
+    let (old, new) = (before.memory.bytes(), after.memory.bytes());
+    if keeps && seen(&was, old) != seen(&is, new) {
+        return Some("both: a report or a change of the run state changes what is seen");
+    }
+    None
+}
+
+/// The requests that change the run state alone, and lift or plant for that.
+const RUNS: [u8; 4] = [STOP, RESUME, SINGLE_STEP, PROCEED_BPT];
+
+fn asks(call: &Call, test: impl Fn(u8) -> bool) -> bool {
+    matches!(call, Call::Request { message } if test(message[4]))
+}
+
+/// "STOP makes it stopped, END DEBUG running"; a report may end it too, and so do CREATE
+/// and DESTROY, which write a new record.
+fn leaves(call: &Call) -> bool {
+    let new = |cmd| matches!(cmd, STOP | END_DEBUG | CREATE_PROCESS | DESTROY_PROCESS);
+    matches!(call, Call::Report { .. }) || asks(call, new)
+}
+
+/// "The seen memory of a process is its memory with the saved word in place of each
+/// planted (not lifted) breakpoint."
+fn seen(process: &Process, memory: &[u8]) -> Vec<u8> {
+    let mut seen = memory[process.place()].to_vec();
+    for b in process.breakpoints.iter().filter(|b| b.planted()) {
+        let at = usize::from(b.address);
+        seen[at..at + 2].copy_from_slice(&b.saved);
+    }
+    seen
+}
