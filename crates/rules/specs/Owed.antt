@@ -1,0 +1,115 @@
+-- Owed answers, in the words of a user: a granted `c` or `s` is answered at most once, by the first report that stops or ends the process, unless
+-- it is cancelled before. Words in quotation marks are the change request's (K7).
+use mathlib.Core.Path.{_≡_}
+use mathlib.Core.Bool.{true, false}
+use mathlib.Core.List.{List, [], _∷_}
+use mathlib.Core.Logic.{_⊎_}
+use Prim.Native.Nat.{ℕ, _<_}
+use lib.ListN.{length}
+use Rattle.lists.specs.Buffer.{overlay}
+use Rattle.ops.specs.Codes.{STOP, END-DEBUG, DESTROY}
+use Rattle.format.specs.Outcome.{outcome}
+use Rattle.run_state.specs.RunState.{moving}
+use Rattle.session.specs.declared.Owed.{Owed}
+use Rattle.session.specs.declared.Owed.the-variants.{Nothing}
+use Rattle.session.specs.Session.{owes, owedLetter}
+use Rattle.fields.specs.Read.{lineOf}
+use Rattle.rules.specs.TextRule.{owedLine}
+use Rattle.rules.specs.Tests.{State, recordOf}
+use Rattle.rules.specs.Step.{Call, request, report, store, textLine, step}
+use Rattle.rules.specs.Turn.{buffersOf}
+use Rattle.rules.specs.Ready.{Ready}
+use Rattle.rules.specs.Isolation.{subject, fieldsOf, isGranted}
+use Rattle.rules.specs.Outsider.{only}
+use Rattle.rules.specs.Loops.{wordsOf}
+
+-- ---- calls
+
+-- the text of a text line
+unfoldable pub textOf : Call → List ℕ
+textOf (request m buffer) = []
+textOf (report p kind reason words buffer line) = []
+textOf (store p a v) = []
+textOf (textLine text buffer) = text
+
+-- the kind of a report
+unfoldable pub kindOf : Call → ℕ
+kindOf (request m buffer) = 0
+kindOf (report p kind reason words buffer line) = kind
+kindOf (store p a v) = 0
+kindOf (textLine text buffer) = 0
+
+-- the reason of a report
+unfoldable pub reasonOf : Call → ℕ
+reasonOf (request m buffer) = 0
+reasonOf (report p kind reason words buffer line) = reason
+reasonOf (store p a v) = 0
+reasonOf (textLine text buffer) = 0
+
+-- granted
+abbrev pub Granted : State → Call → Type 0
+Granted s c = isGranted (step s c .answer .outcome) ≡ true
+
+-- the answer that process p owes
+abbrev pub owedAt : State → ℕ → Owed
+owedAt s p = recordOf s p .session .owed
+
+-- ---- what happens to an owed answer
+
+-- a `c` or an `s` to process p is granted
+pub record Asks (p : ℕ) (o : Owed) (s : State) (c : Call) : Type 0 where
+  pub is : c ≡ textLine (textOf c) (buffersOf c .own)
+  pub named : lineOf (textOf c) .pid ≡ p
+  pub letter : lineOf (textOf c) .letter ≡ owedLetter o
+  pub later : owes o ≡ true
+  pub granted : Granted s c
+
+-- a report about process p 'stops or ends the process'
+pub record StopsIt (p : ℕ) (s : State) (c : Call) : Type 0 where
+  pub is : c ≡ report p (kindOf c) (reasonOf c) (wordsOf c) (buffersOf c .own) (buffersOf c .line)
+  pub granted : Granted s c
+  pub stops : moving (recordOf (step s c .after) p .run) ≡ false
+
+-- 'STOP, END DEBUG and DESTROY cancel an owed answer'
+pub record Cancels (p : ℕ) (s : State) (c : Call) : Type 0 where
+  pub op : (fieldsOf c .cmd ≡ STOP) ⊎ ((fieldsOf c .cmd ≡ END-DEBUG) ⊎ (fieldsOf c .cmd ≡ DESTROY))
+  pub named : fieldsOf c .pid ≡ p
+  pub granted : Granted s c
+
+-- the report sends this answer: the line of its PID, its letter, no error and the status, laid over the line buffer
+pub record Answers (p : ℕ) (o : Owed) (s : State) (c : Call) : Type 0 where
+  pub told : step s c .answer .lineLength ≡ length (owedLine p (kindOf c) o)
+  pub line : step s c .answer .line ≡ overlay (owedLine p (kindOf c) o) (buffersOf c .line)
+
+-- no line is sent about process p
+abbrev pub NoLine : ℕ → State → Call → Type 0
+NoLine p s c = subject (only p) c ≡ true → step s c .answer .lineLength ≡ 0
+
+-- ---- lists
+
+-- nothing is owed, and no line is sent about process p until another `c` or `s` to it is granted
+unfoldable pub Settled : ℕ → State → List Call → Type 0
+Settled p s [] = owedAt s p ≡ Nothing
+Settled p s (c ∷ l) =
+    (owedAt s p ≡ Nothing) × (NoLine p s c × (((o : Owed) × Asks p o s c) ⊎ Settled p (step s c .after) l))
+
+-- what becomes of an owed answer: it is answered or cancelled by one of the calls, or it is owed still
+unfoldable pub Fate : ℕ → Owed → State → List Call → Type 0
+Fate p o s [] = owedAt s p ≡ o
+Fate p o s (c ∷ l) =
+    ((StopsIt p s c × Answers p o s c) × Settled p (step s c .after) l)
+    ⊎ (((Cancels p s c × NoLine p s c) × Settled p (step s c .after) l)
+    ⊎ (((StopsIt p s c → ⊥) × ((Cancels p s c → ⊥) × NoLine p s c)) × Fate p o (step s c .after) l))
+
+-- ---- the theorem
+
+-- what a user may rely on
+pub record OwedAnswers : Type 0 where
+  -- a granted `c` or `s` writes nothing at once, and its answer is owed
+  pub asked : (s : State) → Ready s → (c : Call) (p : ℕ) (o : Owed) → Asks p o s c
+      → (step s c .answer .outcome ≡ outcome 0 0) × (owedAt (step s c .after) p ≡ o)
+  -- 'Both are answered when a report next stops or ends the process', once, unless cancelled before
+  pub fate : (s : State) → Ready s → (p : ℕ) → p < 8 → (o : Owed) → owes o ≡ true → owedAt s p ≡ o → (l : List Call) → Fate p o s l
+  -- a report sends a line only where one was owed, and only if it stops or ends the process
+  pub only-owed : (s : State) → Ready s → (c : Call) (p : ℕ) → p < 8 → subject (only p) c ≡ true → 0 < step s c .answer .lineLength
+      → (owes (owedAt s p) ≡ true) × (StopsIt p s c × Answers p (owedAt s p) s c)
