@@ -173,14 +173,14 @@ head-stands text ok =
       text-is =
           stands .text-here
           ∙ ap (λ (l : List ℕ). hexNumeral (n .value) ++ l)
-            (here text (n .next) (stands-within text (n .next) (omega (arith, blank)))
-            ∙ ap (λ (c : ℕ). c ∷ drop (n .next + 1) text) blank
-            ∙ ap (λ (l : List ℕ). 32 ∷ l) (here text (n .next + 1) (stands-within text (n .next + 1) (known-some (getD text (n .next + 1) 0) letter)))
-            ∙ ap (λ (j : ℕ). 32 ∷ getD text (n .next + 1) 0 ∷ drop j text) two);
+          (here text (n .next) (stands-within text (n .next) (omega (arith, blank)))
+          ∙ ap (λ (c : ℕ). c ∷ drop (n .next + 1) text) blank
+          ∙ ap (λ (l : List ℕ). 32 ∷ l) (here text (n .next + 1) (stands-within text (n .next + 1) (known-some (getD text (n .next + 1) 0) letter)))
+          ∙ ap (λ (j : ℕ). 32 ∷ getD text (n .next + 1) 0 ∷ drop j text) two);
       pid-fits = stands .fits;
       letter-known = letter;
       ends = &&-right k s last;
-      next-is = omega (arith, stands .next-is)
+      next-is = omega (arith, stands .next-is);
     } in
     subst (λ (t : Bool). HeadStands text (cond t h noHead)) (sym all) it
 
@@ -395,5 +395,5 @@ reads-heads = record {
   read-is-head = read-is-head;
   whole-is-headed = whole-is-headed;
   unread-is-nought = unread-is-nought;
-  rest-is-nought = rest-is-nought
+  rest-is-nought = rest-is-nought;
 }

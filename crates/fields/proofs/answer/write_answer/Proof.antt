@@ -1,26 +1,32 @@
+-- `fields::answer::write_answer` meets its contract: the line of its fields. Assumes nothing.
+use mathlib.Core.Path.{ap, _∙_}
+use mathlib.Core.List.{List}
 use borrow.Author.Needs.{needs}
+use lib.ListN.{length}
+use Rattle.lists.specs.Buffer.{overlay}
+use Rattle.fields.specs.declared.write.Fields.{Fields}
+use Rattle.fields.specs.Written.{written}
 use Rattle.fields.proofs.answer.write_answer.Statement.{statement}
 use Rattle.fields.proofs.answer.write_answer.Tie as tie
-use Rattle.fields.proofs.answer.write_answer.Reads as reads
-use Rattle.fields.proofs.answer.write_answer.Lts as lts
-use Rattle.fields.proofs.answer.TextAnswer.fields.Reads as fields-reads
-use Rattle.fields.proofs.write.write_fields.Reads as write-fields-reads
 
--- src/answer.rt:80:18
 fields-requires : tie.Need-fields-requires
 fields-requires c κs = search needs
 
--- src/answer.rt:80:5
 write-fields-requires : tie.Need-write-fields-requires
 write-fields-requires c κs = search needs
 
--- src/answer.rt:74:1
 same-length : tie.Need-same-length
 same-length c = search needs
 
--- src/answer.rt:74:1
 returns : tie.Need-returns
-returns c = ?
+returns c =
+    let w = c .before .before in
+    let f = w .before .before in
+    let a = f .before .before .args in
+    let e = f .fields .ensures in (
+      w .write-fields .ensures .0 ∙ ap (λ (x : Fields). length (written x)) e,
+      (w .write-fields .ensures .1 .0, w .write-fields .ensures .1 .1 ∙ ap (λ (x : Fields). overlay (written x) (a .out .now)) e),
+    )
 
 pub write-answer-spec : {M : Type 1} → statement M
 write-answer-spec = tie.close (tie.spec fields-requires write-fields-requires same-length returns)

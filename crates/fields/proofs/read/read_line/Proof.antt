@@ -14,7 +14,7 @@ unread-requires : tie.Need-unread-requires
 unread-requires c κs = search needs
 
 returns : tie.Need-returns
-returns c = 
+returns c =
     let h = c .before .before .before in
     let text = h .before .before .args .text .now in
     c .unread .ensures ∙ line-unread text (h .of .result) (h .of .ensures) (not-true _ (c .before .if1 .taken))
@@ -26,7 +26,7 @@ head-only-requires : tie.Need-head-only-requires
 head-only-requires c κs = search needs
 
 returns-2 : tie.Need-returns-2
-returns-2 c = 
+returns-2 c =
     let n = c .before .before .before in
     let h = n .before .before .before in
     let text = h .before .before .args .text .now in
@@ -44,7 +44,7 @@ head-only-requires-2 : tie.Need-head-only-requires-2
 head-only-requires-2 c κs = search needs
 
 returns-3 : tie.Need-returns-3
-returns-3 c = 
+returns-3 c =
     let m = c .before .before .before in
     let n = m .before .before .before in
     let h = n .before .before .before in
@@ -63,7 +63,7 @@ head-only-requires-3 : tie.Need-head-only-requires-3
 head-only-requires-3 c κs = search needs
 
 returns-4 : tie.Need-returns-4
-returns-4 c = 
+returns-4 c =
     let e = c .before .before in
     let m = e .before .before .before in
     let n = m .before .before .before in
@@ -77,7 +77,7 @@ returns-4 c =
     ∙ line-is text head third fourth (h .of .ensures) (not-false _ (n .before .if1 .left)) (n .after .ensures) (m .after2 .ensures)
 
 returns-5 : tie.Need-returns-5
-returns-5 c = 
+returns-5 c =
     let e = c .before in
     let m = e .before .before .before in
     let n = m .before .before .before in

@@ -25,7 +25,7 @@ add-end : tie.Need-add-end Inv-loop μ-loop
 add-end c = search needs
 
 loop-holds : tie.Need-loop-holds Inv-loop μ-loop
-loop-holds c = 
+loop-holds c =
     let d = c .digit-count .ensures .0 in
     (omega arith, omega (arith, d), refl, refl)
 
@@ -39,7 +39,7 @@ digit-requires : tie.Need-digit-requires Inv-loop μ-loop
 digit-requires c κs = search needs
 
 slice-write-out : tie.Need-slice-write-out Inv-loop μ-loop
-slice-write-out c = 
+slice-write-out c =
     let l = c .before .before in
     let s = l .before .before .before in
     omega (arith, l .loop .inv .1, l .loop .inv .2, s .pre, eight-digits (l .loop .rest) (l .loop .inv .0), one-less (l .loop .rest) (omega arith))
@@ -48,7 +48,7 @@ loop-less : tie.Need-loop-less Inv-loop μ-loop
 loop-less c = search needs
 
 loop-again : tie.Need-loop-again Inv-loop μ-loop
-loop-again c = 
+loop-again c =
     let l = c .before .before in
     let s = l .before .before .before in
     let rest = l .loop .rest in
@@ -58,8 +58,8 @@ loop-again c =
       here,
       length-set (l .loop .out) (l .loop .i - 1) (c .digit .result) ∙ l .loop .inv .2,
       ap (λ (d : ℕ). sets (set (l .loop .out) (l .loop .i - 1) d) (s .args .at) (hexDigits (rest / 16))) (c .digit .ensures)
-      ∙ digits-turn rest (l .loop .i - 1) (s .args .at) (l .loop .out) large here
-      ∙ l .loop .inv .3,
+          ∙ digits-turn rest (l .loop .i - 1) (s .args .at) (l .loop .out) large here
+          ∙ l .loop .inv .3,
     )
 
 cast-digit-2 : tie.Need-cast-digit-2 Inv-loop μ-loop
@@ -69,7 +69,7 @@ digit-requires-2 : tie.Need-digit-requires-2 Inv-loop μ-loop
 digit-requires-2 c κs = search needs
 
 slice-write-out-2 : tie.Need-slice-write-out-2 Inv-loop μ-loop
-slice-write-out-2 c = 
+slice-write-out-2 c =
     let l = c .before .before in
     let s = l .before .before .before in
     omega (arith, l .loop .inv .2, s .pre)
@@ -78,14 +78,16 @@ same-length : tie.Need-same-length Inv-loop μ-loop
 same-length c = let l = c .before .before in length-set (l .loop .out) _ _ ∙ l .loop .inv .2
 
 returns : tie.Need-returns Inv-loop μ-loop
-returns c = 
+returns c =
     let l = c .before .before in
     let d = l .before in
     let s = d .before .before in
     let rest = l .loop .rest in
     let e = d .digit-count .ensures in (
-      (omega (arith, e .0),
-      ap (λ (v : ℕ). set (l .loop .out) (s .args .at) v) (c .digit2 .ensures) ∙ digits-done rest (s .args .at) (l .loop .out) (omega arith) ∙ l .loop .inv .3),
+      (
+        omega (arith, e .0),
+        ap (λ (v : ℕ). set (l .loop .out) (s .args .at) v) (c .digit2 .ensures) ∙ digits-done rest (s .args .at) (l .loop .out) (omega arith) ∙ l .loop .inv .3,
+      ),
       omega (arith, e .1),
     )
 

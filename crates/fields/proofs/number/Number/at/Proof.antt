@@ -43,7 +43,7 @@ digits-requires : tie.Need-digits-requires
 digits-requires c κs = search needs
 
 returns-4 : tie.Need-returns-4
-returns-4 c = 
+returns-4 c =
     let t = c .before in
     let o = t .before .before in
     let a = o .before .before .before .before .args in

@@ -11,7 +11,7 @@ none-requires : tie.Need-none-requires
 none-requires c κs = search needs
 
 returns : tie.Need-returns
-returns c = 
+returns c =
     let a = c .before .before .before .before .args in
     c .none .ensures ∙ head-unread (a .text .now) (a .n) (not-true _ (c .before .if1 .taken))
 
@@ -19,7 +19,7 @@ none-requires-2 : tie.Need-none-requires-2
 none-requires-2 c κs = search needs
 
 returns-2 : tie.Need-returns-2
-returns-2 c = 
+returns-2 c =
     let a = c .before .before .before .before .before .args in
     c .none2 .ensures ∙ head-short (a .text .now) (a .n) (omega (arith, c .before .if2 .taken))
 
@@ -30,7 +30,7 @@ none-requires-3 : tie.Need-none-requires-3
 none-requires-3 c κs = search needs
 
 returns-3 : tie.Need-returns-3
-returns-3 c = 
+returns-3 c =
     let a = c .before .before .before .before .before .before .args in
     c .none3 .ensures ∙ head-short (a .text .now) (a .n) (omega (arith, c .before .if3 .taken))
 
@@ -41,7 +41,7 @@ none-requires-4 : tie.Need-none-requires-4
 none-requires-4 c κs = search needs
 
 returns-4 : tie.Need-returns-4
-returns-4 c = 
+returns-4 c =
     let a = c .before .before .before .before .before .before .before .before .args in
     c .none4 .ensures ∙ head-other (a .text .now) (a .n) (c .before .if4 .taken)
 
@@ -58,7 +58,7 @@ none-requires-5 : tie.Need-none-requires-5
 none-requires-5 c κs = search needs
 
 returns-5 : tie.Need-returns-5
-returns-5 c = 
+returns-5 c =
     let a = c .before .before .before .before .before .before .before .before .before .before .before .args in
     let k = c .before .before .is-known in
     c .none5 .ensures ∙ head-unknown (a .text .now) (a .n) (sym (k .ensures) ∙ not-true _ (c .before .if5 .taken))
@@ -73,7 +73,7 @@ none-requires-6 : tie.Need-none-requires-6
 none-requires-6 c κs = search needs
 
 returns-6 : tie.Need-returns-6
-returns-6 c = 
+returns-6 c =
     let a = c .before .before .before .before .before .before .before .before .before .before .before .before .before .args in
     let s = c .before .before .separates in
     c .none6 .ensures ∙ head-goes-on (a .text .now) (a .n) (sym (s .ensures) ∙ not-true _ (c .before .if6 .taken))
@@ -88,7 +88,7 @@ add-t6 : tie.Need-add-t6
 add-t6 c = search needs
 
 returns-7 : tie.Need-returns-7
-returns-7 c = 
+returns-7 c =
     let s = c .before .before in
     let k = s .before .before in
     let b = k .before .before in

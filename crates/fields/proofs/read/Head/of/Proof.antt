@@ -13,7 +13,7 @@ after-requires c κs = search needs
 
 returns : tie.Need-returns
 unfolding headOf
-returns c = 
+returns c =
     let n = c .before in
     let a = n .before .before .args in
     c .after .ensures ∙ ap (headAfter (a .text .now)) (n .at .ensures)
