@@ -32,7 +32,7 @@ use Rattle.process.proofs.TheoremLaws.{running-is-planted}
 use Rattle.rules.specs.Rule.{public, ruleOf, names}
 use Rattle.rules.specs.Tests.{State, recordOf, badReport, askedTests, requestNumber, reportNumber}
 use Rattle.rules.specs.Step.{StepResult, Call, request, report, step, localOf, put, granted, grantedNamed, requestStep, noticeTo, notified, reportStep}
-use Rattle.rules.specs.Turn.{bufferOf}
+use Rattle.rules.specs.Turn.{buffersOf}
 use Rattle.rules.specs.Ready.{Ready}
 use Rattle.rules.specs.Run.{TraceItem, traceItem}
 use Rattle.rules.specs.Isolation.{publicOf}
@@ -122,8 +122,8 @@ module _ (s : State) (r : Ready s) (p : ℕ) (low : p < 8) where
 
     report-does : (kind : ℕ) → ReportOf p kind c → here .there ≡ true → accepts kind (here .run) ≡ true → badReport kind 0 ≡ false
         → step s c
-        ≡ record { answer = noticeTo (recipientOf kind (wordsOf c) (localOf s p)) p kind 0 (wordsOf c) (bufferOf c); after = put p (reported kind (wordsOf c) (localOf s p)) s }
-    report-does kind q there accepted right = ap (step s) (q .is) ∙ report-is kind (wordsOf c) (bufferOf c) there accepted right (q .room)
+        ≡ record { answer = noticeTo (recipientOf kind (wordsOf c) (localOf s p)) p kind 0 (wordsOf c) (buffersOf c); after = put p (reported kind (wordsOf c) (localOf s p)) s }
+    report-does kind q there accepted right = ap (step s) (q .is) ∙ report-is kind (wordsOf c) (buffersOf c) there accepted right (q .room)
 
     pub passes-event : (n : ℕ) → BreakAt host a (suc n) Running here → BptAt p a c
         → NothingSent (traceItem s c) × BreakAt host a n Passing (recordOf (step s c .after) p)
@@ -133,7 +133,7 @@ module _ (s : State) (r : Ready s) (p : ℕ) (low : p < 8) where
         let accepted : accepts BPT (here .run) ≡ true = rw (x .runs) in
         let does = report-does BPT (q .report) there accepted refl in (
           rw (does, passes-told host a (wordsOf c) (localOf s p) eight (q .at) n x),
-          rw (does, report-after BPT (wordsOf c) (bufferOf c) there accepted) (passes-break host a (wordsOf c) (localOf s p) eight (q .at) n x),
+          rw (does, report-after BPT (wordsOf c) (buffersOf c) there accepted) (passes-break host a (wordsOf c) (localOf s p) eight (q .at) n x),
         )
 
     pub goes-on-event : (n : ℕ) → BreakAt host a n Passing here → ReportOf p TTRAP c
@@ -144,7 +144,7 @@ module _ (s : State) (r : Ready s) (p : ℕ) (low : p < 8) where
         let accepted : accepts TTRAP (here .run) ≡ true = rw (x .runs) in
         let does = report-does TTRAP q there accepted refl in (
           rw (does, goes-on-told host a (wordsOf c) (localOf s p) eight n x),
-          rw (does, report-after TTRAP (wordsOf c) (bufferOf c) there accepted) (goes-on-break host a (wordsOf c) (localOf s p) eight n x),
+          rw (does, report-after TTRAP (wordsOf c) (buffersOf c) there accepted) (goes-on-break host a (wordsOf c) (localOf s p) eight n x),
         )
 
     pub stops-event : BreakAt host a 0 Running here → BptAt p a c → NoticeSent host p (traceItem s c) × Halted host a (recordOf (step s c .after) p)
@@ -154,7 +154,7 @@ module _ (s : State) (r : Ready s) (p : ℕ) (low : p < 8) where
         let named : host ≡ 0 → ⊥ = λ z. break-hosted a (x .found) (x .hosted ∙ z) in
         let accepted : accepts BPT (here .run) ≡ true = rw (x .runs) in
         let does = report-does BPT (q .report) there accepted refl in
-        let after = report-after BPT (wordsOf c) (bufferOf c) there accepted in
+        let after = report-after BPT (wordsOf c) (buffersOf c) there accepted in
         let size : 10 + length (lowFirst (wordsOf c)) ≡ 28 = omega (arith, length-lowFirst (wordsOf c), q .report .nine) in (
           rw (does, stops-told host a (wordsOf c) (localOf s p) eight (q .at) x, ne-eqb host 0 named, size),
           (rw (does, after) (stops-break host a (wordsOf c) (localOf s p) eight (q .at) x), rw (does, after) (stops-pc host a (wordsOf c) (localOf s p) eight (q .at) x)),
@@ -164,9 +164,9 @@ module _ (s : State) (r : Ready s) (p : ℕ) (low : p < 8) where
     proceeds-event x q =
         let there = break-there a (x .0 .found) in
         let named : host ≡ 0 → ⊥ = λ z. break-hosted a (x .0 .found) (x .0 .hosted ∙ z) in
-        let does = ap (step s) (q .is) ∙ proceed-is host (bufferOf c) there (x .0 .hosted) named (x .0 .runs) (q .room) in (
+        let does = ap (step s) (q .is) ∙ proceed-is host (buffersOf c) there (x .0 .hosted) named (x .0 .runs) (q .room) in (
           rw does,
-          rw (does, proceed-after host (bufferOf c) there (x .0 .hosted) named (x .0 .runs) (q .room)) (proceeds-break host a (localOf s p) eight 0 (x .0) (x .1)),
+          rw (does, proceed-after host (buffersOf c) there (x .0 .hosted) named (x .0 .runs) (q .room)) (proceeds-break host a (localOf s p) eight 0 (x .0) (x .1)),
         )
 
 -- ---- lists of calls

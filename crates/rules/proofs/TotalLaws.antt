@@ -18,7 +18,7 @@ use Rattle.format.proofs.OutcomeLaws.{numberOf-outcome}
 use Rattle.rules.specs.Tests.{State, requestNumber, reportNumber}
 use Rattle.rules.specs.Access.{Place, nowhere, atProcess, Turn, numberAt, reached, taken}
 use Rattle.rules.specs.Step.{StepResult, localOf, put, granted, refused, requestStep, reportStep, Call, request, report, step}
-use Rattle.rules.specs.Turn.{turnOf, bufferOf}
+use Rattle.rules.specs.Turn.{turnOf, buffersOf}
 use Rattle.rules.specs.Isolation.{isGranted}
 use Rattle.rules.specs.Total.{testsOf, First, cantOver, Total}
 use Rattle.rules.proofs.TurnLaws.{placeNumber, turnNumber}
@@ -84,8 +84,8 @@ turn-told t buffer s = go (eqb (firstFailing (t .tests)) 0) refl
     go false e = rw e (refused-told (firstFailing (t .tests)) e (t .refusal (firstFailing (t .tests))) buffer s)
 
 -- any call
-told : (s : State) (c : Call) → Told (firstFailing (testsOf s c)) (bufferOf c) s (step s c)
-told s c = rw (lawful c .turn s, ← lawful c .number s) (turn-told (turnOf s c) (bufferOf c) s)
+told : (s : State) (c : Call) → Told (firstFailing (testsOf s c)) (buffersOf c) s (step s c)
+told s c = rw (lawful c .turn s, ← lawful c .number s) (turn-told (turnOf s c) (buffersOf c) s)
 
 -- ---- the column 'Written'
 
@@ -111,7 +111,7 @@ report-silent s p kind reason words buffer n e = go (eqb (reportNumber s p kind 
     go false i = rw i
 
 pub total : Total
-unfolding step bufferOf
+unfolding step buffersOf
 total = record {
   number = λ s c. subst (First (testsOf s c)) (sym (told s c .is)) (first-is (testsOf s c));
   listed = λ s c. rw (told s c .is) (lawful c .listed s);
