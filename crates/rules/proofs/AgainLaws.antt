@@ -74,7 +74,7 @@ module _ (s₁ s₂ : State) (r₁ : Ready s₁) (r₂ : Ready s₂) (c : Call) 
 
   made-placed : Shown s₁ s₂ → (place : Place) → Placed s₁ c place → Made (reached place (buffersOf c) s₁) (reached place (buffersOf c) s₂)
   unfolding Placed
-  made-placed shown (nowhere bytes) n = absurd (create-goes c is output n)
+  made-placed shown (nowhere output) n = absurd (create-goes c is output n)
   made-placed shown (atProcess q a) t = made-there shown q a t
 
   made : Shown s₁ s₂ → Made (step s₁ c) (step s₂ c)

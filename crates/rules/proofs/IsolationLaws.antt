@@ -8,7 +8,7 @@ use Prim.Native.Nat.{ℕ, suc, _<_}
 use borrow.Author.Tests.{eqb-true, eqb-false, not-true}
 use lib.Dec.{eqb}
 use Rattle.lists.proofs.Bool.{&&-left, &&-right}
-use Rattle.format.specs.Outcome.{firstFailing}
+use Rattle.format.specs.Outcome.{lengthOf, firstFailing}
 use Rattle.process.specs.Local.{Local, Proper}
 use Rattle.rules.specs.Rule.{Public, public}
 use Rattle.rules.specs.Tests.{State}
@@ -78,7 +78,7 @@ hidden-apart P s t r c i silent a = record {
 module _ (H : Hosts) (P : Processes) where
   -- hosts who do not ask it hear nothing of it
   unheard-by : (w : Asker) (s : State) (c : Call) → Ready s → NoneDebugs H P s → subject P c ≡ true → asker c ≡ w → isOne H w ≡ false → sentTo H w (step s c .answer) ≡ false
-  unfolding sentTo isOne noticed lineSent
+  unfolding sentTo isOne noticed lineSent lengthOf
   unheard-by (by host) s c r f i e n = n
   unheard-by nobody s c r f i e n = go (done s r c)
     where
