@@ -82,9 +82,13 @@ proceeded l =
 
 -- ---- `c` and `s` of the text lines
 
--- 'an address other than 1 becomes the PC first'
-unfoldable pub goingTo : ℕ → Local → Local
-goingTo a l = cond (eqb a 1) l (onRecord (withVector (set (l .process .vector) 7 a)) l)
+-- 'an address other than 1 becomes the PC first': the vector with it
+unfoldable pub vectorFrom : ℕ → List ℕ → List ℕ
+vectorFrom a vector = cond (eqb a 1) vector (set vector 7 a)
+
+-- and the record
+abbrev pub goingTo : ℕ → Local → Local
+goingTo a l = onRecord (withVector (vectorFrom a (l .process .vector))) l
 
 -- 'as RESUME, or as PROCEED BPT at a breakpoint'
 unfoldable pub wentOn : Local → Local

@@ -65,6 +65,7 @@ impl Process {
     {
         let vector = self.vector;
         let breaks = self.breaks;
+        let session = self.session;
         Process {
             there: self.there,
             host: self.host,
@@ -72,7 +73,7 @@ impl Process {
             vector: vector,
             breaks: breaks,
             size: self.size,
-            session: self.session,
+            session: session,
         }
     }
 

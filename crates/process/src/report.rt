@@ -93,8 +93,9 @@ impl Process {
         ensures { λ r. ⌜ (r .process ≡ owing Nothing (withRun (runAfter kind) self)) × (r .told ≡ self .host) × (r .answered ≡ self .session .owed) ⌝ }
     {
         let session = self.session;
+        let owed = session.owed;
         let p = self.with_run(Run::after(kind)).owing(Owed::Nothing);
-        p.telling(self.host, session.owed)
+        p.telling(self.host, owed)
     }
 
     // This process after a report that nobody is told of.

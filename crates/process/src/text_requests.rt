@@ -3,15 +3,14 @@
 use crate::record::Process;
 use session::Owed;
 ghost use mathlib.Core.Path.{_≡_};
-ghost use mathlib.Core.List.{List};
-ghost use Prim.Native.Nat.{ℕ};
+ghost use Rattle.process.specs.Record.{withVector};
 ghost use Rattle.process.specs.Local.{local, Tested};
-ghost use Rattle.process.specs.Request.{goingTo, wentOn, continued, steppedFrom};
+ghost use Rattle.process.specs.Request.{vectorFrom, wentOn, continued, steppedFrom};
 
 impl Process {
     // An address other than 1 becomes the PC.
     fn going_to(self, address: u16) -> Self
-        ensures { λ r. ⌜ (m : List ℕ) → local r m ≡ goingTo address (local self m) ⌝ }
+        ensures { λ r. ⌜ r ≡ withVector (vectorFrom address (self .vector)) self ⌝ }
     {
         if address == 1 {
             return self;
