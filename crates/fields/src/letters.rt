@@ -30,9 +30,26 @@ pub const STEP: u8 = 115;
 pub fn is_known(c: u8) -> bool
     ensures { λ r. ⌜ r ≡ known c ⌝ }
 {
-    match c {
-        READ_CODE | READ_DATA | WRITE_CODE | WRITE_DATA => true,
-        READ_REGISTER | WRITE_REGISTER | CONTINUE | STEP => true,
-        _ => false,
+    if c == READ_CODE {
+        return true;
     }
+    if c == READ_DATA {
+        return true;
+    }
+    if c == WRITE_CODE {
+        return true;
+    }
+    if c == WRITE_DATA {
+        return true;
+    }
+    if c == READ_REGISTER {
+        return true;
+    }
+    if c == WRITE_REGISTER {
+        return true;
+    }
+    if c == CONTINUE {
+        return true;
+    }
+    c == STEP
 }
