@@ -1,11 +1,12 @@
 -- Owed answers, in the words of a user: a granted `c` or `s` is answered at most once, by the first report that stops or ends the process, unless
 -- it is cancelled before. Words in quotation marks are the change request's (K7).
 use mathlib.Core.Path.{_≡_}
-use mathlib.Core.Bool.{true, false}
+use mathlib.Core.Bool.{Bool, true, false, _||_}
 use mathlib.Core.List.{List, [], _∷_}
 use mathlib.Core.Logic.{_⊎_}
 use Prim.Native.Nat.{ℕ, _<_}
 use lib.ListN.{length}
+use lib.Dec.{eqb}
 use Rattle.lists.specs.Buffer.{overlay}
 use Rattle.ops.specs.Codes.{STOP, END-DEBUG, DESTROY}
 use Rattle.format.specs.Outcome.{outcome}
@@ -70,9 +71,13 @@ pub record StopsIt (p : ℕ) (s : State) (c : Call) : Type 0 where
   pub granted : Granted s c
   pub stops : moving (recordOf (step s c .after) p .run) ≡ false
 
--- 'STOP, END DEBUG and DESTROY cancel an owed answer'
+-- 'STOP, END DEBUG and DESTROY'
+abbrev pub cancelling : ℕ → Bool
+cancelling cmd = eqb cmd STOP || (eqb cmd END-DEBUG || eqb cmd DESTROY)
+
+-- these, granted to a request that names process p, 'cancel an owed answer'
 pub record Cancels (p : ℕ) (s : State) (c : Call) : Type 0 where
-  pub op : (fieldsOf c .cmd ≡ STOP) ⊎ ((fieldsOf c .cmd ≡ END-DEBUG) ⊎ (fieldsOf c .cmd ≡ DESTROY))
+  pub op : cancelling (fieldsOf c .cmd) ≡ true
   pub named : fieldsOf c .pid ≡ p
   pub granted : Granted s c
 

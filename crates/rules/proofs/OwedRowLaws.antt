@@ -1,0 +1,155 @@
+-- What is left of an owed answer by each row of the rules: those of the op codes, those of the letters, and a report. Assumes nothing.
+use mathlib.Core.Path.{_≡_, refl, sym, ap, _∙_, subst}
+use mathlib.Core.Bool.{Bool, true, false, cond, _||_, true≢false}
+use mathlib.Core.List.{List, [], _∷_}
+use mathlib.Core.Logic.{_⊎_, inl, inr}
+use Prim.Native.Nat.{ℕ, zero, suc, _+_, _<_}
+use native.Mathlib.Omega.{arith}
+use borrow.Author.Tests.{eqb-true}
+use lib.ListN.{length, getD}
+use lib.Dec.{eqb, ltb}
+use Rattle.lists.proofs.Bool.{||-left, ||-right}
+use Rattle.ops.specs.Table.{ops}
+use Rattle.format.specs.declared.header.Header.{Header}
+use Rattle.fields.specs.declared.read.Line.{Line}
+use Rattle.fields.specs.Letters.{known}
+use Rattle.session.specs.declared.Owed.{Owed}
+use Rattle.session.specs.declared.Owed.the-variants.{Nothing, Continue, Step}
+use Rattle.session.specs.Session.{owes, owedLetter}
+use Rattle.breakpoints.specs.declared.entry_query.EntryQuery.the-variants.{At}
+use Rattle.run_state.specs.RunState.{stoppedOrAtBreak, atBreak}
+use Rattle.process.specs.declared.record.Process.{Process}
+use Rattle.process.specs.Record.{fresh}
+use Rattle.process.specs.Find.{find}
+use Rattle.process.specs.Sound.{Sound}
+use Rattle.process.specs.Local.{Local}
+use Rattle.process.specs.Planting.{plantedIn, liftedIn, removedFrom, liftedAt}
+use Rattle.process.specs.Request.{pc, hasBreak, endDebugged, stopped, resumed, stepped, proceeded, continued, steppedFrom, deposited, vectorDeposited, breakSet, breakRemoved, cleared, destroyed}
+use Rattle.process.specs.declared.report.Verdict.{Verdict}
+use Rattle.process.specs.declared.report.Verdict.the-variants.{Stops, CountsDown, GoesOn}
+use Rattle.process.specs.Report.{storeVectorAndReplant, verdictOf, answeredBy, answerOf}
+use Rattle.process.proofs.AnswerLaws.{none-owed-nothing}
+use Rattle.rules.specs.Rule.{Rule, rules, noRule, debugRule, endDebugRule, examineRule, breakRule, unbreakRule, plain, whileRun, inRange, upTo, ruleOf}
+use Rattle.rules.specs.TextRule.{TextRule, readWordRule, writeWordRule, readRegisterRule, writeRegisterRule, goRule, textRuleOf, owedLine}
+use Rattle.rules.specs.Owed.{cancelling}
+use Rattle.rules.proofs.NumberLaws.{by-test, same-cond}
+
+-- the answer that a process owes
+abbrev pub owedIn : Local → Owed
+owedIn l = l .process .session .owed
+
+-- a process that owes an answer is there
+pub absent-owes : (p : Process) → Sound p → p .there ≡ false → p .session .owed ≡ Nothing
+absent-owes p g absent = go (owes (p .session .owed)) refl
+  where
+    go : (t : Bool) → owes (p .session .owed) ≡ t → p .session .owed ≡ Nothing
+    go true e = absurd (omega (arith, g .owed e, g .absent absent .0))
+    go false e = none-owed-nothing (p .session .owed) e
+
+-- ---- op codes
+
+-- a granted request with this row leaves nothing owed where its op code cancels, and else what was
+abbrev OwedRow : ℕ → Rule → Type 0
+OwedRow cmd r = (h : Header) (string : List ℕ) (l : Local) → owedIn (r .effect h string l) ≡ cond (cancelling cmd) Nothing (owedIn l)
+
+owed-liftedAt : (at : ℕ) (l : Local) → owedIn (liftedAt at l) ≡ owedIn l
+unfolding liftedAt liftedIn
+owed-liftedAt at l = by-test (λ (k : Local). owedIn k ≡ owedIn l) (ltb (find (At at) (l .process)) 8) (λ e. refl) (λ e. refl)
+
+owed-stepped : (l : Local) → owedIn (stepped l) ≡ owedIn l
+unfolding stepped
+owed-stepped l = by-test (λ (k : Local). owedIn k ≡ owedIn l) (atBreak (l .process .run)) (λ e. owed-liftedAt (pc (l .process)) l) (λ e. refl)
+
+owed-proceeded : (l : Local) → owedIn (proceeded l) ≡ owedIn l
+unfolding proceeded
+owed-proceeded l = owed-liftedAt (pc (l .process)) l
+
+owed-breakSet : (a n : ℕ) (l : Local) → owedIn (breakSet a n l) ≡ owedIn l
+unfolding breakSet plantedIn
+owed-breakSet a n l = by-test (λ (k : Local). owedIn k ≡ owedIn l) (hasBreak a (l .process)) (λ e. refl) (λ e. refl)
+
+abbrev Each : ℕ → List Rule → Type 0
+Each cmd [] = Unit {0}
+Each cmd (r ∷ rs) = OwedRow cmd r × Each (suc cmd) rs
+
+each-getD : (from : ℕ) (rs : List Rule) → Each from rs → (k : ℕ) → k < length rs → OwedRow (k + from) (getD rs k noRule)
+each-getD from [] e k h = absurd (omega arith)
+each-getD from (r ∷ rs) e zero h = let same : 0 + from ≡ from = omega arith in rw same (e .0)
+each-getD from (r ∷ rs) e (suc k) h =
+    let same : k + suc from ≡ suc k + from = omega arith in
+    rw (← same) (each-getD (suc from) rs (e .1) k (omega arith))
+
+each-row : Each 0 rules
+unfolding endDebugged stopped deposited breakRemoved removedFrom cleared fresh
+each-row =
+    ((λ h s l. refl), ((λ h s l. refl), ((λ h s l. refl), ((λ h s l. refl), ((λ h s l. refl), ((λ h s l. refl), ((λ h s l. refl), ((λ h s l. refl), ((λ h s l. owed-breakSet (h .arg1) (h .arg2) l), ((λ h s l. refl), ((λ h s l. owed-stepped l), ((λ h s l. owed-proceeded l), ((λ h s l. refl), ((λ h s l. refl), tt))))))))))))))
+
+pub rule-owed : (cmd : ℕ) → cmd < length ops → OwedRow cmd (ruleOf cmd)
+unfolding ruleOf
+rule-owed cmd h = let same : cmd + 0 ≡ cmd = omega arith in subst (λ (n : ℕ). OwedRow n (getD rules cmd noRule)) same (each-getD 0 rules each-row cmd h)
+
+-- ---- letters
+
+-- a `c` or an `s`, with the answer that it makes owed
+pub record Later (letter : ℕ) : Type 0 where
+  pub owed : Owed
+  pub later : owes owed ≡ true
+  pub is : letter ≡ owedLetter owed
+
+-- a row that leaves what was owed
+abbrev pub Keeps : TextRule → Type 0
+Keeps r = (x : Line) (l : Local) → owedIn (r .effect x l) ≡ owedIn l
+
+-- the eighth of the letters, where it is none of the seven others
+is-step : (letter : ℕ) → known letter ≡ true → eqb letter 105 || eqb letter 100 ≡ false → eqb letter 73 || eqb letter 68 ≡ false → eqb letter 114 ≡ false → eqb letter 82 ≡ false → eqb letter 99 ≡ false
+    → letter ≡ 115
+unfolding known
+is-step letter k words writes r w c =
+    eqb-true letter 115
+    (rw (||-left (eqb letter 105) _ words, ||-right (eqb letter 105) _ words, ||-left (eqb letter 73) _ writes, ||-right (eqb letter 73) _ writes, r, w, c) at k)
+
+-- each letter leaves what was owed, or is a `c` or an `s`
+pub letter-owed : (letter : ℕ) → known letter ≡ true → Keeps (textRuleOf letter) ⊎ Later letter
+unfolding textRuleOf deposited
+letter-owed letter k =
+    by-test Or (eqb letter 105 || eqb letter 100) (λ e. inl (λ x l. refl))
+    (λ e₁. by-test Or (eqb letter 73 || eqb letter 68) (λ e. inl (λ x l. refl))
+    (λ e₂. by-test Or (eqb letter 114) (λ e. inl (λ x l. refl))
+    (λ e₃. by-test Or (eqb letter 82) (λ e. inl (λ x l. refl))
+    (λ e₄. by-test Or (eqb letter 99) (λ e. inr (record { owed = Continue; later = refl; is = eqb-true letter 99 e }))
+    (λ e₅. inr (record { owed = Step; later = refl; is = is-step letter k e₁ e₂ e₃ e₄ e₅ }))))))
+  where
+    Or : TextRule → Type 0
+    Or r = Keeps r ⊎ Later letter
+
+-- a `c` or an `s` leaves its answer owed, and is answered by nothing at once
+pub later-owed : (o : Owed) → owes o ≡ true → (x : Line) (l : Local) → owedIn (textRuleOf (owedLetter o) .effect x l) ≡ o
+unfolding textRuleOf continued steppedFrom
+later-owed Nothing e x l = absurd (true≢false (sym e))
+later-owed Continue e x l = refl
+later-owed Step e x l = refl
+
+pub later-silent : (o : Owed) → owes o ≡ true → (x : Line) (l : Local) → textRuleOf (owedLetter o) .reply x l ≡ []
+unfolding textRuleOf
+later-silent Nothing e x l = absurd (true≢false (sym e))
+later-silent Continue e x l = refl
+later-silent Step e x l = refl
+
+-- ---- a report
+
+-- the line of an answer that is not owed is none
+pub no-line : (p kind : ℕ) (o : Owed) → owes o ≡ false → owedLine p kind o ≡ []
+unfolding owedLine
+no-line p kind o e = rw e
+
+-- a report stops the process and gives the answer that is owed, or does neither
+pub answer-or : (kind : ℕ) (words : List ℕ) (l : Local)
+    → ((verdictOf kind (storeVectorAndReplant words l .process) ≡ Stops) × (answerOf kind words l ≡ owedIn l))
+    ⊎ ((verdictOf kind (storeVectorAndReplant words l .process) ≡ Stops → ⊥) × (owes (answerOf kind words l) ≡ false))
+unfolding answerOf
+answer-or kind words l = go (verdictOf kind (storeVectorAndReplant words l .process))
+  where
+    go : (v : Verdict) → ((v ≡ Stops) × (answeredBy v (owedIn l) ≡ owedIn l)) ⊎ ((v ≡ Stops → ⊥) × (owes (answeredBy v (owedIn l)) ≡ false))
+    go Stops = inl (refl, refl)
+    go (CountsDown k) = inr ((λ e. let z : _≡_ {A = ℕ} 0 1 = cc in omega arith), refl)
+    go GoesOn = inr ((λ e. let z : _≡_ {A = ℕ} 0 1 = cc in omega arith), refl)
