@@ -3,13 +3,12 @@ use mathlib.Core.Path.{_≡_, refl, sym, ap, _∙_, subst}
 use mathlib.Core.Bool.{Bool, true, false, cond, _||_, true≢false}
 use mathlib.Core.List.{List, [], _∷_}
 use mathlib.Core.Logic.{_⊎_, inl, inr}
-use Prim.Native.Nat.{ℕ, zero, suc, _+_, _<_}
+use Prim.Native.Nat.{ℕ, zero, suc, _+_, _≤_, _<_}
 use native.Mathlib.Omega.{arith}
-use borrow.Author.Tests.{eqb-true}
-use lib.ListN.{length, getD}
+use borrow.Author.Tests.{eqb-true, ne-eqb, ltb-true, ltb-false}
+use lib.ListN.{length, getD, List·getD-eq-default}
 use lib.Dec.{eqb, ltb}
 use Rattle.lists.proofs.Bool.{||-left, ||-right}
-use Rattle.ops.specs.Table.{ops}
 use Rattle.format.specs.declared.header.Header.{Header}
 use Rattle.fields.specs.declared.read.Line.{Line}
 use Rattle.fields.specs.Letters.{known}
@@ -84,9 +83,17 @@ unfolding endDebugged stopped deposited breakRemoved removedFrom cleared fresh
 each-row =
     ((λ h s l. refl), ((λ h s l. refl), ((λ h s l. refl), ((λ h s l. refl), ((λ h s l. refl), ((λ h s l. refl), ((λ h s l. refl), ((λ h s l. refl), ((λ h s l. owed-breakSet (h .arg1) (h .arg2) l), ((λ h s l. refl), ((λ h s l. owed-stepped l), ((λ h s l. owed-proceeded l), ((λ h s l. refl), ((λ h s l. refl), tt))))))))))))))
 
-pub rule-owed : (cmd : ℕ) → cmd < length ops → OwedRow cmd (ruleOf cmd)
+-- an op code past the table has no row, and does not cancel
+past-owed : (cmd : ℕ) → 14 ≤ cmd → OwedRow cmd noRule
+past-owed cmd past h string l = rw (ne-eqb cmd 3 (λ e. omega arith), ne-eqb cmd 2 (λ e. omega arith), ne-eqb cmd 13 (λ e. omega arith))
+
+pub rule-owed : (cmd : ℕ) → OwedRow cmd (ruleOf cmd)
 unfolding ruleOf
-rule-owed cmd h = let same : cmd + 0 ≡ cmd = omega arith in subst (λ (n : ℕ). OwedRow n (getD rules cmd noRule)) same (each-getD 0 rules each-row cmd h)
+rule-owed cmd = go (ltb cmd 14) refl
+  where
+    go : (t : Bool) → ltb cmd 14 ≡ t → OwedRow cmd (getD rules cmd noRule)
+    go true e = let same : cmd + 0 ≡ cmd = omega arith in subst (λ (n : ℕ). OwedRow n (getD rules cmd noRule)) same (each-getD 0 rules each-row cmd (ltb-true cmd 14 e))
+    go false e = rw (List·getD-eq-default rules noRule (ltb-false cmd 14 e)) (past-owed cmd (ltb-false cmd 14 e))
 
 -- ---- letters
 
@@ -123,17 +130,24 @@ letter-owed letter k =
     Or r = Keeps r ⊎ Later letter
 
 -- a `c` or an `s` leaves its answer owed, and is answered by nothing at once
-pub later-owed : (o : Owed) → owes o ≡ true → (x : Line) (l : Local) → owedIn (textRuleOf (owedLetter o) .effect x l) ≡ o
-unfolding textRuleOf continued steppedFrom
-later-owed Nothing e x l = absurd (true≢false (sym e))
-later-owed Continue e x l = refl
-later-owed Step e x l = refl
+module _ (x : Line) (l : Local) where
+  answer-owed : (o : Owed) → owes o ≡ true → owedIn (textRuleOf (owedLetter o) .effect x l) ≡ o
+  unfolding textRuleOf continued steppedFrom
+  answer-owed Nothing e = absurd (true≢false (sym e))
+  answer-owed Continue e = refl
+  answer-owed Step e = refl
 
-pub later-silent : (o : Owed) → owes o ≡ true → (x : Line) (l : Local) → textRuleOf (owedLetter o) .reply x l ≡ []
-unfolding textRuleOf
-later-silent Nothing e x l = absurd (true≢false (sym e))
-later-silent Continue e x l = refl
-later-silent Step e x l = refl
+  answer-later : (o : Owed) → owes o ≡ true → textRuleOf (owedLetter o) .reply x l ≡ []
+  unfolding textRuleOf
+  answer-later Nothing e = absurd (true≢false (sym e))
+  answer-later Continue e = refl
+  answer-later Step e = refl
+
+  pub later-owed : (letter : ℕ) (o : Owed) → owes o ≡ true → letter ≡ owedLetter o → owedIn (textRuleOf letter .effect x l) ≡ o
+  later-owed letter o e i = rw i (answer-owed o e)
+
+  pub later-silent : (letter : ℕ) (o : Owed) → owes o ≡ true → letter ≡ owedLetter o → textRuleOf letter .reply x l ≡ []
+  later-silent letter o e i = rw i (answer-later o e)
 
 -- ---- a report
 
