@@ -6,11 +6,10 @@ use mathlib.Core.Logic.{_⊎_, inl, inr}
 use Prim.Native.Nat.{ℕ, _<_}
 use native.Mathlib.Omega.{arith}
 use borrow.Author.Tests.{eqb-true, eqb-false, eq-eqb, not-false}
-use lib.ListN.{length, set}
+use lib.ListN.{length}
 use lib.Dec.{eqb, leb, ltb}
-use Rattle.lists.specs.Buffer.{overlay}
-use Rattle.lists.proofs.Bool.{&&-left, &&-right}
-use Rattle.ops.specs.Codes.{CREATE}
+use Rattle.lists.proofs.Bool.{&&-right}
+use Rattle.ops.specs.Codes.{STOP, END-DEBUG, CREATE, DESTROY}
 use Rattle.format.specs.declared.header.Header.{Header}
 use Rattle.format.specs.Outcome.{outcome, firstFailing}
 use Rattle.format.specs.Layout.{headerOf, stringOf}
@@ -31,17 +30,17 @@ use Rattle.process.specs.Report.{storeVectorAndReplant, verdictOf, reported, an
 use Rattle.process.proofs.AnswerLaws.{none-owed-nothing, stops-owes, stops-still, still-stops, unanswered-owed}
 use Rattle.state.specs.Records.{lowestAbsent}
 use Rattle.rules.specs.Rule.{ruleOf, names, creates}
-use Rattle.rules.specs.TextRule.{textRuleOf, owedLine}
-use Rattle.rules.specs.Tests.{State, recordOf}
-use Rattle.rules.specs.Access.{Output, alone, Access, Place, nowhere, atProcess, numberAt, grants, refuses, reached, taken}
-use Rattle.rules.specs.Step.{StepResult, localOf, put, Call, request, report, store, textLine, step}
+use Rattle.rules.specs.TextRule.{textRuleOf}
+use Rattle.rules.specs.Tests.{State, recordOf, requestNumber, textNumber}
+use Rattle.rules.specs.Access.{alone, Access, Place, nowhere, atProcess, numberAt, grants, refuses, reached, taken}
+use Rattle.rules.specs.Step.{StepResult, localOf, put, granted, grantedNamed, grantedCreate, refused, requestStep, textStep, Call, request, report, store, textLine, step}
 use Rattle.rules.specs.Turn.{ruleAccess, createAccess, requestPlace, requestTurn, reportAccess, reportTurn, storeAccess, storeTurn, textAccess, textTurn, turnOf, buffersOf}
 use Rattle.rules.specs.Ready.{Ready}
 use Rattle.rules.specs.Isolation.{namesOne, subject, fieldsOf, isGranted}
 use Rattle.rules.specs.Outsider.{only}
 use Rattle.rules.specs.Loops.{wordsOf}
-use Rattle.rules.specs.Owed.{textOf, kindOf, reasonOf, Granted, owedAt, cancelling, Asks, StopsIt, Cancels, Answers, NoLine, Settled, Fate, OwedAnswers}
-use Rattle.rules.proofs.StateLaws.{each-sound, Changed}
+use Rattle.rules.specs.Owed.{textOf, kindOf, reasonOf, Granted, owedAt, cancelling, Asks, StopsIt, Cancels, Answers, NoLine, Settled, ends, asksAgain, stays, Fate, owedStill, answered, cancelled, waits, OwedAnswers}
+use Rattle.rules.proofs.StateLaws.{each-sound}
 use Rattle.rules.proofs.NumberLaws.{by-test, orElse-zero}
 use Rattle.rules.proofs.AccessLaws.{outerNumber}
 use Rattle.rules.proofs.CallLaws.{There, Placed}
@@ -97,15 +96,15 @@ module _ (s : State) (r : Ready s) (c : Call) where
 -- ---- what one call does to the answer that process p owes
 
 data Turned (p : ℕ) (s : State) (c : Call) : Type 0 where
-  answered : StopsIt p s c → Answers p (owedAt s p) s c → owedAt (step s c .after) p ≡ Nothing → Turned p s c
-  cancelled : Cancels p s c → NoLine p s c → owedAt (step s c .after) p ≡ Nothing → Turned p s c
-  asked : (o : Owed) → Asks p o s c → NoLine p s c → owedAt s p ≡ Nothing → Turned p s c
-  kept : (StopsIt p s c → ⊥) → (Cancels p s c → ⊥) → NoLine p s c → owedAt (step s c .after) p ≡ owedAt s p → Turned p s c
+  answers : StopsIt p s c → Answers p (owedAt s p) s c → owedAt (step s c .after) p ≡ Nothing → Turned p s c
+  cancels : Cancels p s c → NoLine p s c → owedAt (step s c .after) p ≡ Nothing → Turned p s c
+  asks : (o : Owed) → Asks p o s c → NoLine p s c → owedAt s p ≡ Nothing → Turned p s c
+  keeps : (StopsIt p s c → ⊥) → (Cancels p s c → ⊥) → NoLine p s c → owedAt (step s c .after) p ≡ owedAt s p → Turned p s c
 
 -- a refused call keeps it
 refused-kept : (p : ℕ) (s : State) (c : Call) → Refused s c → Turned p s c
 refused-kept p s c f =
-    kept (λ x. true≢false (sym (x .granted) ∙ f .ungranted)) (λ x. true≢false (sym (x .granted) ∙ f .ungranted)) (λ i. f .silent)
+    keeps (λ x. true≢false (sym (x .granted) ∙ f .ungranted)) (λ x. true≢false (sym (x .granted) ∙ f .ungranted)) (λ i. f .silent)
     (ap (λ (t : State). owedAt t p) (f .same))
 
 -- a request that cancels names the process that it is about
@@ -120,12 +119,12 @@ cancels-pid (textLine text buffer) q e k = absurd (true≢false (sym k))
 -- an op code that cancels names a process
 cancels-names : (cmd : ℕ) → cancelling cmd ≡ true → names cmd ≡ true
 unfolding names
-cancels-names cmd = go (eqb cmd 3) refl (eqb cmd 2) refl
+cancels-names cmd = go (eqb cmd STOP) refl (eqb cmd END-DEBUG) refl
   where
-    go : (t : Bool) → eqb cmd 3 ≡ t → (u : Bool) → eqb cmd 2 ≡ u → t || (u || eqb cmd 13) ≡ true → names cmd ≡ true
-    go true e u i k = rw (eqb-true cmd 3 e)
-    go false e true i k = rw (eqb-true cmd 2 i)
-    go false e false i k = rw (eqb-true cmd 13 k)
+    go : (t : Bool) → eqb cmd STOP ≡ t → (u : Bool) → eqb cmd END-DEBUG ≡ u → t || (u || eqb cmd DESTROY) ≡ true → names cmd ≡ true
+    go true e u i k = rw (eqb-true cmd STOP e)
+    go false e true i k = rw (eqb-true cmd END-DEBUG i)
+    go false e false i k = rw (eqb-true cmd DESTROY k)
 
 -- ---- a granted call at process q
 
@@ -147,15 +146,15 @@ module _ (s : State) (r : Ready s) (c : Call) (q : ℕ) (a : Access) (x : Acted 
   elsewhere : (p : ℕ) → p < 8 → (p ≡ q → ⊥) → Turned p s c
   unfolding subject
   elsewhere p low other =
-      kept (λ y. away (subst (λ (d : Call). subject (only p) d ≡ true) (sym (y .is)) (eq-eqb p p refl))) (λ y. cancels y (x .there .reaches)) (λ i. absurd (away i))
+      keeps (λ y. away (subst (λ (d : Call). subject (only p) d ≡ true) (sym (y .is)) (eq-eqb p p refl))) (λ y. no-cancels y (x .there .reaches)) (λ i. absurd (away i))
       (ap (λ (y : StepResult). owedAt (y .after) p) (x .is) ∙ ap owedIn (acts-changed s r c q a (x .there) (x .passes) .else p low other))
     where
       away : subject (only p) c ≡ true → ⊥
       away i = other (eqb-true p q (x .there .named (only p) i))
 
-      cancels : Cancels p s c → (subject (only q) c ≡ true) ⊎ (fieldsOf c .cmd ≡ CREATE) → ⊥
-      cancels y (inl i) = other (sym (cancels-pid c q i (y .op) ∙ y .named))
-      cancels y (inr e) = true≢false (sym (y .op) ∙ ap cancelling e)
+      no-cancels : Cancels p s c → (subject (only q) c ≡ true) ⊎ (fieldsOf c .cmd ≡ CREATE) → ⊥
+      no-cancels y (inl i) = other (sym (cancels-pid c q i (y .op) ∙ y .named))
+      no-cancels y (inr e) = true≢false (sym (y .op) ∙ ap cancelling e)
 
   anywhere : Turned q s c → (p : ℕ) → p < 8 → Turned p s c
   anywhere here p low = go (eqb p q) refl
@@ -187,8 +186,8 @@ module _ (s : State) (r : Ready s) (m buffer : List ℕ) where
       after = acted-owes s r asking _ _ x ∙ rule-owed (h .cmd) h (stringOf m) (localOf s (h .pid))
 
       go : (t : Bool) → cancelling (h .cmd) ≡ t → Turned (h .pid) s asking
-      go true e = cancelled (record { op = e; named = refl; granted = acted-granted s r asking _ _ x }) (λ i. silent) (after ∙ rw e)
-      go false e = kept (no-report (h .pid)) (λ y. true≢false (sym (y .op) ∙ e)) (λ i. silent) (after ∙ rw e)
+      go true e = cancels (record { op = e; named = refl; granted = acted-granted s r asking _ _ x }) (λ i. silent) (after ∙ rw e)
+      go false e = keeps (no-report (h .pid)) (λ y. true≢false (sym (y .op) ∙ e)) (λ i. silent) (after ∙ rw e)
 
   -- CREATE and NOP name no process, so they do not cancel
   no-cancel : names (headerOf m .cmd) ≡ false → (p : ℕ) → Cancels p s (request m buffer) → ⊥
@@ -200,7 +199,7 @@ module _ (s : State) (r : Ready s) (m buffer : List ℕ) where
   unfolding createAccess created fresh
   created-turned n x =
       let q = lowestAbsent (s .records) in
-      kept (no-report q) (no-cancel n q) (λ i. acted-line s r asking _ _ x)
+      keeps (no-report q) (no-cancel n q) (λ i. acted-line s r asking _ _ x)
       (acted-owes s r asking _ _ x ∙ sym (absent-owes (recordOf s q) (each-sound s r q (x .there .low)) (lowest-absent s r (x .there .low))))
 
   request-turned : (p : ℕ) → p < 8 → Turned p s (request m buffer)
@@ -210,7 +209,7 @@ module _ (s : State) (r : Ready s) (m buffer : List ℕ) where
       placed : (t : Bool) → names (h .cmd) ≡ t → (u : Bool) → creates (h .cmd) ≡ u → Reached s asking (requestPlace h (stringOf m) s) → Turned p s asking
       placed true n u k x = let y = rw n at x in anywhere s r asking _ _ y (named-turned y) p low
       placed false n true k x = let y = rw (n, k) at x in anywhere s r asking _ _ y (created-turned n y) p low
-      placed false n false k x = let y = rw (n, k) at x in kept (no-report p) (no-cancel n p) (λ i. rw y) (rw y)
+      placed false n false k x = let y = rw (n, k) at x in keeps (no-report p) (no-cancel n p) (λ i. rw y) (rw y)
 
       go : Refused s asking ⊎ ((firstFailing (turnOf s asking .tests) ≡ 0) × Reached s asking (turnOf s asking .place)) → Turned p s asking
       go (inl f) = refused-kept p s asking f
@@ -250,19 +249,26 @@ module _ (s : State) (r : Ready s) (q kind reason : ℕ) (words buffer line : Li
         go : ((verdictOf kind (storeVectorAndReplant words before .process) ≡ Stops) × (answerOf kind words before ≡ owedIn before))
             ⊎ ((verdictOf kind (storeVectorAndReplant words before .process) ≡ Stops → ⊥) × (owes (answerOf kind words before) ≡ false)) → Turned q s told
         go (inl v) =
-            answered (record { is = refl; granted = acted-granted s r told _ _ x; stops = after-run ∙ stops-still kind words before (v .0) })
+            answers (record { is = refl; granted = acted-granted s r told _ _ x; stops = after-run ∙ stops-still kind words before (v .0) })
             (report-answers (v .1)) (after ∙ stops-owes kind words before (v .0))
         go (inr v) =
-            kept (λ y. v .0 (still-stops kind words before accepted (sym after-run ∙ y .stops))) (λ y. true≢false (sym (y .op)))
+            keeps (λ y. v .0 (still-stops kind words before accepted (sym after-run ∙ y .stops))) (λ y. true≢false (sym (y .op)))
             (λ i. acted-line s r told _ _ x ∙ ap length (no-line q kind (answerOf kind words before) (v .1))) (after ∙ unanswered-owed kind words before (v .1))
 
-  report-turned : (p : ℕ) → p < 8 → Turned p s (report q kind reason words buffer line)
+  report-came : Refused s (report q kind reason words buffer line) ⊎ Acted s (report q kind reason words buffer line) q (reportAccess q kind reason words)
   unfolding turnOf reportTurn Reached
-  report-turned p low = go (came s r told)
+  report-came = go (came s r told)
     where
-      go : Refused s told ⊎ ((firstFailing (turnOf s told .tests) ≡ 0) × Acted s told q (reportAccess q kind reason words)) → Turned p s told
+      go : Refused s told ⊎ ((firstFailing (turnOf s told .tests) ≡ 0) × Acted s told q (reportAccess q kind reason words)) → Refused s told ⊎ Acted s told q (reportAccess q kind reason words)
+      go (inl f) = inl f
+      go (inr x) = inr (x .1)
+
+  report-turned : (p : ℕ) → p < 8 → Turned p s (report q kind reason words buffer line)
+  report-turned p low = go report-came
+    where
+      go : Refused s told ⊎ Acted s told q (reportAccess q kind reason words) → Turned p s told
       go (inl f) = refused-kept p s told f
-      go (inr x) = anywhere s r told _ _ (x .1) (report-here (x .1)) p low
+      go (inr x) = anywhere s r told _ _ x (report-here x) p low
 
 -- ---- stores
 
@@ -273,7 +279,7 @@ module _ (s : State) (r : Ready s) (q a v : ℕ) where
   store-silent : (p : ℕ) → step s (store q a v) .answer .lineLength ≡ 0 → owedAt (step s (store q a v) .after) p ≡ owedAt s p → Turned p s (store q a v)
   unfolding fieldsOf
   store-silent p silent same =
-      kept (λ y. let e = y .is in let z : _≡_ {A = ℕ} 0 1 = cc in omega arith) (λ y. true≢false (sym (y .op))) (λ i. silent) same
+      keeps (λ y. let e = y .is in let z : _≡_ {A = ℕ} 0 1 = cc in omega arith) (λ y. true≢false (sym (y .op))) (λ i. silent) same
 
   store-turned : (p : ℕ) → p < 8 → Turned p s (store q a v)
   unfolding turnOf storeTurn storeAccess Reached
@@ -288,6 +294,12 @@ module _ (s : State) (r : Ready s) (q a v : ℕ) where
       go (inr x) = placed (ltb q 8) refl (x .1)
 
 -- ---- text lines
+
+-- what a granted `c` or `s` answers, and leaves
+record Begun (p : ℕ) (o : Owed) (s : State) (c : Call) : Type 0 where
+  low : p < 8
+  silent : step s c .answer ≡ grants (alone []) (buffersOf c)
+  owed : owedAt (step s c .after) p ≡ o
 
 module _ (s : State) (r : Ready s) (text buffer : List ℕ) where
   abbrev lined : Call
@@ -325,18 +337,19 @@ module _ (s : State) (r : Ready s) (text buffer : List ℕ) where
         silent = acted-line s r lined _ _ x
 
         go : Keeps (textRuleOf letter) ⊎ Later letter → Turned pid s lined
-        go (inl keeps) =
-            kept (λ y. let e = y .is in let z : _≡_ {A = ℕ} 0 1 = cc in omega arith) (λ y. true≢false (sym (y .op))) (λ i. silent)
-            (acted-owes s r lined _ _ x ∙ keeps (lineOf text) (localOf s pid))
+        go (inl same) =
+            keeps (λ y. let e = y .is in let z : _≡_ {A = ℕ} 0 1 = cc in omega arith) (λ y. true≢false (sym (y .op))) (λ i. silent)
+            (acted-owes s r lined _ _ x ∙ same (lineOf text) (localOf s pid))
         go (inr y) =
-            asked (y .owed) (record { is = refl; named = refl; letter = y .is; later = y .later; granted = acted-granted s r lined _ _ x }) (λ i. silent) none-owed
+            asks (y .owed) (record { is = refl; named = refl; letter = y .is; later = y .later; granted = acted-granted s r lined _ _ x }) (λ i. silent) none-owed
 
-    -- what a granted `c` or `s` answers, and leaves
-    text-asked : (o : Owed) → owes o ≡ true → lineOf text .letter ≡ owedLetter o
-        → (step s (textLine text buffer) .answer .outcome ≡ outcome 0 0) × (owedAt (step s (textLine text buffer) .after) (lineOf text .pid) ≡ o)
+    text-begun : (o : Owed) → owes o ≡ true → lineOf text .letter ≡ owedLetter o → Begun (lineOf text .pid) o s (textLine text buffer)
     unfolding textAccess
-    text-asked o e i =
-        (rw (x .is, later-silent (lineOf text) (localOf s pid) letter o e i), acted-owes s r lined _ _ x ∙ later-owed (lineOf text) (localOf s pid) letter o e i)
+    text-begun o e i = record {
+      low = x .there .low;
+      silent = rw (x .is, later-silent (lineOf text) (localOf s pid) letter o e i);
+      owed = acted-owes s r lined _ _ x ∙ later-owed (lineOf text) (localOf s pid) letter o e i;
+    }
 
   text-turned : (p : ℕ) → p < 8 → Turned p s (textLine text buffer)
   text-turned p low = go text-came
@@ -345,14 +358,13 @@ module _ (s : State) (r : Ready s) (text buffer : List ℕ) where
       go (inl f) = refused-kept p s lined f
       go (inr x) = anywhere s r lined _ _ (x .1) (text-here (x .1) (x .0)) p low
 
-  line-asked : (p : ℕ) (o : Owed) → Asks p o s (textLine text buffer)
-      → (step s (textLine text buffer) .answer .outcome ≡ outcome 0 0) × (owedAt (step s (textLine text buffer) .after) p ≡ o)
+  line-asked : (p : ℕ) (o : Owed) → Asks p o s (textLine text buffer) → Begun p o s (textLine text buffer)
   unfolding textOf
   line-asked p o y = go text-came
     where
-      go : Refused s lined ⊎ ((known letter ≡ true) × Acted s lined pid (textAccess (lineOf text))) → (step s lined .answer .outcome ≡ outcome 0 0) × (owedAt (step s lined .after) p ≡ o)
+      go : Refused s lined ⊎ ((known letter ≡ true) × Acted s lined pid (textAccess (lineOf text))) → Begun p o s lined
       go (inl f) = absurd (true≢false (sym (y .granted) ∙ f .ungranted))
-      go (inr x) = let done = text-asked (x .1) o (y .later) (y .letter) in (done .0, rw (← y .named) (done .1))
+      go (inr x) = subst (λ (n : ℕ). Begun n o s lined) (y .named) (text-begun (x .1) o (y .later) (y .letter))
 
 -- ---- any call
 
@@ -362,11 +374,11 @@ turned s r (report q kind reason words buffer line) = report-turned s r q kind r
 turned s r (store q a v) = store-turned s r q a v
 turned s r (textLine text buffer) = text-turned s r text buffer
 
-asks-answer : (s : State) → Ready s → (c : Call) (p : ℕ) (o : Owed) → Asks p o s c → (step s c .answer .outcome ≡ outcome 0 0) × (owedAt (step s c .after) p ≡ o)
-asks-answer s r (request m buffer) p o y = absurd (let e = y .is in let z : _≡_ {A = ℕ} 0 1 = cc in omega arith)
-asks-answer s r (report q kind reason words buffer line) p o y = absurd (let e = y .is in let z : _≡_ {A = ℕ} 0 1 = cc in omega arith)
-asks-answer s r (store q a v) p o y = absurd (let e = y .is in let z : _≡_ {A = ℕ} 0 1 = cc in omega arith)
-asks-answer s r (textLine text buffer) p o y = line-asked s r text buffer p o y
+begun : (s : State) → Ready s → (c : Call) (p : ℕ) (o : Owed) → Asks p o s c → Begun p o s c
+begun s r (request m buffer) p o y = absurd (let e = y .is in let z : _≡_ {A = ℕ} 0 1 = cc in omega arith)
+begun s r (report q kind reason words buffer line) p o y = absurd (let e = y .is in let z : _≡_ {A = ℕ} 0 1 = cc in omega arith)
+begun s r (store q a v) p o y = absurd (let e = y .is in let z : _≡_ {A = ℕ} 0 1 = cc in omega arith)
+begun s r (textLine text buffer) p o y = line-asked s r text buffer p o y
 
 -- ---- lists
 
@@ -375,52 +387,82 @@ nothing-sent : (p : ℕ) (s : State) (c : Call) → owedAt s p ≡ Nothing → A
 nothing-sent p s c e a i = a .told ∙ ap length (no-line p (kindOf c) (owedAt s p) (ap owes e))
 
 settled : (p : ℕ) → p < 8 → (s : State) → Ready s → owedAt s p ≡ Nothing → (l : List Call) → Settled p s l
-unfolding Settled
-settled p low s r e [] = e
+settled p low s r e [] = ends e
 settled p low s r e (c ∷ l) = go (turned s r c p low) (λ i. settled p low (step s c .after) (step-ready s r c) i l)
   where
-    go : Turned p s c → (owedAt (step s c .after) p ≡ Nothing → Settled p (step s c .after) l) → (owedAt s p ≡ Nothing) × (NoLine p s c × (((o : Owed) × Asks p o s c) ⊎ Settled p (step s c .after) l))
-    go (answered x a i) then = (e, (nothing-sent p s c e a, inr (then i)))
-    go (cancelled x n i) then = (e, (n, inr (then i)))
-    go (asked o x n i) then = (e, (n, inl (o, x)))
-    go (kept x y n i) then = (e, (n, inr (then (i ∙ e))))
+    go : Turned p s c → (owedAt (step s c .after) p ≡ Nothing → Settled p (step s c .after) l) → Settled p s (c ∷ l)
+    go (answers x a i) then = stays e (nothing-sent p s c e a) (then i)
+    go (cancels x n i) then = stays e n (then i)
+    go (asks o x n i) then = asksAgain e n o x
+    go (keeps x y n i) then = stays e n (then (i ∙ e))
 
 fate : (p : ℕ) → p < 8 → (o : Owed) → owes o ≡ true → (s : State) → Ready s → owedAt s p ≡ o → (l : List Call) → Fate p o s l
-unfolding Fate
-fate p low o later s r e [] = e
+fate p low o later s r e [] = owedStill e
 fate p low o later s r e (c ∷ l) = go (turned s r c p low) (λ i. fate p low o later (step s c .after) (step-ready s r c) i l)
   where
     then : owedAt (step s c .after) p ≡ Nothing → Settled p (step s c .after) l
     then i = settled p low (step s c .after) (step-ready s r c) i l
 
-    go : Turned p s c → (owedAt (step s c .after) p ≡ o → Fate p o (step s c .after) l)
-        → ((StopsIt p s c × Answers p o s c) × Settled p (step s c .after) l)
-        ⊎ (((Cancels p s c × NoLine p s c) × Settled p (step s c .after) l)
-        ⊎ (((StopsIt p s c → ⊥) × ((Cancels p s c → ⊥) × NoLine p s c)) × Fate p o (step s c .after) l))
-    go (answered x a i) on = inl ((x, subst (λ (k : Owed). Answers p k s c) e a), then i)
-    go (cancelled x n i) on = inr (inl ((x, n), then i))
-    go (asked k x n i) on = absurd (true≢false (sym later ∙ ap owes (sym e ∙ i)))
-    go (kept x y n i) on = inr (inr ((x, (y, n)), on (i ∙ e)))
+    go : Turned p s c → (owedAt (step s c .after) p ≡ o → Fate p o (step s c .after) l) → Fate p o s (c ∷ l)
+    go (answers x a i) on = answered x (subst (λ (k : Owed). Answers p k s c) e a) (then i)
+    go (cancels x n i) on = cancelled x n (then i)
+    go (asks k x n i) on = absurd (true≢false (sym later ∙ ap owes (sym e ∙ i)))
+    go (keeps x y n i) on = waits x y n (on (i ∙ e))
 
--- ---- the theorem
+-- ---- who sends a line
 
-only-owed : (s : State) → Ready s → (c : Call) (p : ℕ) → p < 8 → subject (only p) c ≡ true → 0 < step s c .answer .lineLength
-    → (owes (owedAt s p) ≡ true) × (StopsIt p s c × Answers p (owedAt s p) s c)
-only-owed s r c p low about sent = go (turned s r c p low)
+-- a report about process p sends the line that it owed
+abbrev Sender : State → Call → ℕ → Type 0
+Sender s c p = (owes (owedAt s p) ≡ true) × (StopsIt p s c × Answers p (owedAt s p) s c)
+
+sends : (s : State) → Ready s → (c : Call) (p : ℕ) → p < 8 → subject (only p) c ≡ true → 0 < step s c .answer .lineLength → Sender s c p
+sends s r c p low about sent = go (turned s r c p low)
   where
     owed : Answers p (owedAt s p) s c → (t : Bool) → owes (owedAt s p) ≡ t → t ≡ true
     owed a true e = refl
     owed a false e = absurd (omega (arith, sent, a .told, ap length (no-line p (kindOf c) (owedAt s p) e)))
 
-    go : Turned p s c → (owes (owedAt s p) ≡ true) × (StopsIt p s c × Answers p (owedAt s p) s c)
-    go (answered x a i) = (owed a (owes (owedAt s p)) refl, (x, a))
-    go (cancelled x n i) = absurd (omega (arith, sent, n about))
-    go (asked o x n i) = absurd (omega (arith, sent, n about))
-    go (kept x y n i) = absurd (omega (arith, sent, n about))
+    go : Turned p s c → Sender s c p
+    go (answers x a i) = (owed a (owes (owedAt s p)) refl, (x, a))
+    go (cancels x n i) = absurd (omega (arith, sent, n about))
+    go (asks o x n i) = absurd (omega (arith, sent, n about))
+    go (keeps x y n i) = absurd (omega (arith, sent, n about))
+
+report-only : (s : State) → Ready s → (q kind reason : ℕ) (words buffer line : List ℕ) → 0 < step s (report q kind reason words buffer line) .answer .lineLength
+    → (p : ℕ) × Sender s (report q kind reason words buffer line) p
+unfolding subject
+report-only s r q kind reason words buffer line sent = go (report-came s r q kind reason words buffer line)
+  where
+    go : Refused s (report q kind reason words buffer line) ⊎ Acted s (report q kind reason words buffer line) q (reportAccess q kind reason words)
+        → (p : ℕ) × Sender s (report q kind reason words buffer line) p
+    go (inl f) = absurd (omega (arith, sent, f .silent))
+    go (inr x) = (q, sends s r (report q kind reason words buffer line) q (x .there .low) (eq-eqb q q refl) sent)
+
+request-sends : (s : State) (m buffer : List ℕ) → requestStep m buffer s .answer .lineLength ≡ 0
+unfolding requestStep granted grantedNamed grantedCreate refused
+request-sends s m buffer =
+    by-test None (eqb (requestNumber s m buffer) 0)
+    (λ e. by-test None (names (headerOf m .cmd)) (λ i. refl) (λ i. by-test None (creates (headerOf m .cmd)) (λ k. refl) (λ k. refl))) (λ e. refl)
+  where
+    None : StepResult → Type 0
+    None x = x .answer .lineLength ≡ 0
+
+text-sends : (s : State) (text buffer : List ℕ) → textStep text buffer s .answer .lineLength ≡ 0
+unfolding textStep
+text-sends s text buffer = by-test (λ (x : StepResult). x .answer .lineLength ≡ 0) (eqb (textNumber s text buffer) 0) (λ e. refl) (λ e. refl)
+
+only-owed : (s : State) → Ready s → (c : Call) → 0 < step s c .answer .lineLength → (p : ℕ) × Sender s c p
+unfolding step
+only-owed s r (request m buffer) sent = absurd (omega (arith, sent, request-sends s m buffer))
+only-owed s r (report q kind reason words buffer line) sent = report-only s r q kind reason words buffer line sent
+only-owed s r (store q a v) sent = absurd (omega (arith, sent))
+only-owed s r (textLine text buffer) sent = absurd (omega (arith, sent, text-sends s text buffer))
+
+-- ---- the theorem
 
 pub owed-answers : OwedAnswers
 owed-answers = record {
-  asked = asks-answer;
+  asked = λ s r c p o y. let b = begun s r c p o y in (b .silent, λ l. fate p (b .low) o (y .later) (step s c .after) (step-ready s r c) (b .owed) l);
   fate = λ s r p low o later e l. fate p low o later s r e l;
   only-owed = only-owed;
 }

@@ -1,37 +1,40 @@
 -- What is left of an owed answer by each row of the rules: those of the op codes, those of the letters, and a report. Assumes nothing.
-use mathlib.Core.Path.{_≡_, refl, sym, ap, _∙_, subst}
+use mathlib.Core.Path.{_≡_, refl, sym}
 use mathlib.Core.Bool.{Bool, true, false, cond, _||_, true≢false}
-use mathlib.Core.List.{List, [], _∷_}
+use mathlib.Core.List.{List, []}
 use mathlib.Core.Logic.{_⊎_, inl, inr}
-use Prim.Native.Nat.{ℕ, zero, suc, _+_, _≤_, _<_}
+use Prim.Native.Nat.{ℕ, _≤_}
 use native.Mathlib.Omega.{arith}
 use borrow.Author.Tests.{eqb-true, ne-eqb, ltb-true, ltb-false}
-use lib.ListN.{length, getD, List·getD-eq-default}
+use lib.ListN.{length, List·getD-eq-default}
 use lib.Dec.{eqb, ltb}
 use Rattle.lists.proofs.Bool.{||-left, ||-right}
+use Rattle.ops.specs.Codes.{STOP, END-DEBUG, DESTROY}
+use Rattle.ops.specs.Table.{ops}
 use Rattle.format.specs.declared.header.Header.{Header}
 use Rattle.fields.specs.declared.read.Line.{Line}
-use Rattle.fields.specs.Letters.{known}
+use Rattle.fields.specs.Letters.{READ-CODE, READ-DATA, WRITE-CODE, WRITE-DATA, READ-REGISTER, WRITE-REGISTER, CONTINUE, STEP, known}
 use Rattle.session.specs.declared.Owed.{Owed}
 use Rattle.session.specs.declared.Owed.the-variants.{Nothing, Continue, Step}
 use Rattle.session.specs.Session.{owes, owedLetter}
 use Rattle.breakpoints.specs.declared.entry_query.EntryQuery.the-variants.{At}
-use Rattle.run_state.specs.RunState.{stoppedOrAtBreak, atBreak}
+use Rattle.run_state.specs.RunState.{atBreak}
 use Rattle.process.specs.declared.record.Process.{Process}
 use Rattle.process.specs.Record.{fresh}
 use Rattle.process.specs.Find.{find}
 use Rattle.process.specs.Sound.{Sound}
 use Rattle.process.specs.Local.{Local}
 use Rattle.process.specs.Planting.{plantedIn, liftedIn, removedFrom, liftedAt}
-use Rattle.process.specs.Request.{pc, hasBreak, endDebugged, stopped, resumed, stepped, proceeded, continued, steppedFrom, deposited, vectorDeposited, breakSet, breakRemoved, cleared, destroyed}
+use Rattle.process.specs.Request.{pc, hasBreak, endDebugged, stopped, stepped, proceeded, continued, steppedFrom, deposited, breakSet, breakRemoved, cleared}
 use Rattle.process.specs.declared.report.Verdict.{Verdict}
 use Rattle.process.specs.declared.report.Verdict.the-variants.{Stops, CountsDown, GoesOn}
 use Rattle.process.specs.Report.{storeVectorAndReplant, verdictOf, answeredBy, answerOf}
 use Rattle.process.proofs.AnswerLaws.{none-owed-nothing}
-use Rattle.rules.specs.Rule.{Rule, rules, noRule, debugRule, endDebugRule, examineRule, breakRule, unbreakRule, plain, whileRun, inRange, upTo, ruleOf}
-use Rattle.rules.specs.TextRule.{TextRule, readWordRule, writeWordRule, readRegisterRule, writeRegisterRule, goRule, textRuleOf, owedLine}
+use Rattle.rules.specs.Rule.{Rule, rules, noRule, ruleOf}
+use Rattle.rules.specs.TextRule.{TextRule, textRuleOf, owedLine}
 use Rattle.rules.specs.Owed.{cancelling}
-use Rattle.rules.proofs.NumberLaws.{by-test, same-cond}
+use Rattle.rules.proofs.RuleLaws.{Each, each-rule}
+use Rattle.rules.proofs.NumberLaws.{by-test}
 
 -- the answer that a process owes
 abbrev pub owedIn : Local → Owed
@@ -67,33 +70,23 @@ owed-breakSet : (a n : ℕ) (l : Local) → owedIn (breakSet a n l) ≡ owedIn l
 unfolding breakSet plantedIn
 owed-breakSet a n l = by-test (λ (k : Local). owedIn k ≡ owedIn l) (hasBreak a (l .process)) (λ e. refl) (λ e. refl)
 
-abbrev Each : ℕ → List Rule → Type 0
-Each cmd [] = Unit {0}
-Each cmd (r ∷ rs) = OwedRow cmd r × Each (suc cmd) rs
-
-each-getD : (from : ℕ) (rs : List Rule) → Each from rs → (k : ℕ) → k < length rs → OwedRow (k + from) (getD rs k noRule)
-each-getD from [] e k h = absurd (omega arith)
-each-getD from (r ∷ rs) e zero h = let same : 0 + from ≡ from = omega arith in rw same (e .0)
-each-getD from (r ∷ rs) e (suc k) h =
-    let same : k + suc from ≡ suc k + from = omega arith in
-    rw (← same) (each-getD (suc from) rs (e .1) k (omega arith))
-
-each-row : Each 0 rules
+each-row : Each OwedRow 0 rules
 unfolding endDebugged stopped deposited breakRemoved removedFrom cleared fresh
 each-row =
     ((λ h s l. refl), ((λ h s l. refl), ((λ h s l. refl), ((λ h s l. refl), ((λ h s l. refl), ((λ h s l. refl), ((λ h s l. refl), ((λ h s l. refl), ((λ h s l. owed-breakSet (h .arg1) (h .arg2) l), ((λ h s l. refl), ((λ h s l. owed-stepped l), ((λ h s l. owed-proceeded l), ((λ h s l. refl), ((λ h s l. refl), tt))))))))))))))
 
 -- an op code past the table has no row, and does not cancel
-past-owed : (cmd : ℕ) → 14 ≤ cmd → OwedRow cmd noRule
-past-owed cmd past h string l = rw (ne-eqb cmd 3 (λ e. omega arith), ne-eqb cmd 2 (λ e. omega arith), ne-eqb cmd 13 (λ e. omega arith))
+past-owed : (cmd : ℕ) → length ops ≤ cmd → OwedRow cmd (ruleOf cmd)
+unfolding ruleOf
+past-owed cmd past h string l =
+    rw (List·getD-eq-default rules noRule past, ne-eqb cmd STOP (λ e. omega arith), ne-eqb cmd END-DEBUG (λ e. omega arith), ne-eqb cmd DESTROY (λ e. omega arith))
 
 pub rule-owed : (cmd : ℕ) → OwedRow cmd (ruleOf cmd)
-unfolding ruleOf
-rule-owed cmd = go (ltb cmd 14) refl
+rule-owed cmd = go (ltb cmd (length ops)) refl
   where
-    go : (t : Bool) → ltb cmd 14 ≡ t → OwedRow cmd (getD rules cmd noRule)
-    go true e = let same : cmd + 0 ≡ cmd = omega arith in subst (λ (n : ℕ). OwedRow n (getD rules cmd noRule)) same (each-getD 0 rules each-row cmd (ltb-true cmd 14 e))
-    go false e = rw (List·getD-eq-default rules noRule (ltb-false cmd 14 e)) (past-owed cmd (ltb-false cmd 14 e))
+    go : (t : Bool) → ltb cmd (length ops) ≡ t → OwedRow cmd (ruleOf cmd)
+    go true e = each-rule OwedRow each-row cmd (ltb-true cmd (length ops) e)
+    go false e = past-owed cmd (ltb-false cmd (length ops) e)
 
 -- ---- letters
 
@@ -108,22 +101,22 @@ abbrev pub Keeps : TextRule → Type 0
 Keeps r = (x : Line) (l : Local) → owedIn (r .effect x l) ≡ owedIn l
 
 -- the eighth of the letters, where it is none of the seven others
-is-step : (letter : ℕ) → known letter ≡ true → eqb letter 105 || eqb letter 100 ≡ false → eqb letter 73 || eqb letter 68 ≡ false → eqb letter 114 ≡ false → eqb letter 82 ≡ false → eqb letter 99 ≡ false
-    → letter ≡ 115
+is-step : (letter : ℕ) → known letter ≡ true → eqb letter READ-CODE || eqb letter READ-DATA ≡ false → eqb letter WRITE-CODE || eqb letter WRITE-DATA ≡ false
+    → eqb letter READ-REGISTER ≡ false → eqb letter WRITE-REGISTER ≡ false → eqb letter CONTINUE ≡ false → letter ≡ STEP
 unfolding known
 is-step letter k words writes r w c =
-    eqb-true letter 115
-    (rw (||-left (eqb letter 105) _ words, ||-right (eqb letter 105) _ words, ||-left (eqb letter 73) _ writes, ||-right (eqb letter 73) _ writes, r, w, c) at k)
+    eqb-true letter STEP
+    (rw (||-left (eqb letter READ-CODE) _ words, ||-right (eqb letter READ-CODE) _ words, ||-left (eqb letter WRITE-CODE) _ writes, ||-right (eqb letter WRITE-CODE) _ writes, r, w, c) at k)
 
 -- each letter leaves what was owed, or is a `c` or an `s`
 pub letter-owed : (letter : ℕ) → known letter ≡ true → Keeps (textRuleOf letter) ⊎ Later letter
 unfolding textRuleOf deposited
 letter-owed letter k =
-    by-test Or (eqb letter 105 || eqb letter 100) (λ e. inl (λ x l. refl))
-    (λ e₁. by-test Or (eqb letter 73 || eqb letter 68) (λ e. inl (λ x l. refl))
-    (λ e₂. by-test Or (eqb letter 114) (λ e. inl (λ x l. refl))
-    (λ e₃. by-test Or (eqb letter 82) (λ e. inl (λ x l. refl))
-    (λ e₄. by-test Or (eqb letter 99) (λ e. inr (record { owed = Continue; later = refl; is = eqb-true letter 99 e }))
+    by-test Or (eqb letter READ-CODE || eqb letter READ-DATA) (λ e. inl (λ x l. refl))
+    (λ e₁. by-test Or (eqb letter WRITE-CODE || eqb letter WRITE-DATA) (λ e. inl (λ x l. refl))
+    (λ e₂. by-test Or (eqb letter READ-REGISTER) (λ e. inl (λ x l. refl))
+    (λ e₃. by-test Or (eqb letter WRITE-REGISTER) (λ e. inl (λ x l. refl))
+    (λ e₄. by-test Or (eqb letter CONTINUE) (λ e. inr (record { owed = Continue; later = refl; is = eqb-true letter CONTINUE e }))
     (λ e₅. inr (record { owed = Step; later = refl; is = is-step letter k e₁ e₂ e₃ e₄ e₅ }))))))
   where
     Or : TextRule → Type 0
