@@ -17,6 +17,7 @@
 //! `-C link-arg=-Wl,--allow-multiple-definition` besides.
 
 mod about;
+mod answers;
 mod calls;
 #[cfg(feature = "standin")]
 mod changes;
@@ -24,10 +25,14 @@ mod damage;
 mod desk;
 mod layout;
 mod library;
+mod line_table;
+mod lines;
 #[cfg(feature = "standin")]
 mod made;
 mod passages;
 mod passages_layout;
+mod passages_lines;
+mod passages_owed;
 mod passages_passing;
 mod passing;
 mod random;
@@ -40,10 +45,12 @@ mod stack;
 mod standin;
 mod states;
 mod sweeps;
+mod sweeps_lines;
 mod sweeps_runs;
 mod table;
 mod values;
 mod values_layout;
+mod values_lines;
 mod values_passing;
 #[cfg(feature = "standin")]
 mod wrong;

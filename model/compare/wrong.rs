@@ -23,9 +23,9 @@ fn with_lengths(made: Made, memory_length: usize, output_length: usize) -> i64 {
             let (mut m, mut o) = lend(memory, reply);
             request_bytes(state, &mut m, message, &mut o)
         }
-        Made::Report { state, memory, numbers: [p, k, r], words, notice } => {
+        Made::Report { state, memory, numbers: [p, k, r], words, notice, line } => {
             let (mut m, mut o) = lend(memory, notice);
-            report_bytes(state, &mut m, p, k, r, words, &mut o)
+            report_bytes(state, &mut m, p, k, r, words, &mut o, line)
         }
         mut made => made.right(),
     }
@@ -224,7 +224,7 @@ const WRONG: &[Wrong] = &[
             let answer = made.right();
             if let Made::Report { notice, .. } = made {
                 if answer > 0 {
-                    notice[answer as usize] ^= 1;
+                    notice[notice_length(answer)] ^= 1;
                 }
             }
             answer
