@@ -17,8 +17,8 @@ pub const EDGES: [u16; 18] =
 /// Ranges of a process's memory, how far before its end the first byte is (in the
 /// last, one after it) and the count, at the edges of what is granted. A DEPOSIT of
 /// 257 bytes is a message of 267.
-const LAST_RANGES: [(u16, u16); 8] =
-    [(4, 4), (3, 4), (2, 2), (0, 0), (0, 1), (256, 256), (257, 257), (u16::MAX, 0)];
+const LAST_RANGES: [(u16, u16); 10] =
+    [(4, 4), (4, 4), (3, 4), (3, 4), (2, 2), (0, 0), (0, 1), (256, 256), (257, 257), (u16::MAX, 0)];
 
 /// The same at the edges that are the same for every size.
 const RANGES: [(u16, u16); 3] = [(65535, 2), (0, 256), (0, 257)];
@@ -51,7 +51,7 @@ pub const MOODS: [Mood; 11] = [
     // a little of everything
     mood([1, 6, 2, 2, 4, 3, 4, 2, 5, 2, 3, 3, 2, 2], 4, false),
     // all eight breakpoints of a process
-    mood([1, 6, 0, 1, 4, 2, 4, 1, 24, 2, 1, 7, 1, 1], 4, true),
+    mood([1, 6, 0, 1, 3, 2, 3, 1, 26, 2, 1, 9, 1, 1], 5, true),
     // all eight processes
     mood([1, 2, 1, 1, 1, 1, 1, 1, 1, 1, 1, 1, 5, 2], 2, false),
     // running, stepping, proceeding
@@ -61,15 +61,15 @@ pub const MOODS: [Mood; 11] = [
     // breakpoints in loops
     mood([1, 6, 1, 3, 3, 6, 3, 2, 8, 3, 5, 14, 2, 1], 9, true),
     // and such as are taken away while a process passes them
-    mood([1, 6, 6, 8, 2, 6, 2, 2, 12, 14, 4, 14, 1, 1], 8, true),
+    mood([1, 6, 8, 9, 2, 6, 2, 2, 12, 18, 4, 14, 1, 1], 8, true),
     // a little of everything, and lines
     Mood { lines: 3, ..mood([1, 6, 2, 2, 4, 3, 4, 2, 5, 2, 3, 3, 2, 2], 4, false) },
     // the bench's text debugger: continuing and stepping
     bench([1, 8, 1, 4, 1, 1, 1, 1, 8, 1, 1, 1, 1, 1], 6, 7),
     // looking and storing, breakpoints planted
     bench([1, 6, 1, 3, 2, 1, 2, 2, 9, 2, 1, 1, 2, 1], 3, 10),
-    // and answers that are owed are cancelled
-    bench([1, 8, 6, 9, 1, 2, 1, 2, 4, 2, 2, 2, 4, 5], 4, 7),
+    // and answers that are owed are cancelled, and breakpoints taken away
+    bench([1, 8, 8, 9, 1, 4, 1, 2, 14, 18, 2, 12, 2, 4], 6, 4),
 ];
 
 pub fn make_call(random: &mut Random, state: &State, mood: &Mood) -> Call {
@@ -114,7 +114,7 @@ fn process_for(random: &mut Random, state: &State, cmd: u8) -> u8 {
     if any_is(&passing_bare) && random.one_in(2) {
         return some_process(random, state, passing_bare);
     }
-    if any_is(&has_lifted) && random.one_in(2) {
+    if any_is(&has_lifted) && (random.one_in(2) || cmd == UNBREAK) {
         return some_process(random, state, has_lifted);
     }
     if cmd == PROCEED_BPT && any_is(&lifts) && !random.one_in(4) {
@@ -213,6 +213,10 @@ fn make_arguments(random: &mut Random, process: &Process, cmd: u8) -> (u16, u16,
                 _ => random.pick(&[0, 0, 1, 1, 2, 3, 256, 65535]),
             };
             (address, count, Vec::new())
+        }
+        UNBREAK if has_lifted(process) && !random.one_in(4) => {
+            let lifted = process.breakpoints.iter().find(|b| b.used && b.lifted);
+            (lifted.map_or(0, |b| b.address), 0, Vec::new())
         }
         UNBREAK if !random.one_in(3) => (used_address(random, process), 0, Vec::new()),
         UNBREAK if random.one_in(3) => (some_edge(random, process), 0, Vec::new()),

@@ -34,7 +34,11 @@ pub fn make_line(random: &mut Random, state: &State) -> Call {
         _ => p.into(),
     };
     let (addr, data) = (some_addr(random, process, request), some_data(random, request));
-    let mut text = printed(pid, request, addr, data);
+    let mut text = match random.below(100) {
+        // as long as it can be
+        0 => printed(u32::MAX - pid, request, u32::MAX - addr, u32::MAX - data),
+        _ => printed(pid, request, addr, data),
+    };
     let mut spoil = random.one_in(6);
     while spoil {
         spoil_line(random, &mut text);
@@ -112,8 +116,10 @@ fn new_pc(random: &mut Random, process: &Process) -> u32 {
 fn word_address(random: &mut Random, process: &Process) -> u32 {
     match random.below(8) {
         0 => near_end(random, process),
+        1 if random.one_in(2) => 1,
         1 => some_address(random, process).into(),
-        2 | 3 => 4 * random.below(12) as u32,
+        2 => 4 * random.below(12) as u32,
+        3..=5 => u32::from(used_address(random, process)) & !3,
         _ => u32::from(some_address(random, process)) & !3,
     }
 }
@@ -153,7 +159,7 @@ pub fn spoil_line(random: &mut Random, text: &mut Vec<u8>) {
     let blanks: Vec<usize> = (0..text.len()).filter(|&at| text[at] == b' ').collect();
     let blank = if blanks.is_empty() { any } else { random.pick(&blanks) };
     let telling = random.pick(b" \n\r\t\x000x19afAFgidIDrRcs+-,");
-    match random.below(22) {
+    match random.below(24) {
         0..=2 => text.truncate(any),
         3 => text.truncate(text.len() - 1),
         4 => text.push(b'\n'),
@@ -184,6 +190,15 @@ pub fn spoil_line(random: &mut Random, text: &mut Vec<u8>) {
             text.extend_from_slice(random.pick(&[&b" 0x0\n"[..], b"0x2 i 0x0 0x0\n", b"\0", b" "]))
         }
         20 => text.insert(text.len() - 1, b' '),
+        21 => {
+            // a fifth field
+            text.splice(text.len() - 1.., *b" 0x0\n");
+        }
+        22 if !blanks.is_empty() => {
+            // a newline in place of what follows
+            text.truncate(blank);
+            text.push(b'\n');
+        }
         _ => *text = random.pick(&[&b""[..], b"\n", b" ", b"0x", b"0x2\n"]).to_vec(),
     }
 }

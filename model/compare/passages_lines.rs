@@ -47,8 +47,8 @@ pub const LINE_PASSAGES: &[Passage] = &[
     // words under breakpoints
     granted("i of a word with the first half planted", |a| a.says(b"i") && a.half(0, false)),
     granted("i of a word with the second half planted", |a| a.says(b"i") && a.half(2, false)),
-    granted("d of a word with both halves planted", |a| {
-        a.says(b"d") && a.half(0, false) && a.half(2, false)
+    granted("i of a word with both halves planted", |a| {
+        a.says(b"id") && a.half(0, false) && a.half(2, false)
     }),
     granted("i of a lifted word", |a| a.says(b"id") && a.over(2, |b| b.lifted)),
     granted("i of one written over", |a| a.says(b"id") && a.over(2, |b| a.written_over(b))),
