@@ -26,6 +26,8 @@ mod desk;
 mod layout;
 mod library;
 mod line_table;
+#[cfg(feature = "standin")]
+mod lined;
 mod lines;
 #[cfg(feature = "standin")]
 mod made;
@@ -59,9 +61,15 @@ mod wrong_create;
 #[cfg(feature = "standin")]
 mod wrong_layout;
 #[cfg(feature = "standin")]
+mod wrong_lines;
+#[cfg(feature = "standin")]
+mod wrong_owed;
+#[cfg(feature = "standin")]
 mod wrong_passing;
 #[cfg(feature = "standin")]
 mod wrong_sizes;
+#[cfg(feature = "standin")]
+mod wrong_text;
 
 use run::Comparison;
 use std::process::ExitCode;

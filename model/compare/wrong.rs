@@ -5,8 +5,11 @@ use crate::made::{lengths, Made};
 use crate::run::Comparison;
 use crate::wrong_create::WRONG_CREATE;
 use crate::wrong_layout::WRONG_LAYOUT;
+use crate::wrong_lines::WRONG_LINES;
+use crate::wrong_owed::WRONG_OWED;
 use crate::wrong_passing::WRONG_PASSING;
 use crate::wrong_sizes::WRONG_SIZES;
+use crate::wrong_text::WRONG_TEXT;
 use model::*;
 use std::sync::atomic::{AtomicUsize, Ordering};
 
@@ -38,7 +41,9 @@ pub struct Wrong {
 
 /// Every wrong library.
 fn every() -> impl Iterator<Item = &'static Wrong> {
-    WRONG.iter().chain(WRONG_SIZES).chain(WRONG_LAYOUT).chain(WRONG_CREATE).chain(WRONG_PASSING)
+    let lines = WRONG_TEXT.iter().chain(WRONG_LINES).chain(WRONG_OWED);
+    let layout = WRONG_LAYOUT.iter().chain(WRONG_CREATE);
+    WRONG.iter().chain(WRONG_SIZES).chain(layout).chain(WRONG_PASSING).chain(lines)
 }
 
 /// Each is the model's answer, but for one error.
