@@ -75,5 +75,5 @@ void firmware_slice(unsigned p, struct slice *slice) {
     execute(memory + palustrode_start(state, p), get_word(process + PALUSTRODE_SIZE_AT), kept[p], one, slice);
     if (!slice->reported) return;
     slice->result = palustrode_report(state, sizeof state, memory, sizeof memory, p, slice->kind, slice->reason, kept[p], CORE_WORDS,
-                                      slice->notice, sizeof slice->notice);
+                                      slice->notice, sizeof slice->notice, slice->line, sizeof slice->line);
 }
