@@ -14,6 +14,9 @@ int64_t firmware_start(uint64_t there, const uint16_t *sizes);
 /* Answers a message from the network, as palustrode_request does, and returns what it returned; the reply buffer has 266 bytes. */
 int64_t firmware_request(const uint8_t *message, size_t length, uint8_t *reply);
 
+/* Answers a text line from the bench, as palustrode_line does, and returns what it returned; the line buffer has 35 bytes. */
+int64_t firmware_line(const uint8_t *text, size_t length, uint8_t *line);
+
 /* What came of a slice: whether a report was made, and then its kind and reason, what palustrode_report returned, the notice, and the line that
  * answers the text debugger. */
 struct slice {
