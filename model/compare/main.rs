@@ -57,7 +57,11 @@ mod values_passing;
 #[cfg(feature = "standin")]
 mod wrong;
 #[cfg(feature = "standin")]
+mod wrong_answers;
+#[cfg(feature = "standin")]
 mod wrong_create;
+#[cfg(feature = "standin")]
+mod wrong_going;
 #[cfg(feature = "standin")]
 mod wrong_layout;
 #[cfg(feature = "standin")]

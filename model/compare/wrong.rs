@@ -3,7 +3,9 @@
 
 use crate::made::{lengths, Made};
 use crate::run::Comparison;
+use crate::wrong_answers::WRONG_ANSWERS;
 use crate::wrong_create::WRONG_CREATE;
+use crate::wrong_going::WRONG_GOING;
 use crate::wrong_layout::WRONG_LAYOUT;
 use crate::wrong_lines::WRONG_LINES;
 use crate::wrong_owed::WRONG_OWED;
@@ -41,7 +43,8 @@ pub struct Wrong {
 
 /// Every wrong library.
 fn every() -> impl Iterator<Item = &'static Wrong> {
-    let lines = WRONG_TEXT.iter().chain(WRONG_LINES).chain(WRONG_OWED);
+    let lines = WRONG_TEXT.iter().chain(WRONG_LINES).chain(WRONG_GOING);
+    let lines = lines.chain(WRONG_OWED).chain(WRONG_ANSWERS);
     let layout = WRONG_LAYOUT.iter().chain(WRONG_CREATE);
     WRONG.iter().chain(WRONG_SIZES).chain(layout).chain(WRONG_PASSING).chain(lines)
 }

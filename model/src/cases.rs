@@ -5,6 +5,7 @@ mod desk;
 mod gateway;
 mod layout;
 mod lines;
+mod owed;
 mod passing;
 mod sizes;
 
