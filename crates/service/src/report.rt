@@ -128,7 +128,8 @@ pub fn report_for_process(
     }
     let done = process.report(bytes, kind, words);
     let next = done.process;
-    let length = answer_owed(done.answered, pid, kind, line);
+    let owed = done.answered;
+    let length = answer_owed(owed, pid, kind, line);
     let outcome = notify(done.told, pid, kind, reason, words, notice);
     ReportServed {
         outcome: outcome,
