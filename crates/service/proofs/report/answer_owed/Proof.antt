@@ -4,6 +4,7 @@ use mathlib.Core.Path.{refl}
 use borrow.Author.Tests.{not-true, not-false}
 use borrow.Author.Needs.{needs}
 use Rattle.lists.specs.Buffer.{overlay}
+use Rattle.fields.specs.Answer.{answerFields}
 use Rattle.rules.specs.TextRule.{owedLine}
 use Rattle.service.proofs.report.answer_owed.Statement.{statement}
 use Rattle.service.proofs.report.answer_owed.Tie as tie
@@ -21,20 +22,20 @@ letter-requires c κs = search needs
 status-requires : tie.Need-status-requires
 status-requires c κs = search needs
 
-write-fields-requires : tie.Need-write-fields-requires
-write-fields-requires c κs = search needs
+write-answer-requires : tie.Need-write-answer-requires
+write-answer-requires c κs = search needs
 
 same-length : tie.Need-same-length
 same-length c = search needs
 
 returns-2 : tie.Need-returns-2
-unfolding owedLine
+unfolding owedLine answerFields
 returns-2 c =
     let w = c .before .before in
     let s = w .before .before in
     let e = s .before .before in
     rw (← e .before .owes .ensures, not-false (e .before .owes .result) (e .if1 .left), ← s .status .ensures, ← s .before .letter .ensures)
-    (w .write-fields .ensures .0, w .write-fields .ensures .1 .1)
+    (w .write-answer .ensures .0, w .write-answer .ensures .1 .1)
 
 pub answer-owed-spec : {M : Type 1} → statement M
-answer-owed-spec = tie.close (tie.spec owes-requires returns letter-requires status-requires write-fields-requires same-length returns-2)
+answer-owed-spec = tie.close (tie.spec owes-requires returns letter-requires status-requires write-answer-requires same-length returns-2)
