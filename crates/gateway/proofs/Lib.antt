@@ -3,6 +3,7 @@ pub mod PartLaws
 pub mod StageLaws
 pub mod AskedLaws
 pub mod ReportLaws
+pub mod TextLaws
 pub mod ReadyLaws
 pub mod LentLaws
 pub mod FinishLaws
