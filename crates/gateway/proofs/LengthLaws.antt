@@ -3,6 +3,8 @@ use mathlib.Core.Path.{_≡_, refl, sym, ap, _∙_}
 use mathlib.Core.Bool.{Bool, true, false, not, cond, true≢false}
 use mathlib.Core.List.{List, []}
 use Prim.Native.Nat.{ℕ, zero, suc}
+use native.Mathlib.Omega.{arith}
+use borrow.Author.Tests.{ne-eqb}
 use lib.ListN.{length, take, drop}
 use lib.Dec.{eqb, ltb}
 use Rattle.lists.specs.Buffer.{overlay}
@@ -20,6 +22,7 @@ use Rattle.rules.specs.Rule.{ruleOf, names, creates}
 use Rattle.state.specs.Records.{lowestAbsent}
 use Rattle.fields.specs.declared.read.Line.{Line}
 use Rattle.fields.specs.Read.{lineOf}
+use Rattle.fields.proofs.LineLaws.{reads-heads}
 use Rattle.rules.specs.TextRule.{textRuleOf, failure, owedLine}
 use Rattle.rules.specs.Tests.{State, noLineRoom, unsound, requestNumber, reportNumber, textNumber}
 use Rattle.rules.specs.Step.{Answer, StepResult, plainAnswer, localOf, replied, replyOf, grantedNamed, grantedCreate, granted, refused, requestStep, noticeTo, beside, notified, reportStep, textStep, Call, request, report, step}
@@ -28,7 +31,8 @@ use Rattle.rules.specs.Total.{cantOver}
 use Rattle.rules.proofs.NumberLaws.{by-test}
 use Rattle.rules.proofs.TotalLaws.{total}
 use Rattle.process.specs.Report.{recipientOf, answerOf}
-use Rattle.gateway.specs.Lengths.{replyLength, noticeLength, lineLength, front, textLength, Lengths}
+use Rattle.gateway.specs.Lengths.{replyLength, noticeLength, afterNewline, lineLength, front, textLength, Lengths}
+use Rattle.gateway.proofs.NewlineLaws.{after-written}
 
 -- ---- after what was written
 
@@ -193,14 +197,11 @@ module _ (s : State) (text : List ℕ) where
   line-bytes : ℕ → List ℕ
   line-bytes n = cond (eqb n 0) (textRuleOf (x .letter) .reply x (localOf s (x .pid))) (failure x n)
 
-  laid : (buffer : List ℕ) → textStep text buffer s .answer .buffer ≡ overlay (line-bytes (textNumber s text buffer)) buffer
+  answer-is : (buffer : List ℕ) (n : ℕ) → textNumber s text buffer ≡ n
+      → textStep text buffer s .answer ≡ plainAnswer (outcome n (length (line-bytes 0))) (overlay (line-bytes n) buffer)
   unfolding textStep line-bytes
-  laid buffer = go (eqb (textNumber s text buffer) 0) refl
-    where
-      go : (t : Bool) → eqb (textNumber s text buffer) 0 ≡ t
-          → textStep text buffer s .answer .buffer ≡ overlay (cond t (textRuleOf (x .letter) .reply x (localOf s (x .pid))) (failure x (textNumber s text buffer))) buffer
-      go true e = rw e
-      go false e = rw e
+  answer-is buffer zero e = rw e
+  answer-is buffer (suc n) e = rw (e, ne-eqb (suc n) 0 (λ z. omega (arith, z)))
 
   -- from 100 on the line could be read so far that it has a letter
   headed-high : (buffer : List ℕ) → ltb (textNumber s text buffer) 100 ≡ false → x .headed ≡ true
@@ -213,16 +214,24 @@ module _ (s : State) (text : List ℕ) where
       go false false true n e = refl
       go false false false n e = absurd (true≢false e)
 
+  failure-counted : (n : ℕ) (buffer : List ℕ) → (ltb n 100 ≡ false → x .headed ≡ true) → (t : Bool) → ltb n 100 ≡ t
+      → cond t 0 (afterNewline (overlay (failure x n) buffer)) ≡ length (failure x n)
+  unfolding failure overlay
+  failure-counted n buffer h true e = rw e
+  failure-counted n buffer h false e = rw e (after-written _ (reads-heads .read-is-head text (h e) .2) _)
+
+  bytes-counted : (n : ℕ) (buffer : List ℕ) → (ltb n 100 ≡ false → x .headed ≡ true)
+      → lineLength (outcome n (length (line-bytes 0))) (overlay (line-bytes n) buffer) ≡ length (line-bytes n)
+  unfolding lineLength numberOf lengthOf line-bytes
+  bytes-counted zero buffer h = refl
+  bytes-counted (suc n) buffer h = rw (ne-eqb (suc n) 0 (λ z. omega (arith, z))) (failure-counted (suc n) buffer h (ltb (suc n) 100) refl)
+
   -- that many bytes are counted
   counted : (buffer : List ℕ) → textLength (textStep text buffer s .answer) ≡ length (line-bytes (textNumber s text buffer))
-  unfolding lineLength
-  counted buffer = go (textNumber s text buffer) refl
-    where
-      outcome-is : textStep text buffer s .answer .outcome ≡ outcome (textNumber s text buffer) (cond (eqb (textNumber s text buffer) 0) (length (line-bytes 0)) 0)
-      outcome-is = ?
+  counted buffer = rw (answer-is buffer (textNumber s text buffer) refl) (bytes-counted (textNumber s text buffer) buffer (headed-high buffer))
 
-      go : (n : ℕ) → textNumber s text buffer ≡ n → textLength (textStep text buffer s .answer) ≡ length (line-bytes n)
-      go n e = ?
+  laid : (buffer : List ℕ) → textStep text buffer s .answer .buffer ≡ overlay (line-bytes (textNumber s text buffer)) buffer
+  laid buffer = ap (λ (a : Answer). a .buffer) (answer-is buffer (textNumber s text buffer) refl)
 
   line-behind : (buffer : List ℕ)
       → drop (textLength (textStep text buffer s .answer)) (textStep text buffer s .answer .buffer) ≡ drop (textLength (textStep text buffer s .answer)) buffer

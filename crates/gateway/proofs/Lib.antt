@@ -7,6 +7,7 @@ pub mod TextLaws
 pub mod ReadyLaws
 pub mod LentLaws
 pub mod FinishLaws
+pub mod NewlineLaws
 pub mod LengthLaws
 pub mod SequenceLaws
 pub mod DemandLaws
