@@ -1,7 +1,7 @@
 -- The law of a call at one process, and what follows from it whatever the call is: a host that may not see the inside is answered by the
 -- public part alone, and the public part after the call goes by the one before it. Assumes nothing.
 use mathlib.Core.Path.{_≡_, refl, sym, ap, _∙_}
-use mathlib.Core.Bool.{Bool, true, false, cond, _||_, true≢false, and-false}
+use mathlib.Core.Bool.{Bool, true, false, cond, true≢false, and-false}
 use mathlib.Core.List.{List, []}
 use mathlib.Core.Logic.{_⊎_, inl, inr}
 use Prim.Native.Nat.{ℕ}
@@ -48,13 +48,13 @@ pub record Sends (u : Public) (bytes : List ℕ) : Type 0 where
   pub sees : insider u (header .host) ≡ true
 
 -- what nobody asked is nothing, or is sent to a host that may see the inside; and so is a line, which goes to host 253
-pub record Guarded (u : Public) (w : Output) : Type 0 where
+pub record ToInsiders (u : Public) (w : Output) : Type 0 where
   pub notice : (w .own ≡ []) ⊎ Sends u (w .own)
   pub line : (w .line ≡ []) ⊎ (insider u textHost ≡ true)
 
 -- so where nobody asks
 unfoldable pub Discreet : Asker → Public → Output → Type 0
-Discreet nobody u w = Guarded u w
+Discreet nobody u w = ToInsiders u w
 Discreet (by host) u w = Unit {0}
 
 -- the number of the first test by the public part that fails, or 0

@@ -1,6 +1,6 @@
 -- One lap of a loop, at one process: a BPT report at a breakpoint, the TTRAP report after it and PROCEED BPT leave the breakpoint there. What is
 -- planted, lifted or counted down keeps its address, so the search finds it where it was. Assumes nothing.
-use mathlib.Core.Path.{_≡_, refl, sym, ap, ap₂, _∙_}
+use mathlib.Core.Path.{_≡_, refl, ap, ap₂, _∙_}
 use mathlib.Core.Bool.{Bool, true, false, cond, _&&_}
 use mathlib.Core.List.{List}
 use Prim.Native.Nat.{ℕ, suc, _-_, _<_}
@@ -13,7 +13,7 @@ use Rattle.lists.proofs.First.{first-alike}
 use Rattle.run_state.specs.declared.Run.{Run}
 use Rattle.run_state.specs.declared.Run.the-variants.{Running, AtBreak, Passing}
 use Rattle.run_state.specs.ReportKind.{BPT, TTRAP}
-use Rattle.run_state.specs.RunState.{afterPass, goesOn, runAfter}
+use Rattle.run_state.specs.RunState.{goesOn, runAfter}
 use Rattle.breakpoints.specs.declared.entry.Breakpoint.{Breakpoint}
 use Rattle.breakpoints.specs.declared.entry_query.EntryQuery.the-variants.{Lifted, At}
 use Rattle.breakpoints.specs.Entry.{free, withCount, withLifted}
@@ -22,14 +22,13 @@ use Rattle.breakpoints.specs.Seen.{planted}
 use Rattle.session.specs.declared.Owed.{Owed}
 use Rattle.session.specs.declared.Owed.the-variants.{Nothing}
 use Rattle.process.specs.declared.record.Process.{Process}
-use Rattle.process.specs.declared.report.Verdict.{Verdict}
 use Rattle.process.specs.declared.report.Verdict.the-variants.{Stops, CountsDown, GoesOn}
 use Rattle.process.specs.Record.{entry, withRun, withVector, withEntry, owing}
 use Rattle.process.specs.Find.{find}
 use Rattle.process.specs.Local.{Local}
 use Rattle.process.specs.Planting.{plantedIn, liftedIn, replanted, liftedAt}
 use Rattle.process.specs.Request.{pc, onRecord, hasBreak, proceeded}
-use Rattle.process.specs.Report.{storeVectorAndReplant, passes, verdictOf, passed, carriedOut, reported, toldBy, recipientOf, answerOf}
+use Rattle.process.specs.Report.{storeVectorAndReplant, passes, verdictOf, reported, recipientOf, answerOf}
 use Rattle.process.proofs.PlantingLaws.{eight-replanted}
 use Rattle.process.proofs.ReportLaws.{passed-once}
 use Rattle.rules.specs.Loops.{BreakAt}

@@ -6,7 +6,7 @@ use mathlib.Core.List.{List, [], _∷_, _++_}
 use Prim.Native.Nat.{ℕ, zero, suc, _+_, _≤_, _<_}
 use native.Mathlib.Omega.{arith}
 use borrow.Author.Tests.{eq-eqb, ne-eqb, ltb-true, lt-ltb, le-ltb}
-use lib.ListN.{length, getD}
+use lib.ListN.{length}
 use Rattle.lists.specs.Buffer.{overlay}
 use Rattle.lists.specs.Word.{lowFirst}
 use Rattle.lists.proofs.Word.{length-lowFirst}
@@ -17,13 +17,12 @@ use Rattle.format.specs.Refusal.{fieldsRight, carriedLength, wrongLength, wrong
 use Rattle.run_state.specs.declared.Run.{Run}
 use Rattle.run_state.specs.declared.Run.the-variants.{Running, AtBreak, Passing}
 use Rattle.run_state.specs.ReportKind.{BPT, TTRAP}
-use Rattle.run_state.specs.RunState.{atBreak, accepts}
+use Rattle.run_state.specs.RunState.{accepts}
 use Rattle.breakpoints.specs.declared.entry_query.EntryQuery.the-variants.{At}
 use Rattle.process.specs.declared.record.Process.{Process}
 use Rattle.process.specs.Record.{entry}
 use Rattle.process.specs.Find.{find}
-use Rattle.process.specs.Sound.{Sound, NoBreakpoints}
-use Rattle.process.specs.Local.{Local, Proper}
+use Rattle.process.specs.Local.{Local}
 use Rattle.process.specs.Request.{pc, hasBreak, proceeded}
 use Rattle.process.specs.Report.{reported}
 use Rattle.process.specs.Theorems.{RunningIsPlanted}
@@ -33,11 +32,10 @@ use Rattle.process.proofs.KeptLaws.{shape-proceeded}
 use Rattle.rules.specs.Rule.{public, ruleOf, names}
 use Rattle.rules.specs.TextRule.{owedLine}
 use Rattle.rules.specs.Tests.{State, recordOf, badReport, askedTests, requestNumber, reportNumber}
-use Rattle.rules.specs.Step.{StepResult, Call, request, report, step, localOf, put, granted, grantedNamed, requestStep, plainAnswer, noticeTo, notified, reportStep}
+use Rattle.rules.specs.Step.{Call, request, report, step, localOf, put, granted, grantedNamed, requestStep, plainAnswer, noticeTo, notified, reportStep}
 use Rattle.rules.specs.Turn.{buffersOf}
 use Rattle.rules.specs.Ready.{Ready}
 use Rattle.rules.specs.Run.{TraceItem, traceItem}
-use Rattle.rules.specs.Isolation.{publicOf}
 use Rattle.rules.specs.Loops.{Event, passes, goesOn, stops, proceeds, untilNotice, afterNotice, wordsOf, ReportOf, BptAt, proceedMessage, ProceedOf, CallOf, NothingSent, NoticeSent, ProceedGranted, AnswerOf, Each, Among, none, other, event, BreakAt, Loops}
 use Rattle.rules.proofs.ProperLaws.{report-proper, proceed-proper}
 use Rattle.rules.proofs.RuleLaws.{public-reported, same-public}

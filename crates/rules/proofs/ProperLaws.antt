@@ -6,7 +6,6 @@ use Prim.Native.Nat.{ℕ, _+_, _-_, _≤_, _%_}
 use native.Mathlib.Omega.{arith}
 use lib.ListN.{length, set, length-set, length-map, length-replicate}
 use lib.Seq.{length-paste}
-use lib.Dec.{ltb}
 use Rattle.run_state.specs.declared.Run.the-variants.{Running}
 use Rattle.breakpoints.specs.declared.entry_query.EntryQuery.the-variants.{Free, At}
 use Rattle.breakpoints.specs.declared.entry.Breakpoint.{Breakpoint}

@@ -8,7 +8,7 @@ use Prim.Native.Nat.{ℕ, _<_}
 use borrow.Author.Tests.{eq-eqb, ltb-true, not-false}
 use lib.Dec.{eqb, ltb}
 use Rattle.lists.specs.Word.{lowFirst}
-use Rattle.lists.proofs.Bool.{&&-left, &&-both}
+use Rattle.lists.proofs.Bool.{&&-both}
 use Rattle.format.specs.Outcome.{firstFailing}
 use Rattle.format.specs.Answer.{noticeOf}
 use Rattle.format.proofs.OutcomeLaws.{first-passes, rest-passes}

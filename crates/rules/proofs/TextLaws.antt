@@ -1,19 +1,18 @@
 -- The law of text lines: one law for each letter's row, and all else goes by these. Assumes nothing.
 use mathlib.Core.Path.{_≡_, refl, sym, _∙_}
-use mathlib.Core.Bool.{Bool, true, false, _||_, true≢false}
-use mathlib.Core.List.{List, []}
-use mathlib.Core.Logic.{_⊎_, inl, inr}
+use mathlib.Core.Bool.{true, false, _||_, true≢false}
+use mathlib.Core.List.{List}
+use mathlib.Core.Logic.{inl, inr}
 use native.Mathlib.Omega.{arith}
 use Prim.Native.Nat.{ℕ, _+_, _<_, _%_}
 use borrow.Author.Tests.{eq-eqb, eqb-true, leb-true, ltb-true, not-false}
-use lib.ListN.{length}
-use lib.Dec.{eqb, leb, ltb}
+use lib.Dec.{eqb, leb}
 use Rattle.lists.specs.Word.{vectorOf}
-use Rattle.lists.proofs.Bool.{&&-left, &&-right, &&-both}
+use Rattle.lists.proofs.Bool.{&&-right, &&-both}
 use Rattle.fields.specs.declared.read.Line.{Line}
 use Rattle.fields.specs.declared.write.Fields.{Fields}
 use Rattle.fields.specs.Letters.{READ-CODE, READ-DATA, WRITE-CODE, WRITE-DATA, READ-REGISTER, WRITE-REGISTER, CONTINUE, STEP}
-use Rattle.fields.specs.Written.{written, Sayable}
+use Rattle.fields.specs.Written.{Sayable}
 use Rattle.fields.specs.Read.{lineOf, fieldsOf as readFields}
 use Rattle.fields.proofs.LineLaws.{written-is-read, read-is-written}
 use Rattle.format.specs.Outcome.{firstFailing}

@@ -18,7 +18,7 @@ use Rattle.process.specs.Report.{recipientOf}
 use Rattle.run_state.specs.RunState.{accepts}
 use Rattle.state.specs.Records.{lowestAbsent}
 use Rattle.rules.specs.Rule.{Rule, public, ruleOf, names, creates}
-use Rattle.rules.specs.Tests.{State, recordOf, noReportRoom, noLineRoom, unsound, outerTests, innerTests, ruleTests, noPlace, askedTests, requestNumber, badReport, reportNumber, textOuterTests, textInnerTests, textNumber}
+use Rattle.rules.specs.Tests.{State, recordOf, noReportRoom, noLineRoom, unsound, outerTests, innerTests, ruleTests, noPlace, askedTests, requestNumber, badReport, reportNumber, textInnerTests, textNumber}
 use Rattle.rules.specs.TextRule.{textRuleOf, failure}
 use Rattle.rules.specs.Window.{Buffers}
 use Rattle.rules.specs.Access.{alone, Access, Place, nowhere, atProcess, Turn, numberAt, refuses, reached, taken}
