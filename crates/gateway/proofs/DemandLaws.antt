@@ -27,12 +27,12 @@ use Rattle.rules.proofs.LedgerLaws.{ledger}
 use Rattle.rules.proofs.LoopLaws.{loops}
 use Rattle.rules.proofs.OwedLaws.{owed-answers}
 use Rattle.state_bytes.specs.State.{stateFormed, stateSound}
-use Rattle.gateway.specs.Called.{Called, reportCalled, finished, tooShort, lentOn, refusedBy, callOn, machineStored, Did}
+use Rattle.gateway.specs.Called.{Called, reportCalled, finished, badlyLent, lentOn, refusedBy, callOn, machineStored, Did}
 use Rattle.gateway.specs.Sequence.{Begins, Made, readFrom}
 use Rattle.gateway.specs.Demands.{TotalOnBytes, ListsOnBytes, Demands}
 use Rattle.gateway.proofs.LentLaws.{request-unfit, report-unfit, line-unfit}
 use Rattle.gateway.proofs.ReportLaws.{both}
-use Rattle.gateway.proofs.SequenceLaws.{did-begins, done-run, fresh-begins, passed-begins}
+use Rattle.gateway.proofs.SequenceLaws.{did-begins, done-run, fresh-begins, passed-begins, passed-line-begins}
 
 -- ---- demand 1 on any bytes
 
@@ -76,7 +76,7 @@ module _ (state memory : List ℕ) (c : Call) where
     where
       go : (t : Bool) → stateFormed state ≡ t → Answered state memory (numbersOf c) (callOn state memory c)
       go true f = rw f formed
-      go false f = rw f (unformed state memory (tooShort memory c) (buffersOf c) (numbersOf c) one two f)
+      go false f = rw f (unformed state memory (badlyLent memory c) (buffersOf c) (numbersOf c) one two f)
 
 answered : (state memory : List ℕ) (c : Call) (x : Called) → Did state memory c x → Answered state memory (numbersOf c) x
 unfolding Did numbersOf machineStored numberOf
@@ -152,7 +152,7 @@ made-runs state memory b l es m = m .trace ∙ done-run state memory b l (m .typ
 
 pub demands : Demands
 demands = record {
-  starts = record { fresh = λ there sizes state memory long right. fresh-begins there sizes long right state memory; passed = passed-begins; after = did-begins };
+  starts = record { fresh = λ there sizes state memory long right. fresh-begins there sizes long right state memory; passed = passed-begins; passed-line = passed-line-begins; after = did-begins };
   total-on-bytes = total-on-bytes;
   lists = lists-on-bytes Made made-runs;
   total = total;

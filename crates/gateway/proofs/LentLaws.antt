@@ -25,7 +25,7 @@ use Rattle.rules.specs.Ready.{Ready}
 use Rattle.state_bytes.specs.Widths.{stateWidth}
 use Rattle.state_bytes.specs.State.{stateOf, stateFormed, stateSound}
 use Rattle.gateway.specs.Stage.{lentNumber}
-use Rattle.gateway.specs.Called.{called, reportCalled, lentOn, tooShort, finished, callOn}
+use Rattle.gateway.specs.Called.{called, reportCalled, lentOn, badlyLent, finished, callOn}
 use Rattle.gateway.proofs.ReadyLaws.{formed-long, sound-formed, sound-ready}
 use Rattle.gateway.proofs.StageLaws.{silent, request-lent}
 use Rattle.gateway.proofs.ReportLaws.{both, report-lent}
@@ -113,30 +113,30 @@ module _ (state memory : List ℕ) where
   s = lent (stateOf state) memory
 
   -- a call that the tests 1 and 2 refuse
-  unfit : (c : Call) (n : ℕ) → n ≡ lentOn state (tooShort memory c) → (n ≡ 0 → ⊥)
-      → (n ≡ lentNumber s (tooShort memory c) → step s c ≡ silent n (buffersOf c) s)
+  unfit : (c : Call) (n : ℕ) → n ≡ lentOn state (badlyLent memory c) → (n ≡ 0 → ⊥)
+      → (n ≡ lentNumber s (badlyLent memory c) → step s c ≡ silent n (buffersOf c) s)
       → reportCalled (Refused n) 0 state memory (buffersOf c .own) (buffersOf c .line) ≡ callOn state memory c
   unfolding callOn
   unfit c n e z steps = go (stateFormed state) refl
     where
       go : (t : Bool) → stateFormed state ≡ t → reportCalled (Refused n) 0 state memory (buffersOf c .own) (buffersOf c .line) ≡ callOn state memory c
-      go true f = rw (f, steps (e ∙ lent-number state (tooShort memory c) memory f)) (sym (finished-refused state memory (buffersOf c) n))
+      go true f = rw (f, steps (e ∙ lent-number state (badlyLent memory c) memory f)) (sym (finished-refused state memory (buffersOf c) n))
       go false f = rw (f, ← e) (ap (λ (o : Outcome). reportCalled o 0 state memory (buffersOf c .own) (buffersOf c .line)) (outcome-other n 0 z))
 
   pub request-unfit : (m buffer : List ℕ) (n : ℕ) → n ≡ lentOn state (noRoom memory buffer) → (n ≡ 0 → ⊥)
       → called (Refused n) state memory buffer ≡ callOn state memory (request m buffer)
-  unfolding tooShort buffersOf step
+  unfolding badlyLent buffersOf step
   request-unfit m buffer n e z = unfit (request m buffer) n e z (λ i. request-lent s m buffer n i z)
 
   pub report-unfit : (p kind reason : ℕ) (words buffer line : List ℕ) (n : ℕ) → n ≡ lentOn state (noReportRoom memory buffer line) → (n ≡ 0 → ⊥)
       → reportCalled (Refused n) 0 state memory buffer line ≡ callOn state memory (report p kind reason words buffer line)
-  unfolding tooShort buffersOf step
+  unfolding badlyLent buffersOf step
   report-unfit p kind reason words buffer line n e z =
       unfit (report p kind reason words buffer line) n e z (λ i. report-lent s p kind reason words buffer line n i z)
 
   pub line-unfit : (text buffer : List ℕ) (n : ℕ) → n ≡ lentOn state (noLineRoom memory buffer) → (n ≡ 0 → ⊥)
       → called (Refused n) state memory buffer ≡ callOn state memory (textLine text buffer)
-  unfolding tooShort buffersOf step
+  unfolding badlyLent buffersOf step
   line-unfit text buffer n e z = unfit (textLine text buffer) n e z (λ i. line-lent s text buffer n i z)
 
   -- a call that they let pass

@@ -21,7 +21,7 @@ use Rattle.state.specs.Theorems.{FreshIsSound}
 use Rattle.state.proofs.MemoryLaws.{set-slot}
 use Rattle.state.proofs.SoundLaws.{state-passes}
 use Rattle.state.proofs.FreshLaws.{fresh-is-sound, length-freshProcesses, getD-freshProcesses, length-freshStarts}
-use Rattle.rules.specs.Tests.{State, lent, recordOf, noRoom}
+use Rattle.rules.specs.Tests.{State, lent, recordOf, noRoom, noLineRoom}
 use Rattle.rules.specs.Window.{putInPlace}
 use Rattle.rules.specs.Step.{Answer, StepResult, Call, request, report, store, textLine, stored, localOf, step}
 use Rattle.rules.specs.Ready.{Ready, Worded, Typed}
@@ -37,7 +37,7 @@ use Rattle.state_bytes.proofs.StateLaws.{inverse, eight-at}
 use Rattle.gateway.specs.Called.{Called, finished, callOn, machineStored, lentOn, startOn, Did}
 use Rattle.gateway.specs.Sequence.{Begins, Done, AllTyped, item, items, readFrom}
 use Rattle.gateway.proofs.ReadyLaws.{read-worded}
-use Rattle.gateway.proofs.LentLaws.{request-fits}
+use Rattle.gateway.proofs.LentLaws.{request-fits, line-fits}
 
 sized-of : (s : State) → Ready s → Worded s → Sized (s .records)
 sized-of s r w = record { processes = r .processes; vectors = w; entries = r .entries; starts = r .starts }
@@ -191,3 +191,6 @@ module _ (ts : List Bool) (ns : List ℕ) (long : length ts ≡ 8) (right : size
 
 pub passed-begins : (state memory buffer : List ℕ) → lentOn state (noRoom memory buffer) ≡ 0 → Begins state memory
 passed-begins state memory buffer e = let fit = request-fits state memory buffer e in record { formed = fit .formed; ready = fit .ready }
+
+pub passed-line-begins : (state memory buffer : List ℕ) → lentOn state (noLineRoom memory buffer) ≡ 0 → Begins state memory
+passed-line-begins state memory buffer e = let fit = line-fits state memory buffer e in record { formed = fit .formed; ready = fit .ready }

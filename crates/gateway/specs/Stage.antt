@@ -10,7 +10,7 @@ use Rattle.rules.specs.Tests.{State, unsound, askedTests}
 use Rattle.rules.specs.Step.{StepResult, localOf, put, granted, refused}
 use Rattle.text_door.specs.At.{textAt}
 
--- the tests 1 and 2, which every call makes first; the first fails where what is lent is too short
+-- the tests 1 and 2, which every call makes first; the first fails where what is lent has a wrong length
 unfoldable pub lentNumber : State → Bool → ℕ
 lentNumber s short = firstFailing (test 1 short ∷ test 2 (unsound s) ∷ [])
 

@@ -95,10 +95,10 @@ module _ (s : State) (r : Ready s) (p : ℕ) (low : p < 8) where
 
   -- ---- PROCEED BPT
 
-  module _ (host : ℕ) (buffer : List ℕ) (there : here .there ≡ true) (hosted : here .host ≡ host) (named : host ≡ 0 → ⊥) (halted : here .run ≡ AtBreak) (room : 266 ≤ length buffer) where
+  module _ (host : ℕ) (buffer : List ℕ) (there : here .there ≡ true) (hosted : here .host ≡ host) (named : host ≡ 0 → ⊥) (broughtToStop : here .run ≡ AtBreak) (room : 266 ≤ length buffer) where
     proceed-number : requestNumber s (proceedMessage host p) buffer ≡ 0
     unfolding requestNumber firstFailing askedTests written headerOf fixedRight wrongLength wrongHeader misfits fieldsRight carriedLength requestForm rowOf names ruleOf public
-    proceed-number = rw (r .memory, le-ltb _ _ room, r .sound, ne-eqb host 0 named, lt-ltb p 8 low, there, eq-eqb _ _ hosted, halted)
+    proceed-number = rw (r .memory, le-ltb _ _ room, r .sound, ne-eqb host 0 named, lt-ltb p 8 low, there, eq-eqb _ _ hosted, broughtToStop)
 
     proceed-is : step s (request (proceedMessage host p) buffer)
         ≡ record { answer = plainAnswer (outcome 0 10) (overlay (proceedMessage host p) buffer); after = put p (proceeded (localOf s p)) s }
@@ -111,7 +111,7 @@ module _ (s : State) (r : Ready s) (p : ℕ) (low : p < 8) where
     proceed-after : recordOf (put p (proceeded (localOf s p)) s) p ≡ proceeded (localOf s p) .process
     proceed-after =
         let l = proceeded (localOf s p) in
-        ap (λ (x : Local). x .process) (put-changed s r p low l (proceed-proper (localOf s p) (local-proper s r p low) (rw halted)) proceed-fits .here)
+        ap (λ (x : Local). x .process) (put-changed s r p low l (proceed-proper (localOf s p) (local-proper s r p low) (rw broughtToStop)) proceed-fits .here)
 
   -- ---- the events, from this state
 

@@ -298,6 +298,7 @@ module _ (s : State) (r : Ready s) (q a v : ℕ) where
 -- what a granted `c` or `s` answers, and leaves
 record Begun (p : ℕ) (o : Owed) (s : State) (c : Call) : Type 0 where
   low : p < 8
+  before : owedAt s p ≡ Nothing
   silent : step s c .answer ≡ grants (alone []) (buffersOf c)
   owed : owedAt (step s c .after) p ≡ o
 
@@ -347,6 +348,7 @@ module _ (s : State) (r : Ready s) (text buffer : List ℕ) where
     unfolding textAccess
     text-begun o e i = record {
       low = x .there .low;
+      before = none-owed;
       silent = rw (x .is, later-silent (lineOf text) (localOf s pid) letter o e i);
       owed = acted-owes s r lined _ _ x ∙ later-owed (lineOf text) (localOf s pid) letter o e i;
     }
@@ -407,7 +409,7 @@ fate p low o later s r e (c ∷ l) = go (turned s r c p low) (λ i. fate p low o
     go (answers x a i) on = answered x (subst (λ (k : Owed). Answers p k s c) e a) (then i)
     go (cancels x n i) on = cancelled x n (then i)
     go (asks k x n i) on = absurd (true≢false (sym later ∙ ap owes (sym e ∙ i)))
-    go (keeps x y n i) on = waits x y n (on (i ∙ e))
+    go (keeps x y n i) on = waits x y (λ k z. true≢false (sym later ∙ ap owes (sym e ∙ begun s r c p k z .before))) n (on (i ∙ e))
 
 -- ---- who sends a line
 
@@ -464,5 +466,6 @@ pub owed-answers : OwedAnswers
 owed-answers = record {
   asked = λ s r c p o y. let b = begun s r c p o y in (b .silent, λ l. fate p (b .low) o (y .later) (step s c .after) (step-ready s r c) (b .owed) l);
   fate = λ s r p low o later e l. fate p low o later s r e l;
+  settled = λ s r p low e l. settled p low s r e l;
   only-owed = only-owed;
 }

@@ -97,24 +97,27 @@ pub data Settled (p : ℕ) : State → List Call → Type 0 where
   asksAgain : {s : State} {c : Call} {l : List Call} → owedAt s p ≡ Nothing → NoLine p s c → (o : Owed) → Asks p o s c → Settled p s (c ∷ l)
   stays : {s : State} {c : Call} {l : List Call} → owedAt s p ≡ Nothing → NoLine p s c → Settled p (step s c .after) l → Settled p s (c ∷ l)
 
--- what becomes of an answer that process p owes: the first report that stops or ends the process answers it, unless one before cancels it;
--- at the end of the list it may be owed still
+-- what becomes of an answer that process p owes: the first report that stops or ends the process answers it, unless a call before cancels it; no
+-- other `c` or `s` is granted until then, and at the end of the list it may be owed still
 pub data Fate (p : ℕ) (o : Owed) : State → List Call → Type 0 where
   owedStill : {s : State} → owedAt s p ≡ o → Fate p o s []
   answered : {s : State} {c : Call} {l : List Call} → StopsIt p s c → Answers p o s c → Settled p (step s c .after) l → Fate p o s (c ∷ l)
   cancelled : {s : State} {c : Call} {l : List Call} → Cancels p s c → NoLine p s c → Settled p (step s c .after) l → Fate p o s (c ∷ l)
-  waits : {s : State} {c : Call} {l : List Call} → (StopsIt p s c → ⊥) → (Cancels p s c → ⊥) → NoLine p s c → Fate p o (step s c .after) l → Fate p o s (c ∷ l)
+  waits : {s : State} {c : Call} {l : List Call} → (StopsIt p s c → ⊥) → (Cancels p s c → ⊥) → ((k : Owed) → Asks p k s c → ⊥) → NoLine p s c
+      → Fate p o (step s c .after) l → Fate p o s (c ∷ l)
 
 -- ---- the theorem
 
 -- what a user may rely on
 pub record OwedAnswers : Type 0 where
   -- a granted `c` or `s` writes nothing at once, and its answer is owed; 'Both are answered when a report next stops or ends the process',
-  -- once, unless cancelled before
+  -- at most once, unless cancelled before
   pub asked : (s : State) → Ready s → (c : Call) (p : ℕ) (o : Owed) → Asks p o s c
       → (step s c .answer ≡ grants (alone []) (buffersOf c)) × ((l : List Call) → Fate p o (step s c .after) l)
   -- so from any sound state in which an answer is owed
   pub fate : (s : State) → Ready s → (p : ℕ) → p < 8 → (o : Owed) → owes o ≡ true → owedAt s p ≡ o → (l : List Call) → Fate p o s l
+  -- and where none is owed, no line is sent before a `c` or `s` is granted
+  pub settled : (s : State) → Ready s → (p : ℕ) → p < 8 → owedAt s p ≡ Nothing → (l : List Call) → Settled p s l
   -- a line is sent only where an answer was owed, and only by the report that stops or ends the process
   pub only-owed : (s : State) → Ready s → (c : Call) → 0 < step s c .answer .lineLength
       → (p : ℕ) × ((owes (owedAt s p) ≡ true) × (StopsIt p s c × Answers p (owedAt s p) s c))

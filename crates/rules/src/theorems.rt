@@ -14,7 +14,7 @@ pub fn total()
     ensures { λ _. ⌜ Total ⌝ }
 {}
 
-// A process changes only by a request of the host that debugs it before the call or after it, by a report or by a store; a right begins only
+// A process changes only by a request or a text line of the host that debugs it before the call or after it, by a report or by a store; a right begins only
 // where nobody has one, and ends only by its holder.
 pub fn rights()
     ensures { λ _. ⌜ Rights ⌝ }
