@@ -7,39 +7,40 @@ use native.Mathlib.Omega.{arith}
 use borrow.Author.Tests.{eqb-true, eq-eqb, ne-eqb}
 use lib.Dec.{eqb}
 use Rattle.lists.proofs.Bool.{&&-left, &&-right}
-use Rattle.fields.specs.declared.write.Fields.{Fields}
 use Rattle.fields.specs.declared.read.Line.{Line}
 use Rattle.fields.specs.declared.answer.TextAnswer.{TextAnswer}
 use Rattle.fields.specs.declared.answer.AnswerLine.{AnswerLine}
 use Rattle.fields.specs.Written.{written, Sayable}
-use Rattle.fields.specs.Read.{lineOf, fieldsOf, wholeLine}
-use Rattle.fields.specs.Answer.{failedFlag, answerFields, noAnswer, answerFrom, answerOf, SayableAnswer}
+use Rattle.fields.specs.Read.{lineOf, wholeLine}
+use Rattle.fields.specs.Answer.{failedFlag, isFlag, answerFields, noAnswer, answerFrom, answerOf, SayableAnswer}
 use Rattle.fields.specs.Theorems.{ReadsAnswers}
 use Rattle.fields.proofs.ReadLaws.{and-false}
 use Rattle.fields.proofs.LineLaws.{written-is-read, read-is-written}
 
-or-true : (t : Bool) → t || true ≡ true
-or-true true = refl
-or-true false = refl
-
 -- ---- what the code finds
+
+module _ (n : ℕ) where
+  pub flag-none : n ≡ 0 → true ≡ isFlag n
+  unfolding isFlag
+  flag-none e = rw (eq-eqb n 0 e)
+
+  pub flag-some : (n ≡ 0 → ⊥) → eqb n failedFlag ≡ isFlag n
+  unfolding isFlag
+  flag-some e = rw (ne-eqb n 0 e)
 
 module _ (l : Line) where
   pub answer-unread : l .whole ≡ false → noAnswer ≡ answerFrom l
   unfolding answerFrom
   answer-unread e = rw e
 
-  pub answer-other : (l .third ≡ 0 → ⊥) → eqb (l .third) failedFlag ≡ false → noAnswer ≡ answerFrom l
+  pub answer-other : isFlag (l .third) ≡ false → noAnswer ≡ answerFrom l
   unfolding answerFrom
-  answer-other n e = rw (ne-eqb (l .third) 0 n, e, and-false (l .whole))
+  answer-other e = rw (e, and-false (l .whole))
 
-  pub answer-granted : l .whole ≡ true → l .third ≡ 0 → record { ok = true; answer = record { pid = l .pid; letter = l .letter; failed = eqb (l .third) failedFlag; value = l .fourth } } ≡ answerFrom l
+  pub answer-found : l .whole ≡ true → isFlag (l .third) ≡ true
+      → record { ok = true; answer = record { pid = l .pid; letter = l .letter; failed = eqb (l .third) failedFlag; value = l .fourth } } ≡ answerFrom l
   unfolding answerFrom
-  answer-granted w e = rw (w, eq-eqb (l .third) 0 e)
-
-  pub answer-failed : l .whole ≡ true → eqb (l .third) failedFlag ≡ true → record { ok = true; answer = record { pid = l .pid; letter = l .letter; failed = eqb (l .third) failedFlag; value = l .fourth } } ≡ answerFrom l
-  unfolding answerFrom
-  answer-failed w e = rw (w, e, or-true (eqb (l .third) 0))
+  answer-found w e = rw (w, e)
 
 -- ---- the answer that a line says
 
@@ -50,7 +51,7 @@ flag-fits false = omega arith
 answer-back : (pid letter : ℕ) (failed : Bool) (value : ℕ)
     → answerFrom (wholeLine (answerFields (record { pid = pid; letter = letter; failed = failed; value = value })))
     ≡ record { ok = true; answer = record { pid = pid; letter = letter; failed = failed; value = value } }
-unfolding answerFrom answerFields
+unfolding answerFrom answerFields isFlag
 answer-back pid letter true value = refl
 answer-back pid letter false value = refl
 
@@ -66,7 +67,8 @@ cond-ok : (t : Bool) (a : AnswerLine) → cond t a noAnswer .ok ≡ true → t �
 cond-ok true a e = refl
 cond-ok false a e = absurd (true≢false (sym e))
 
-flag-back : (n : ℕ) → eqb n 0 || eqb n failedFlag ≡ true → n ≡ cond (eqb n failedFlag) failedFlag 0
+flag-back : (n : ℕ) → isFlag n ≡ true → n ≡ cond (eqb n failedFlag) failedFlag 0
+unfolding isFlag
 flag-back n = go (eqb n 0) refl (eqb n failedFlag) refl
   where
     go : (s : Bool) → eqb n 0 ≡ s → (t : Bool) → eqb n failedFlag ≡ t → s || t ≡ true → n ≡ cond t failedFlag 0
@@ -80,7 +82,7 @@ unfolding answerOf answerFrom answerFields
 read-is-answer text ok =
     let l = lineOf text in
     let w = l .whole in
-    let q = eqb (l .third) 0 || eqb (l .third) failedFlag in
+    let q = isFlag (l .third) in
     let a : TextAnswer = record { pid = l .pid; letter = l .letter; failed = eqb (l .third) failedFlag; value = l .fourth } in
     let all : w && q ≡ true = cond-ok (w && q) (record { ok = true; answer = a }) ok in
     let read = read-is-written text (&&-left w q all) in

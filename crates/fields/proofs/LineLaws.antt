@@ -2,7 +2,7 @@
 use mathlib.Core.Path.{_≡_, refl, sym, ap, _∙_, subst}
 use mathlib.Core.Bool.{Bool, true, false, cond, _&&_, _||_, true≢false}
 use mathlib.Core.List.{List, [], _∷_, _++_}
-use Prim.Native.Nat.{ℕ, suc, _+_, _-_, _≤_, _<_}
+use Prim.Native.Nat.{ℕ, _+_, _-_, _≤_, _<_}
 use native.Mathlib.Omega.{arith}
 use borrow.Author.Tests.{eqb-true, eqb-false, eq-eqb, ne-eqb}
 use lib.ListN.{length, drop, getD, length-drop, drop-of-length-le, List·getD-eq-default}
@@ -18,7 +18,7 @@ use Rattle.fields.specs.Hex.{hexNumeral, hexValue, digitsOf, numberAt, n
 use Rattle.fields.specs.Written.{blankNumeral, written, Sayable}
 use Rattle.fields.specs.Read.{separates, noHead, headAfter, headOf, unread, headOnly, wholeLine, endsAt, lineAfter, lineFrom, lineOf, fieldsOf}
 use Rattle.fields.specs.Theorems.{ReadsLines, ReadsHeads}
-use Rattle.fields.proofs.ReadLaws.{and-false, here, stands-first, stands-rest, stands-after, stands-within, numeral-is-read, blank-is-read, Stands, numeral-stands, blank-stands}
+use Rattle.fields.proofs.ReadLaws.{and-false, here, stands-first, stands-rest, stands-after, stands-within, numeral-is-read, blank-is-read, numeral-stands, blank-stands}
 
 -- ---- where a field, and a line, may end
 
@@ -173,43 +173,49 @@ head-stands text ok =
       text-is =
           stands .text-here
           ∙ ap (λ (l : List ℕ). hexNumeral (n .value) ++ l)
-            (here text (n .next) (stands-within text (n .next) (omega (arith, blank)))
-            ∙ ap (λ (c : ℕ). c ∷ drop (n .next + 1) text) blank
-            ∙ ap (λ (l : List ℕ). 32 ∷ l) (here text (n .next + 1) (stands-within text (n .next + 1) (known-some (getD text (n .next + 1) 0) letter)))
-            ∙ ap (λ (j : ℕ). 32 ∷ getD text (n .next + 1) 0 ∷ drop j text) two);
+          (here text (n .next) (stands-within text (n .next) (omega (arith, blank)))
+          ∙ ap (λ (c : ℕ). c ∷ drop (n .next + 1) text) blank
+          ∙ ap (λ (l : List ℕ). 32 ∷ l) (here text (n .next + 1) (stands-within text (n .next + 1) (known-some (getD text (n .next + 1) 0) letter)))
+          ∙ ap (λ (j : ℕ). 32 ∷ getD text (n .next + 1) 0 ∷ drop j text) two);
       pid-fits = stands .fits;
       letter-known = letter;
       ends = &&-right k s last;
-      next-is = omega (arith, stands .next-is)
+      next-is = omega (arith, stands .next-is);
     } in
     subst (λ (t : Bool). HeadStands text (cond t h noHead)) (sym all) it
 
 -- ---- the line: what the code finds
 
-module _ (text : List ℕ) where
-  pub line-unread : headOf text .ok ≡ false → unread ≡ lineOf text
+pub line-unread : (text : List ℕ) (h : Head) → h ≡ headOf text → h .ok ≡ false → unread ≡ lineOf text
+unfolding lineOf lineFrom
+line-unread text h e not-ok = sym (ap (λ (x : Head). lineFrom text x) (sym e) ∙ rw not-ok)
+
+module _ (text : List ℕ) (h : Head) (n m : Number) where
+  pub line-no-third : n .ok ≡ false → headOnly (h .pid) (h .letter) ≡ lineAfter text h n m
+  unfolding lineAfter
+  line-no-third e = rw e
+
+  pub line-no-fourth : m .ok ≡ false → headOnly (h .pid) (h .letter) ≡ lineAfter text h n m
+  unfolding lineAfter
+  line-no-fourth e = rw (e, and-false (n .ok))
+
+  pub line-goes-on : endsAt text (m .next) ≡ false → headOnly (h .pid) (h .letter) ≡ lineAfter text h n m
+  unfolding lineAfter
+  line-goes-on e = rw (e, and-false (m .ok), and-false (n .ok))
+
+  pub line-whole : n .ok ≡ true → m .ok ≡ true → endsAt text (m .next) ≡ true
+      → wholeLine (record { pid = h .pid; letter = h .letter; third = n .value; fourth = m .value }) ≡ lineAfter text h n m
+  unfolding lineAfter
+  line-whole e f g = rw (e, f, g)
+
+  -- the head and both numbers are those of the text
+  pub line-is : h ≡ headOf text → h .ok ≡ true → n ≡ numberAfter text (h .next) → m ≡ numberAfter text (n .next) → lineAfter text h n m ≡ lineOf text
   unfolding lineOf lineFrom
-  line-unread e = rw e
-
-  module _ (headed : headOf text .ok ≡ true) where
-    pub line-no-third : numberAfter text (headOf text .next) .ok ≡ false → headOnly (headOf text .pid) (headOf text .letter) ≡ lineOf text
-    unfolding lineOf lineFrom lineAfter
-    line-no-third e = rw (headed, e)
-
-    pub line-no-fourth : numberAfter text (numberAfter text (headOf text .next) .next) .ok ≡ false → headOnly (headOf text .pid) (headOf text .letter) ≡ lineOf text
-    unfolding lineOf lineFrom lineAfter
-    line-no-fourth e = rw (headed, e, and-false (numberAfter text (headOf text .next) .ok))
-
-    pub line-goes-on : endsAt text (numberAfter text (numberAfter text (headOf text .next) .next) .next) ≡ false → headOnly (headOf text .pid) (headOf text .letter) ≡ lineOf text
-    unfolding lineOf lineFrom lineAfter
-    line-goes-on e =
-        rw (headed, e, and-false (numberAfter text (numberAfter text (headOf text .next) .next) .ok), and-false (numberAfter text (headOf text .next) .ok))
-
-    pub line-whole : numberAfter text (headOf text .next) .ok ≡ true → numberAfter text (numberAfter text (headOf text .next) .next) .ok ≡ true
-        → endsAt text (numberAfter text (numberAfter text (headOf text .next) .next) .next) ≡ true
-        → wholeLine (record { pid = headOf text .pid; letter = headOf text .letter; third = numberAfter text (headOf text .next) .value; fourth = numberAfter text (numberAfter text (headOf text .next) .next) .value }) ≡ lineOf text
-    unfolding lineOf lineFrom lineAfter
-    line-whole e f g = rw (headed, e, f, g)
+  line-is e ok third fourth =
+      ap (lineAfter text h n) fourth
+      ∙ ap (λ (x : Number). lineAfter text h x (numberAfter text (x .next))) third
+      ∙ ap (λ (t : Bool). cond t (lineAfter text h (numberAfter text (h .next)) (numberAfter text (numberAfter text (h .next) .next))) unread) (sym ok)
+      ∙ ap (lineFrom text) e
 
 -- ---- the line: what stands there
 
@@ -277,7 +283,7 @@ read-is-written text w =
     let n = numberAfter text (h .next) in
     let m = numberAfter text (n .next) in
     let f : Fields = record { pid = h .pid; letter = h .letter; third = n .value; fourth = m .value } in
-    let line : wholeLine f ≡ lineOf text = line-whole text (p .headed) (p .third-ok) (p .fourth-ok) (p .ends) in
+    let line : wholeLine f ≡ lineOf text = line-whole text h n m (p .third-ok) (p .fourth-ok) (p .ends) ∙ line-is text h n m refl (p .headed) refl refl in
     let head = head-stands text (p .headed) in
     let third = blank-stands text (h .next) (p .third-ok) in
     let fourth = blank-stands text (n .next) (p .fourth-ok) in
@@ -366,7 +372,7 @@ whole-is-headed text w = line-head text (headOf text) .0 ∙ parts text w .heade
 unread-is-nought : (text : List ℕ) → lineOf text .headed ≡ false → (lineOf text .pid ≡ 0) × (lineOf text .letter ≡ 0)
 unfolding lineOf
 unread-is-nought text e =
-    let none : unread ≡ lineOf text = line-unread text (sym (line-head text (headOf text) .0) ∙ e) in
+    let none : unread ≡ lineOf text = line-unread text (headOf text) refl (sym (line-head text (headOf text) .0) ∙ e) in
     (sym (ap (λ (l : Line). l .pid) none), sym (ap (λ (l : Line). l .letter) none))
 
 rest-nought : (s t : Bool) (f : Fields) → cond s (cond t (wholeLine f) (headOnly (f .pid) (f .letter))) unread .whole ≡ false
@@ -389,5 +395,5 @@ reads-heads = record {
   read-is-head = read-is-head;
   whole-is-headed = whole-is-headed;
   unread-is-nought = unread-is-nought;
-  rest-is-nought = rest-is-nought
+  rest-is-nought = rest-is-nought;
 }

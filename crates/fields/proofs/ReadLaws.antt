@@ -6,7 +6,7 @@ use Prim.Native.Nat.{ℕ, suc, _+_, _-_, _*_, _≤_, _<_}
 use native.Mathlib.Nat.{add-zero}
 use native.Mathlib.Numerals.{add-one}
 use native.Mathlib.Omega.{arith}
-use borrow.Author.Tests.{eqb-true, eqb-false, eq-eqb, ne-eqb, le-leb, lt-leb, leb-true, leb-false}
+use borrow.Author.Tests.{eqb-true, eq-eqb, ne-eqb, le-leb, lt-leb, leb-true, leb-false}
 use lib.ListN.{length, take, drop, getD, drop-of-length-le, List·getD-eq-default, take-append-drop}
 use lib.Seq.{drop-cons, drop-append-seam, drop-drop, getD-drop}
 use lib.Dec.{eqb, leb}
@@ -220,7 +220,7 @@ digits-stand text at ok =
     let stands : Stands hexDigits text at (right v (at + length ds)) = record {
       text-here = split-digits at text ∙ ap (λ (l : List ℕ). l ++ drop (at + length ds) text) (sym back);
       fits = omega (arith, leb-true v mostNumber (&&-right (plain ds) (leb v mostNumber) passed));
-      next-is = ap (λ (l : List ℕ). at + length l) (sym back)
+      next-is = ap (λ (l : List ℕ). at + length l) (sym back);
     } in
     subst (λ (s : Bool). Stands hexDigits text at (checked s v (at + length ds))) (sym passed) stands
 
@@ -247,7 +247,7 @@ numeral-stands text at ok =
           ∙ ap (λ (k : ℕ). 48 ∷ 120 ∷ drop k text) sum
           ∙ ap (λ (l : List ℕ). 48 ∷ 120 ∷ l) (s .text-here);
       fits = s .fits;
-      next-is = s .next-is ∙ omega arith
+      next-is = s .next-is ∙ omega arith;
     } in
     subst (λ (s : Bool). Stands hexNumeral text at (cond s n wrong)) (sym both) stands
 
@@ -265,6 +265,6 @@ blank-stands text at ok =
           ∙ ap (λ (k : ℕ). k ∷ drop (at + 1) text) one
           ∙ ap (λ (l : List ℕ). 32 ∷ l) (s .text-here);
       fits = s .fits;
-      next-is = s .next-is ∙ omega arith
+      next-is = s .next-is ∙ omega arith;
     } in
     subst (λ (s : Bool). Stands blankNumeral text at (cond s n wrong)) (sym blank) stands

@@ -5,8 +5,8 @@ use Prim.Native.Nat.{ℕ, suc, _+_, _/_, _%_, _≤_, _<_}
 use native.Mathlib.Nat.{add-zero}
 use native.Mathlib.Numerals.{add-one}
 use native.Mathlib.Omega.{arith}
-use lib.ListN.{length, set, length-append}
-use lib.Seq.{sets, set-comm}
+use lib.ListN.{length, set, length-set, length-append}
+use lib.Seq.{sets, length-sets, set-comm}
 use Rattle.lists.specs.Buffer.{overlay}
 use Rattle.lists.proofs.Buffer.{sets-overlay}
 use Rattle.fields.specs.declared.write.Fields.{Fields}
@@ -70,6 +70,29 @@ put-one at c buffer = (refl, refl)
 -- all of it, from the start on
 pub put-whole : (next : ℕ) (xs buffer last : List ℕ) → length xs ≤ length buffer → Put 0 xs buffer next last → (next ≡ length xs) × (last ≡ overlay xs buffer)
 put-whole next xs buffer last h p = (p .0 ∙ omega arith, p .1 ∙ sets-overlay xs buffer h)
+
+-- the buffer is as long as it was
+pub put-length : (at next : ℕ) (xs buffer last : List ℕ) → Put at xs buffer next last → length last ≡ length buffer
+put-length at next xs buffer last p = ap (λ (l : List ℕ). length l) (p .1) ∙ length-sets buffer at xs
+
+pub put-again-length : (a b c : ℕ) (xs ys out one two : List ℕ) → Put 0 xs out a one → Put (a + 2) ys (set (set one a 32) (a + 1) c) b two → length two ≡ length out
+put-again-length a b c xs ys out one two p q =
+    put-length (a + 2) b ys (set (set one a 32) (a + 1) c) two q
+    ∙ length-set (set one a 32) (a + 1) c
+    ∙ length-set one a 32
+    ∙ put-length 0 a xs out one p
+
+-- the four fields and the newline
+pub put-line : (f : Fields) (a b d : ℕ) (out one two three : List ℕ) → Put 0 (hexNumeral (f .pid)) out a one
+    → Put (a + 2) (blankNumeral (f .third)) (set (set one a 32) (a + 1) (f .letter)) b two → Put b (blankNumeral (f .fourth)) two d three
+    → Put 0 (written f) out (d + 1) (set three d 10)
+unfolding written
+put-line f a b d out one two three p q r =
+    let last = set three d 10 in
+    let end = put-then b d (d + 1) (blankNumeral (f .fourth)) (10 ∷ []) two three last r (put-one d 10 three) in
+    let rest = put-then (a + 2) b (d + 1) (blankNumeral (f .third)) (blankNumeral (f .fourth) ++ (10 ∷ [])) (set (set one a 32) (a + 1) (f .letter)) two last q end in
+    put-then 0 a (d + 1) (hexNumeral (f .pid)) (32 ∷ f .letter ∷ (blankNumeral (f .third) ++ (blankNumeral (f .fourth) ++ (10 ∷ [])))) out one last p
+    (put-after-two a 32 (f .letter) (d + 1) (blankNumeral (f .third) ++ (blankNumeral (f .fourth) ++ (10 ∷ []))) one last rest)
 
 -- ---- lengths
 

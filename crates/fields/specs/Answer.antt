@@ -19,6 +19,10 @@ failedFlag = 4294967295
 unfoldable pub answerFields : TextAnswer → Fields
 answerFields a = record { pid = a .pid; letter = a .letter; third = cond (a .failed) failedFlag 0; fourth = a .value }
 
+-- 0, or the flag
+unfoldable pub isFlag : ℕ → Bool
+isFlag n = eqb n 0 || eqb n failedFlag
+
 -- no answer
 abbrev pub noAnswer : AnswerLine
 noAnswer = record { ok = false; answer = record { pid = 0; letter = 0; failed = false; value = 0 } }
@@ -26,7 +30,7 @@ noAnswer = record { ok = false; answer = record { pid = 0; letter = 0; failed = 
 -- a line as an answer: a whole one, whose third field is 0 or the flag
 unfoldable pub answerFrom : Line → AnswerLine
 answerFrom l =
-    cond (l .whole && (eqb (l .third) 0 || eqb (l .third) failedFlag))
+    cond (l .whole && isFlag (l .third))
     (record { ok = true; answer = record { pid = l .pid; letter = l .letter; failed = eqb (l .third) failedFlag; value = l .fourth } }) noAnswer
 
 -- a text as an answer

@@ -7,7 +7,7 @@ ghost use Prim.Native.Nat.{_≤_};
 ghost use lib.ListN.{length};
 ghost use Rattle.lists.specs.Buffer.{overlay};
 ghost use Rattle.fields.specs.Written.{written, lineBytes};
-ghost use Rattle.fields.specs.Answer.{answerFields, noAnswer, answerOf};
+ghost use Rattle.fields.specs.Answer.{isFlag, answerFields, noAnswer, answerOf};
 
 // The third field of an answer that failed; it is 0 in all others.
 const FAILED_FLAG: u32 = 4294967295;
@@ -24,6 +24,16 @@ pub struct TextAnswer {
 pub struct AnswerLine {
     pub ok: bool,
     pub answer: TextAnswer,
+}
+
+// Whether a third field is one of an answer: 0, or the flag.
+fn is_flag(third: u32) -> bool
+    ensures { λ r. ⌜ r ≡ isFlag third ⌝ }
+{
+    if third == 0 {
+        return true;
+    }
+    third == FAILED_FLAG
 }
 
 impl TextAnswer {
@@ -75,11 +85,10 @@ pub fn read_answer(text: &[u8]) -> AnswerLine
     ensures { λ r. ⌜ r ≡ answerOf (now (text .entry)) ⌝ }
 {
     let line = read_line(text);
-    let failed = line.third == FAILED_FLAG;
     if !line.whole {
         return AnswerLine::none();
     }
-    if line.third != 0 && !failed {
+    if !is_flag(line.third) {
         return AnswerLine::none();
     }
     AnswerLine {
@@ -87,7 +96,7 @@ pub fn read_answer(text: &[u8]) -> AnswerLine
         answer: TextAnswer {
             pid: line.pid,
             letter: line.letter,
-            failed: failed,
+            failed: line.third == FAILED_FLAG,
             value: line.fourth,
         },
     }

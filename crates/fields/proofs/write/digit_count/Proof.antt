@@ -1,33 +1,43 @@
+-- `fields::write::digit_count` meets its contract. The loop's invariant: the digits counted and those left are all, and one more. Assumes nothing.
+use mathlib.Core.Path.{_≡_}
+use Prim.Native.Nat.{_+_}
+use native.Mathlib.Omega.{arith}
+use borrow.Author.Needs.{needs}
+use lib.ListN.{length}
+use Rattle.fields.specs.Hex.{hexDigits}
+use Rattle.fields.proofs.HexLaws.{one-digit, one-less, eight-digits}
 use Rattle.fields.proofs.write.digit_count.Statement.{statement}
 use Rattle.fields.proofs.write.digit_count.Tie as tie
-use Rattle.fields.proofs.write.digit_count.Reads as reads
-use Rattle.fields.proofs.write.digit_count.Lts as lts
 
 abbrev Inv-loop : tie.InvT-loop
-Inv-loop n rest₀ k₀ rest k = ?
+Inv-loop n rest₀ k₀ rest k = k + length (hexDigits rest) ≡ length (hexDigits n) + 1
 
 abbrev μ-loop : tie.MeasureT-loop
-μ-loop n rest₀ k₀ rest k = ?
+μ-loop n rest₀ k₀ rest k = rest
 
--- src/write.rt:38:5
 loop-holds : tie.Need-loop-holds Inv-loop μ-loop
-loop-holds c = ?
+loop-holds c = omega arith
 
--- src/write.rt:40:9
 add-k : tie.Need-add-k Inv-loop μ-loop
-add-k c = ?
+add-k c =
+    let l = c .before in
+    let s = l .before in
+    omega (arith, l .loop .inv, eight-digits (s .args .n) (omega arith))
 
--- src/write.rt:38:5
 loop-less : tie.Need-loop-less Inv-loop μ-loop
-loop-less c = ?
+loop-less c = search needs
 
--- src/write.rt:38:5
 loop-again : tie.Need-loop-again Inv-loop μ-loop
-loop-again c = ?
+loop-again c =
+    let l = c .before in
+    omega (arith, l .loop .inv, one-less (l .loop .rest) (omega arith))
 
--- src/write.rt:32:1
 returns : tie.Need-returns Inv-loop μ-loop
-returns c = ?
+returns c =
+    let l = c .before in
+    let s = l .before in
+    let last = one-digit (l .loop .rest) (omega arith) in
+    (omega (arith, l .loop .inv, last), omega (arith, l .loop .inv, last, eight-digits (s .args .n) (omega arith)))
 
 pub digit-count-spec : {M : Type 1} → statement M
 digit-count-spec =

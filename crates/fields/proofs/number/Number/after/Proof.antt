@@ -1,42 +1,33 @@
+-- `fields::number::Number::after` meets its contract, by what stands there. Assumes nothing.
+use mathlib.Core.Path.{_∙_}
 use borrow.Author.Needs.{needs}
+use Rattle.fields.proofs.ReadLaws.{after-end, after-other, after-blank}
 use Rattle.fields.proofs.number.Number.after.Statement.{statement}
 use Rattle.fields.proofs.number.Number.after.Tie as tie
-use Rattle.fields.proofs.number.Number.after.Reads as reads
-use Rattle.fields.proofs.number.Number.after.Lts as lts
-use Rattle.fields.proofs.number.Number.at.Reads as at-reads
-use Rattle.fields.proofs.number.Number.wrong.Reads as wrong-reads
 
--- src/number.rt:117:13
 wrong-requires : tie.Need-wrong-requires
 wrong-requires c κs = search needs
 
--- src/number.rt:117:13
 returns : tie.Need-returns
-returns c = ?
+returns c = let a = c .before .before .before .args in c .wrong .ensures ∙ after-end (a .text .now) (a .at) (c .before .if1 .taken)
 
--- src/number.rt:119:12
 shared-slice-read-if2 : tie.Need-shared-slice-read-if2
 shared-slice-read-if2 c = search needs
 
--- src/number.rt:120:13
 wrong-requires-2 : tie.Need-wrong-requires-2
 wrong-requires-2 c κs = search needs
 
--- src/number.rt:120:13
 returns-2 : tie.Need-returns-2
-returns-2 c = ?
+returns-2 c = let a = c .before .before .before .before .before .args in c .wrong2 .ensures ∙ after-other (a .text .now) (a .at) (c .before .if2 .taken)
 
--- src/number.rt:122:26
 add-at : tie.Need-add-at
 add-at c = search needs
 
--- src/number.rt:122:9
 at-requires : tie.Need-at-requires
 at-requires c κs = search needs
 
--- src/number.rt:113:5
 returns-3 : tie.Need-returns-3
-returns-3 c = ?
+returns-3 c = let a = c .before .before .before .before .before .args in c .at .ensures ∙ after-blank (a .text .now) (a .at) (c .before .if2 .left)
 
 pub after-spec : {M : Type 1} → statement M
 after-spec =

@@ -1,62 +1,53 @@
+-- `fields::number::Number::at` meets its contract, by what stands there. Assumes nothing.
+use mathlib.Core.Path.{_∙_}
+use native.Mathlib.Omega.{arith}
 use borrow.Author.Needs.{needs}
+use Rattle.fields.proofs.ReadLaws.{number-first, number-second, number-short, number-digits}
 use Rattle.fields.proofs.number.Number.at.Statement.{statement}
 use Rattle.fields.proofs.number.Number.at.Tie as tie
-use Rattle.fields.proofs.number.Number.at.Reads as reads
-use Rattle.fields.proofs.number.Number.at.Lts as lts
-use Rattle.fields.proofs.number.Number.digits.Reads as digits-reads
-use Rattle.fields.proofs.number.Number.wrong.Reads as wrong-reads
 
--- src/number.rt:100:12
 sub-if1 : tie.Need-sub-if1
 sub-if1 c = search needs
 
--- src/number.rt:101:13
 wrong-requires : tie.Need-wrong-requires
 wrong-requires c κs = search needs
 
--- src/number.rt:101:13
 returns : tie.Need-returns
-returns c = ?
+returns c = let a = c .before .before .before .args in c .wrong .ensures ∙ number-short (a .text .now) (a .at) (omega arith)
 
--- src/number.rt:103:12
 shared-slice-read-if2 : tie.Need-shared-slice-read-if2
 shared-slice-read-if2 c = search needs
 
--- src/number.rt:104:13
 wrong-requires-2 : tie.Need-wrong-requires-2
 wrong-requires-2 c κs = search needs
 
--- src/number.rt:104:13
 returns-2 : tie.Need-returns-2
-returns-2 c = ?
+returns-2 c = let a = c .before .before .before .before .before .args in c .wrong2 .ensures ∙ number-first (a .text .now) (a .at) (c .before .if2 .taken)
 
--- src/number.rt:106:17
 add-if3 : tie.Need-add-if3
 add-if3 c = search needs
 
--- src/number.rt:106:12
 shared-slice-read-if3 : tie.Need-shared-slice-read-if3
 shared-slice-read-if3 c = search needs
 
--- src/number.rt:107:13
 wrong-requires-3 : tie.Need-wrong-requires-3
 wrong-requires-3 c κs = search needs
 
--- src/number.rt:107:13
 returns-3 : tie.Need-returns-3
-returns-3 c = ?
+returns-3 c = let a = c .before .before .before .before .before .before .before .args in c .wrong3 .ensures ∙ number-second (a .text .now) (a .at) (c .before .if3 .taken)
 
--- src/number.rt:109:30
 add-digits : tie.Need-add-digits
 add-digits c = search needs
 
--- src/number.rt:109:9
 digits-requires : tie.Need-digits-requires
 digits-requires c κs = search needs
 
--- src/number.rt:96:5
 returns-4 : tie.Need-returns-4
-returns-4 c = ?
+returns-4 c =
+    let t = c .before in
+    let o = t .before .before in
+    let a = o .before .before .before .before .args in
+    c .digits .ensures ∙ number-digits (a .text .now) (a .at) (o .if2 .left) (t .if3 .left)
 
 pub at-spec : {M : Type 1} → statement M
 at-spec =

@@ -1,22 +1,22 @@
+-- `fields::read::Head::of` meets its contract: the number at the start, and what follows it. Assumes nothing.
+use mathlib.Core.Path.{ap, _∙_}
 use borrow.Author.Needs.{needs}
+use Rattle.fields.specs.Read.{headAfter, headOf}
 use Rattle.fields.proofs.read.Head.of.Statement.{statement}
 use Rattle.fields.proofs.read.Head.of.Tie as tie
-use Rattle.fields.proofs.read.Head.of.Reads as reads
-use Rattle.fields.proofs.read.Head.of.Lts as lts
-use Rattle.fields.proofs.number.Number.at.Reads as at-reads
-use Rattle.fields.proofs.read.Head.after.Reads as after-reads
 
--- src/read.rt:99:27
 at-requires : tie.Need-at-requires
 at-requires c κs = search needs
 
--- src/read.rt:99:9
 after-requires : tie.Need-after-requires
 after-requires c κs = search needs
 
--- src/read.rt:96:5
 returns : tie.Need-returns
-returns c = ?
+unfolding headOf
+returns c =
+    let n = c .before in
+    let a = n .before .before .args in
+    c .after .ensures ∙ ap (headAfter (a .text .now)) (n .at .ensures)
 
 pub of-spec : {M : Type 1} → statement M
 of-spec = tie.close (tie.spec at-requires after-requires returns)
