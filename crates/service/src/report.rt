@@ -1,7 +1,7 @@
 // A machine report, at the process that it is about.
 use crate::served::ReportServed;
-use fields::Fields;
-use fields::write_fields;
+use fields::TextAnswer;
+use fields::write_answer;
 use format::Outcome;
 use message::write_notice;
 use process::Process;
@@ -93,13 +93,13 @@ fn answer_owed(owed: Owed, pid: u8, kind: u8, line: &mut [u8]) -> usize
     if !owed.owes() {
         return 0;
     }
-    let fields = Fields {
+    let text = TextAnswer {
         pid: pid as u32,
         letter: owed.letter(),
-        third: 0,
-        fourth: status(kind),
+        failed: false,
+        value: status(kind),
     };
-    write_fields(fields, line)
+    write_answer(text, line)
 }
 
 // A report about a process, with its record and its bytes: its tests, what it does, its notice and the line that it answers.
@@ -128,7 +128,8 @@ pub fn report_for_process(
     }
     let done = process.report(bytes, kind, words);
     let next = done.process;
-    let length = answer_owed(done.answered, pid, kind, line);
+    let owed = done.answered;
+    let length = answer_owed(owed, pid, kind, line);
     let outcome = notify(done.told, pid, kind, reason, words, notice);
     ReportServed {
         outcome: outcome,

@@ -1,6 +1,7 @@
 // A text line, at the process that it names: what its tests find, what it does, and the line that answers it.
 mod answer;
 mod effect;
+mod request;
 mod rule;
 mod word;
 

@@ -1,12 +1,24 @@
-// A word of 32 bits as four bytes, low byte first.
+// A word of 32 bits and a register of 16 as bytes, low byte first.
 ghost use mathlib.Core.Path.{_≡_};
+ghost use Prim.Native.Nat.{_<_};
 ghost use Rattle.rules.specs.TextRule.{wordOf, wordBytes, registerBytes};
+
+// A byte as a number of 32 bits.
+fn byte_to_u32(b: u8) -> u32
+    ensures { λ r. ⌜ (r ≡ b) × (r < 256) ⌝ }
+{
+    b as u32
+}
 
 // The word of these bytes.
 pub(crate) fn word_of(bytes: [u8; 4]) -> u32
-    ensures { λ r. ⌜ r ≡ wordOf «bytes» ⌝ }
+    ensures { λ r. ⌜ r ≡ wordOf bytes ⌝ }
 {
-    bytes[0] as u32 + 256 * bytes[1] as u32 + 65536 * bytes[2] as u32 + 16777216 * bytes[3] as u32
+    let first = byte_to_u32(bytes[0]);
+    let second = byte_to_u32(bytes[1]);
+    let third = byte_to_u32(bytes[2]);
+    let fourth = byte_to_u32(bytes[3]);
+    first + 256 * second + 65536 * third + 16777216 * fourth
 }
 
 // The bytes of a word.

@@ -1,0 +1,16 @@
+-- `checks::rights::may_look` meets its contract: nobody may look, and any other host where it debugs the process. Assumes nothing.
+use borrow.Author.Tests.{eq-eqb, ne-eqb}
+use Rattle.rules.specs.Rule.{public, insider}
+use Rattle.checks.proofs.rights.may_look.Statement.{statement}
+use Rattle.checks.proofs.rights.may_look.Tie as tie
+
+returns : tie.Need-returns
+unfolding insider public
+returns c = rw (eq-eqb _ _ (c .if1 .taken))
+
+returns-2 : tie.Need-returns-2
+unfolding insider public
+returns-2 c = rw (ne-eqb _ _ (c .before .if1 .left))
+
+pub may-look-spec : {M : Type 1} → statement M
+may-look-spec = tie.close (tie.spec returns returns-2)
