@@ -26,3 +26,5 @@ pub mod DestroyLaws
 pub mod LedgerLaws
 pub mod LapLaws
 pub mod LoopLaws
+pub mod OwedRowLaws
+pub mod OwedLaws

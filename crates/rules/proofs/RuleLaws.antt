@@ -265,23 +265,24 @@ destroy-row = record {
 
 -- ---- all of them
 
-abbrev Each : ℕ → List Rule → Type 0
-Each cmd [] = Unit {0}
-Each cmd (r ∷ rs) = Row cmd r × Each (suc cmd) rs
+-- a fact of each row of a list, by its op code
+abbrev pub Each : (ℕ → Rule → Type 0) → ℕ → List Rule → Type 0
+Each F cmd [] = Unit {0}
+Each F cmd (r ∷ rs) = F cmd r × Each F (suc cmd) rs
 
-each-getD : (from : ℕ) (rs : List Rule) → Each from rs → (k : ℕ) → k < length rs → Row (k + from) (getD rs k noRule)
-each-getD from [] e k h = absurd (omega arith)
-each-getD from (r ∷ rs) e zero h = let same : 0 + from ≡ from = omega arith in rw same (e .0)
-each-getD from (r ∷ rs) e (suc k) h =
+each-getD : (F : ℕ → Rule → Type 0) (from : ℕ) (rs : List Rule) → Each F from rs → (k : ℕ) → k < length rs → F (k + from) (getD rs k noRule)
+each-getD F from [] e k h = absurd (omega arith)
+each-getD F from (r ∷ rs) e zero h = let same : 0 + from ≡ from = omega arith in rw same (e .0)
+each-getD F from (r ∷ rs) e (suc k) h =
     let same : k + suc from ≡ suc k + from = omega arith in
-    rw (← same) (each-getD (suc from) rs (e .1) k (omega arith))
+    rw (← same) (each-getD F (suc from) rs (e .1) k (omega arith))
 
--- the rule of any op code of the table
-pub rule-row : (cmd : ℕ) → cmd < length ops → Row cmd (ruleOf cmd)
+-- a fact of each row is one of the rule of any op code of the table
+pub each-rule : (F : ℕ → Rule → Type 0) → Each F 0 rules → (cmd : ℕ) → cmd < length ops → F cmd (ruleOf cmd)
 unfolding ruleOf
-rule-row cmd h =
-    let same : cmd + 0 ≡ cmd = omega arith in
-    subst (λ (n : ℕ). Row n (getD rules cmd noRule)) same
-    (each-getD 0 rules
+each-rule F e cmd h = let same : cmd + 0 ≡ cmd = omega arith in subst (λ (n : ℕ). F n (getD rules cmd noRule)) same (each-getD F 0 rules e cmd h)
+
+pub rule-row : (cmd : ℕ) → cmd < length ops → Row cmd (ruleOf cmd)
+rule-row =
+    each-rule Row
     (no-row 0 (by-others 0 refl refl refl), (debug-row, (end-debug-row, (stop-row, (deposit-row, (resume-row, (examine-row, (vector-row, (break-row, (unbreak-row, (step-row, (proceed-row, (no-row 12 (by-others 12 refl refl refl), (destroy-row, tt))))))))))))))
-    cmd h)

@@ -5,6 +5,7 @@ ghost use Rattle.rules.specs.Rights.{Rights};
 ghost use Rattle.rules.specs.OneMemory.{OneMemory};
 ghost use Rattle.rules.specs.Ledger.{Ledger};
 ghost use Rattle.rules.specs.Loops.{Loops};
+ghost use Rattle.rules.specs.Owed.{OwedAnswers};
 ghost use Rattle.rules.specs.Together.{Isolation};
 
 // Every call is answered by the number of the first test that fails, or granted where none does; a refusal changes nothing; a sound state
@@ -40,4 +41,10 @@ pub fn ledger()
 // times and nothing is sent, and then it sends the notice every time, whatever else is called meanwhile.
 pub fn loops()
     ensures { λ _. ⌜ Loops ⌝ }
+{}
+
+// Owed answers: a granted `c` or `s` writes nothing at once, and is answered at most once, by the first report that stops or ends the process,
+// unless it is cancelled before; no line is sent for anything else.
+pub fn owed_answers()
+    ensures { λ _. ⌜ OwedAnswers ⌝ }
 {}
