@@ -13,7 +13,7 @@ ghost use mathlib.Core.List.{[]};
 ghost use Prim.Native.Nat.{_≤_};
 ghost use lib.ListN.{length};
 ghost use Rattle.calls.specs.Effect.{longestText, Does};
-ghost use Rattle.recording.specs.Line.{pairsAt, lineEffect};
+ghost use Rattle.recording.specs.Line.{lineEffect};
 ghost use Rattle.recording.specs.Session.{reading, session, waits, stepped, fed, Steps, Feeds};
 
 // What was read of the line after one character, and how many bytes of text were put.
@@ -67,8 +67,10 @@ fn read_character(
     ensures { λ r. ⌜ Steps (stepped language c (session (reading partial (now (line .entry))) (now (state .entry)) (now (memory .entry)))) r (now (line .exit)) (now (state .exit)) (now (memory .exit)) (now (out .entry)) (now (out .exit)) ⌝ }
 {
     if c != 10 {
+        let n = at_most(partial.len, line);
+        let first = language.pairs_from(&line[..n]);
         return Step {
-            partial: partial.push(language.pairs_at(), c, line),
+            partial: partial.push(first, c, line),
             len: 0,
         };
     }
