@@ -1,4 +1,4 @@
--- A case: a fresh start, calls, and what each call answers and leaves in its buffer, in memory and in the records.
+-- A case: a fresh start, calls, and what each call answers and leaves in its buffers, in memory and in the records.
 use mathlib.Core.Bool.{Bool, cond}
 use mathlib.Core.List.{List, [], _∷_, map}
 use Prim.Native.Nat.{ℕ}
@@ -9,18 +9,23 @@ use Rattle.format.specs.Outcome.{outcome}
 use Rattle.format.specs.Layout.{written}
 use Rattle.breakpoints.specs.declared.entry.Breakpoint.{Breakpoint}
 use Rattle.run_state.specs.RunState.{runNumber}
+use Rattle.session.specs.Session.{owedNumber}
 use Rattle.process.specs.declared.record.Process.{Process}
 use Rattle.process.specs.Record.{entry}
 use Rattle.state.specs.Records.{Records, processAt, startOf}
 use Rattle.state.specs.Fresh.{freshStart}
-use Rattle.rules.specs.Step.{Call, request}
+use Rattle.fields.specs.Written.{lineBytes}
+use Rattle.rules.specs.Step.{Call, request, report, textLine}
 use Rattle.rules.specs.Run.{TraceItem, run}
 use Rattle.format.specs.Sizes.{messageBytes}
 
--- what is seen of a call: its outcome, its whole buffer after it, and what is looked at in memory and in the records after it
+-- what is seen of a call: its outcome, its whole buffer after it, of a report the length of the line that it answers and the whole line buffer,
+-- and what is looked at in memory and in the records after it
 pub record Seen : Type 0 where
   pub outcome : Outcome
   pub buffer : List ℕ
+  pub lineLength : ℕ
+  pub line : List ℕ
   pub memory : List ℕ
   pub records : List ℕ
 
@@ -42,6 +47,8 @@ abbrev pub seenOf : List ℕ → (Records → List ℕ) → TraceItem → Seen
 seenOf places looks e = record {
   outcome = e .answer .outcome;
   buffer = e .answer .buffer;
+  lineLength = e .answer .lineLength;
+  line = e .answer .line;
   memory = map (λ (a : ℕ). getD (e .after .memory) a 0) places;
   records = looks (e .after .records);
 }
@@ -85,11 +92,19 @@ abbrev pub progress : Records → List ℕ
 progress g =
     runNumber (processAt g 2 .run) ∷ entry (processAt g 2) 0 .count ∷ cond (entry (processAt g 2) 0 .lifted) 1 0 ∷ processAt g 2 .vector
 
+-- the run state of process 2, the number of its owed answer, and its PC
+abbrev pub going : Records → List ℕ
+going g = runNumber (processAt g 2 .run) ∷ owedNumber (processAt g 2 .session .owed) ∷ getD (processAt g 2 .vector) 7 0 ∷ []
+
 -- ---- calls
 
 -- every buffer is lent with these bytes in it
 abbrev pub buffer : List ℕ
 buffer = replicate messageBytes 170
+
+-- and every line buffer with these
+abbrev pub lineBuffer : List ℕ
+lineBuffer = replicate lineBytes 170
 
 -- a request with this message
 abbrev pub sent : List ℕ → Call
@@ -99,14 +114,51 @@ sent m = request m buffer
 abbrev pub asked : ℕ → ℕ → ℕ → ℕ → ℕ → List ℕ → Call
 asked host cmd pid arg1 arg2 string = sent (written (record { host = host; cmd = cmd; pid = pid; arg1 = arg1; arg2 = arg2 }) string)
 
+-- a report of process 2 with no reason
+abbrev pub reports : ℕ → List ℕ → Call
+reports kind words = report 2 kind 0 words buffer lineBuffer
+
+-- a text line
+abbrev pub says : List ℕ → Call
+says text = textLine text lineBuffer
+
 -- what is to be seen: granted or refused with this number, these bytes laid over the buffer, and what is looked at
 abbrev pub answer : ℕ → List ℕ → List ℕ → List ℕ → Seen
-answer number bytes memory records = record { outcome = outcome number (length bytes); buffer = overlay bytes buffer; memory = memory; records = records }
+answer number bytes memory records = record {
+  outcome = outcome number (length bytes);
+  buffer = overlay bytes buffer;
+  lineLength = 0;
+  line = [];
+  memory = memory;
+  records = records;
+}
 
--- the same where the call is granted and its buffer untouched
+-- the same of a report that is accepted: these bytes are the notice, and this the line that it answers
+abbrev pub told : List ℕ → List ℕ → List ℕ → List ℕ → Seen
+told bytes line memory records = record {
+  outcome = outcome 0 (length bytes);
+  buffer = overlay bytes buffer;
+  lineLength = length line;
+  line = overlay line lineBuffer;
+  memory = memory;
+  records = records;
+}
+
+-- the same where it sends nothing
 abbrev pub silent : List ℕ → List ℕ → Seen
-silent memory records = record { outcome = outcome 0 0; buffer = buffer; memory = memory; records = records }
+silent = told [] []
+
+-- the same of a text line, and this line answers it
+abbrev pub said : ℕ → List ℕ → List ℕ → List ℕ → Seen
+said number line memory records = record {
+  outcome = outcome number (length line);
+  buffer = overlay line lineBuffer;
+  lineLength = 0;
+  line = [];
+  memory = memory;
+  records = records;
+}
 
 -- the same of a store, which has no buffer
 abbrev pub stored : List ℕ → List ℕ → Seen
-stored memory records = record { outcome = outcome 0 0; buffer = []; memory = memory; records = records }
+stored memory records = record { outcome = outcome 0 0; buffer = []; lineLength = 0; line = []; memory = memory; records = records }

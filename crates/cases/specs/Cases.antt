@@ -1,12 +1,12 @@
--- The table of cases P1 to P12, and of cases about the one memory.
+-- The table of cases P1 to P12, of cases about the one memory, and of one with text lines.
 use mathlib.Core.Path.{_≡_}
 use mathlib.Core.Bool.{Bool, true, false}
 use mathlib.Core.List.{List, [], _∷_, map}
 use Prim.Native.Nat.{ℕ}
 use lib.ListN.{replicate, set}
 use Rattle.run_state.specs.ReportKind.{BPT, TTRAP}
-use Rattle.rules.specs.Step.{Call, report, store}
-use Rattle.cases.specs.Case.{Case, Seen, outcomes, nothing, debuggers, vector, counts, saved, begins, moves, progress, buffer, sent, asked, answer, silent, stored}
+use Rattle.rules.specs.Step.{Call, store}
+use Rattle.cases.specs.Case.{Case, Seen, outcomes, nothing, debuggers, vector, counts, saved, begins, moves, progress, going, sent, asked, reports, says, answer, told, silent, said, stored}
 use Rattle.state.specs.Layout.{capacity}
 
 -- process 2 alone
@@ -124,7 +124,7 @@ words = 1 ∷ 2 ∷ 3 ∷ 4 ∷ 5 ∷ 6 ∷ 7 ∷ 256 ∷ 513 ∷ []
 
 -- a BPT report of process 2 with that vector
 abbrev pub reached : Call
-reached = report 2 BPT 0 words buffer
+reached = reports BPT words
 
 -- the vector after the instruction at 256, of two bytes
 abbrev pub wordsThen : List ℕ
@@ -132,7 +132,7 @@ wordsThen = 1 ∷ 2 ∷ 3 ∷ 4 ∷ 5 ∷ 6 ∷ 7 ∷ 258 ∷ 513 ∷ []
 
 -- a TTRAP report of process 2 with that vector
 abbrev pub executed : Call
-executed = report 2 TTRAP 0 wordsThen buffer
+executed = reports TTRAP wordsThen
 
 -- P10: 'Count 2, running: the first two BPT reports there send nothing, the third sends ..', and 'Case P10 becomes BPT, TTRAP, BPT, TTRAP,
 -- BPT'. After each of the first two BPT reports it is passing with the word put back, after each TTRAP it runs with the breakpoint planted
@@ -151,7 +151,7 @@ countCase = record {
       ∷ silent (3 ∷ 0 ∷ []) (0 ∷ 1 ∷ 0 ∷ wordsThen)
       ∷ silent (18 ∷ 52 ∷ []) (5 ∷ 0 ∷ 1 ∷ words)
       ∷ silent (3 ∷ 0 ∷ []) (0 ∷ 0 ∷ 0 ∷ wordsThen)
-      ∷ answer 0 (0 ∷ 5 ∷ 255 ∷ 0 ∷ 66 ∷ 2 ∷ 0 ∷ 0 ∷ 0 ∷ 0 ∷ 1 ∷ 0 ∷ 2 ∷ 0 ∷ 3 ∷ 0 ∷ 4 ∷ 0 ∷ 5 ∷ 0 ∷ 6 ∷ 0 ∷ 7 ∷ 0 ∷ 0 ∷ 1 ∷ 1 ∷ 2 ∷ []) (3 ∷ 0 ∷ []) (3 ∷ 0 ∷ 0 ∷ words)
+      ∷ told (0 ∷ 5 ∷ 255 ∷ 0 ∷ 66 ∷ 2 ∷ 0 ∷ 0 ∷ 0 ∷ 0 ∷ 1 ∷ 0 ∷ 2 ∷ 0 ∷ 3 ∷ 0 ∷ 4 ∷ 0 ∷ 5 ∷ 0 ∷ 6 ∷ 0 ∷ 7 ∷ 0 ∷ 0 ∷ 1 ∷ 1 ∷ 2 ∷ []) [] (3 ∷ 0 ∷ []) (3 ∷ 0 ∷ 0 ∷ words)
       ∷ [];
 }
 
@@ -291,9 +291,82 @@ moveCase = record {
       ∷ [];
 }
 
+-- ---- text lines (K7)
+
+-- a text line to process 2 with this letter, or from it: `0x2`, a blank and the letter, and then what follows
+abbrev pub two : ℕ → List ℕ → List ℕ
+two letter rest = 48 ∷ 120 ∷ 50 ∷ 32 ∷ letter ∷ rest
+
+-- ` 0x100 0x0` and the newline
+abbrev pub at256 : List ℕ
+at256 = 32 ∷ 48 ∷ 120 ∷ 49 ∷ 48 ∷ 48 ∷ 32 ∷ 48 ∷ 120 ∷ 48 ∷ 10 ∷ []
+
+-- ` 0x100 0x12345678` and the newline
+abbrev pub toWrite : List ℕ
+toWrite = 32 ∷ 48 ∷ 120 ∷ 49 ∷ 48 ∷ 48 ∷ 32 ∷ 48 ∷ 120 ∷ 49 ∷ 50 ∷ 51 ∷ 52 ∷ 53 ∷ 54 ∷ 55 ∷ 56 ∷ 10 ∷ []
+
+-- ` 0x1 0x0` and the newline
+abbrev pub fromPC : List ℕ
+fromPC = 32 ∷ 48 ∷ 120 ∷ 49 ∷ 32 ∷ 48 ∷ 120 ∷ 48 ∷ 10 ∷ []
+
+-- ` 0x0 0x3412` and the newline
+abbrev pub wordBefore : List ℕ
+wordBefore = 32 ∷ 48 ∷ 120 ∷ 48 ∷ 32 ∷ 48 ∷ 120 ∷ 51 ∷ 52 ∷ 49 ∷ 50 ∷ 10 ∷ []
+
+-- ` 0x0 0x12345678` and the newline
+abbrev pub wordWritten : List ℕ
+wordWritten = 32 ∷ 48 ∷ 120 ∷ 48 ∷ 32 ∷ 48 ∷ 120 ∷ 49 ∷ 50 ∷ 51 ∷ 52 ∷ 53 ∷ 54 ∷ 55 ∷ 56 ∷ 10 ∷ []
+
+-- ` 0xffffffff 0x10` and the newline: an answer is owed
+abbrev pub owedStill : List ℕ
+owedStill = 32 ∷ 48 ∷ 120 ∷ 102 ∷ 102 ∷ 102 ∷ 102 ∷ 102 ∷ 102 ∷ 102 ∷ 102 ∷ 32 ∷ 48 ∷ 120 ∷ 49 ∷ 48 ∷ 10 ∷ []
+
+-- ` 0x0 0x57f` and the newline: '127 plus 256 times the signal: 5 for BPT and TTRAP'
+abbrev pub signalFive : List ℕ
+signalFive = 32 ∷ 48 ∷ 120 ∷ 48 ∷ 32 ∷ 48 ∷ 120 ∷ 53 ∷ 55 ∷ 102 ∷ 10 ∷ []
+
+-- a request of host 253 to process 2 that uses PID alone
+abbrev pub bench : ℕ → Call
+bench cmd = asked 253 cmd 2 0 0 []
+
+-- and the reply to it
+abbrev pub benchReply : ℕ → List ℕ → List ℕ → Seen
+benchReply cmd = answer 0 (0 ∷ 253 ∷ 255 ∷ 0 ∷ cmd ∷ 2 ∷ 0 ∷ 0 ∷ 0 ∷ 0 ∷ [])
+
+-- a notice to host 253 with these two bytes of PC
+abbrev pub noticeAt : ℕ → ℕ → ℕ → List ℕ
+noticeAt cmd low high =
+    0 ∷ 253 ∷ 255 ∷ 0 ∷ cmd ∷ 2 ∷ 0 ∷ 0 ∷ 0 ∷ 0 ∷ 1 ∷ 0 ∷ 2 ∷ 0 ∷ 3 ∷ 0 ∷ 4 ∷ 0 ∷ 5 ∷ 0 ∷ 6 ∷ 0 ∷ 7 ∷ 0 ∷ low ∷ high ∷ 1 ∷ 2 ∷ []
+
+-- host 253 debugs and stops process 2, writes a word by `D` and sets a breakpoint under it, which `d` does not see; `c` is answered by the BPT
+-- report and no line before it; `s` by the TTRAP report; and a STOP cancels the answer to another `c`
+abbrev pub lineCase : Case
+lineCase = record {
+  there = second;
+  sizes = whole;
+  lent = word;
+  places = 256 ∷ 257 ∷ 258 ∷ 259 ∷ [];
+  looks = going;
+  calls = bench 1 ∷ bench 3 ∷ says (two 68 toWrite) ∷ asked 253 8 2 256 0 [] ∷ says (two 100 at256) ∷ says (two 99 fromPC) ∷ says (two 100 at256)
+      ∷ reached ∷ says (two 115 fromPC) ∷ executed ∷ says (two 99 fromPC) ∷ bench 3 ∷ [];
+  seen = benchReply 1 (18 ∷ 52 ∷ 0 ∷ 0 ∷ []) (0 ∷ 0 ∷ 0 ∷ [])
+      ∷ benchReply 3 (18 ∷ 52 ∷ 0 ∷ 0 ∷ []) (2 ∷ 0 ∷ 0 ∷ [])
+      ∷ said 0 (two 68 wordBefore) (120 ∷ 86 ∷ 52 ∷ 18 ∷ []) (2 ∷ 0 ∷ 0 ∷ [])
+      ∷ answer 0 (0 ∷ 253 ∷ 255 ∷ 0 ∷ 8 ∷ 2 ∷ 1 ∷ 0 ∷ 0 ∷ 0 ∷ []) (3 ∷ 0 ∷ 52 ∷ 18 ∷ []) (2 ∷ 0 ∷ 0 ∷ [])
+      ∷ said 0 (two 100 wordWritten) (3 ∷ 0 ∷ 52 ∷ 18 ∷ []) (2 ∷ 0 ∷ 0 ∷ [])
+      ∷ said 0 [] (3 ∷ 0 ∷ 52 ∷ 18 ∷ []) (0 ∷ 1 ∷ 0 ∷ [])
+      ∷ said 116 (two 100 owedStill) (3 ∷ 0 ∷ 52 ∷ 18 ∷ []) (0 ∷ 1 ∷ 0 ∷ [])
+      ∷ told (noticeAt 66 0 1) (two 99 signalFive) (3 ∷ 0 ∷ 52 ∷ 18 ∷ []) (3 ∷ 0 ∷ 256 ∷ [])
+      ∷ said 0 [] (120 ∷ 86 ∷ 52 ∷ 18 ∷ []) (1 ∷ 2 ∷ 256 ∷ [])
+      ∷ told (noticeAt 67 2 1) (two 115 signalFive) (3 ∷ 0 ∷ 52 ∷ 18 ∷ []) (2 ∷ 0 ∷ 258 ∷ [])
+      ∷ said 0 [] (3 ∷ 0 ∷ 52 ∷ 18 ∷ []) (0 ∷ 1 ∷ 258 ∷ [])
+      ∷ benchReply 3 (3 ∷ 0 ∷ 52 ∷ 18 ∷ []) (2 ∷ 0 ∷ 258 ∷ [])
+      ∷ [];
+}
+
 -- all cases
 abbrev pub cases : List Case
-cases = nopCase ∷ debugCase ∷ examineCase ∷ breakCase ∷ ninthCase ∷ countCase ∷ createCase ∷ vectorCase ∷ sizeCase ∷ fullCase ∷ moveCase ∷ []
+cases = nopCase ∷ debugCase ∷ examineCase ∷ breakCase ∷ ninthCase ∷ countCase ∷ createCase ∷ vectorCase ∷ sizeCase ∷ fullCase ∷ moveCase ∷ lineCase ∷ []
 
 -- every case of the table gives what is expected
 unfoldable pub CasesHold : Type 0
