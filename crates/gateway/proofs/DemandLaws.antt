@@ -25,6 +25,7 @@ use Rattle.rules.proofs.CreateLaws.{create-rule}
 use Rattle.rules.proofs.DestroyLaws.{destroy-rule, nothing-is-left}
 use Rattle.rules.proofs.LedgerLaws.{ledger}
 use Rattle.rules.proofs.LoopLaws.{loops}
+use Rattle.rules.proofs.OwedLaws.{owed-answers}
 use Rattle.state_bytes.specs.State.{stateFormed, stateSound}
 use Rattle.gateway.specs.Called.{Called, reportCalled, finished, tooShort, lentOn, refusedBy, callOn, machineStored, Did}
 use Rattle.gateway.specs.Sequence.{Begins, Made, readFrom}
@@ -160,4 +161,5 @@ demands = record {
   one-memory = record { free-bytes = free-bytes; create = create-rule; destroy = destroy-rule; nothing-is-left = nothing-is-left };
   ledger = ledger;
   loops = loops;
+  owed-answers = owed-answers;
 }

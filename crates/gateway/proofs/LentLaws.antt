@@ -7,7 +7,7 @@ use native.Mathlib.Omega.{arith}
 use borrow.Author.Tests.{eqb-true, ltb-false, not-false}
 use lib.ListN.{length}
 use lib.Dec.{eqb, ltb}
-use Rattle.lists.proofs.Bool.{&&-left, &&-right, ||-left, ||-right}
+use Rattle.lists.proofs.Bool.{||-left, ||-right}
 use Rattle.format.specs.declared.outcome.Outcome.{Outcome}
 use Rattle.format.specs.declared.outcome.Outcome.the-variants.{Refused}
 use Rattle.format.specs.Outcome.{firstFailing}
@@ -18,8 +18,8 @@ use Rattle.state.specs.Layout.{capacity}
 use Rattle.state.specs.Sound.{soundTest}
 use Rattle.rules.specs.Tests.{State, lent, noRoom, noReportRoom, noLineRoom}
 use Rattle.rules.specs.Window.{Buffers}
-use Rattle.rules.specs.Step.{Call, request, report, textLine, step, requestStep, reportStep, textStep}
-use Rattle.rules.specs.Turn.{single, buffersOf}
+use Rattle.rules.specs.Step.{Call, request, report, textLine, step}
+use Rattle.rules.specs.Turn.{buffersOf}
 use Rattle.rules.specs.Isolation.{isGranted}
 use Rattle.rules.specs.Ready.{Ready}
 use Rattle.state_bytes.specs.Widths.{stateWidth}

@@ -14,7 +14,7 @@ use Rattle.process.specs.Local.{Local}
 use Rattle.rules.specs.Rule.{Public, public}
 use Rattle.rules.specs.Tests.{State, recordOf, noReportRoom, unsound, badReport, reportNumber}
 use Rattle.rules.specs.Window.{Buffers}
-use Rattle.rules.specs.Step.{StepResult, localOf, put, notified, reportStep}
+use Rattle.rules.specs.Step.{StepResult, localOf, notified, reportStep}
 use Rattle.rules.proofs.NumberLaws.{orElse}
 use Rattle.rules.proofs.RuleLaws.{public-reported}
 use Rattle.rules.proofs.StateLaws.{put-same}

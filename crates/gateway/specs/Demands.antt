@@ -20,6 +20,7 @@ use Rattle.rules.specs.Together.{Away, AlikeRuns, withoutTheirs, callsOf, Isola
 use Rattle.rules.specs.OneMemory.{OneMemory}
 use Rattle.rules.specs.Ledger.{Ledger}
 use Rattle.rules.specs.Loops.{Loops}
+use Rattle.rules.specs.Owed.{OwedAnswers}
 use Rattle.state_bytes.specs.Widths.{stateWidth}
 use Rattle.gateway.specs.Called.{Called, Did, lentOn, refusedBy, startOn}
 use Rattle.gateway.specs.Sequence.{Begins, Made, readFrom}
@@ -95,3 +96,5 @@ pub record Demands : Type 0 where
   pub ledger : Ledger
   -- a breakpoint in a loop comes back
   pub loops : Loops
+  -- a granted `c` or `s` is answered once, unless it is cancelled
+  pub owed-answers : OwedAnswers

@@ -24,7 +24,12 @@ pub(crate) fn check_buffers_and_state(state: &[u8], memory: &[u8], buffer: &[u8]
 }
 
 // The same of a report, which is lent a line buffer too.
-pub(crate) fn check_report_buffers_and_state(state: &[u8], memory: &[u8], buffer: &[u8], line: &[u8]) -> u8
+pub(crate) fn check_report_buffers_and_state(
+    state: &[u8],
+    memory: &[u8],
+    buffer: &[u8],
+    line: &[u8],
+) -> u8
     ensures { λ r. ⌜ r ≡ lentOn (now (state .entry)) (noReportRoom (now (memory .entry)) (now (buffer .entry)) (now (line .entry))) ⌝ }
 {
     if line.len() < LINE_BYTES {

@@ -1,33 +1,41 @@
+-- `gateway::lengths::line_length` meets its contract, by the cases. Assumes nothing.
+use mathlib.Core.Path.{sym, ap, _∙_}
+use mathlib.Core.Bool.{Bool, cond}
+use borrow.Author.Tests.{lt-ltb, le-ltb}
 use borrow.Author.Needs.{needs}
+use native.Mathlib.Omega.{arith}
+use Rattle.format.specs.declared.outcome.Outcome.{Outcome}
+use Rattle.format.specs.Outcome.{numberOf, lengthOf}
+use Rattle.gateway.specs.Lengths.{afterNewline, lineLength}
 use Rattle.gateway.proofs.lengths.line_length.Statement.{statement}
 use Rattle.gateway.proofs.lengths.line_length.Tie as tie
-use Rattle.gateway.proofs.lengths.line_length.Reads as reads
-use Rattle.gateway.proofs.lengths.line_length.Lts as lts
-use Rattle.gateway.proofs.lengths.after_newline.Reads as after-newline-reads
 
--- src/lengths.rt:46:26
 enum-known-outcome : tie.Need-enum-known-outcome
 enum-known-outcome c = search needs
 
--- src/lengths.rt:47:26
 enum-known-outcome-2 : tie.Need-enum-known-outcome-2
 enum-known-outcome-2 c = search needs
 
--- src/lengths.rt:47:56
 after-newline-requires : tie.Need-after-newline-requires
 after-newline-requires c κs = search needs
 
--- src/lengths.rt:42:1
 returns : tie.Need-returns
-returns c = ?
+unfolding lineLength numberOf lengthOf
+returns c = sym (ap (λ (o : Outcome). lineLength o (c .before .before .before .before .args .buffer .now)) (c .before .outcome .given .1))
 
--- src/lengths.rt:42:1
 returns-2 : tie.Need-returns-2
-returns-2 c = ?
+unfolding lineLength numberOf lengthOf
+returns-2 c =
+    let b = c .before .before .before .before .before .args .buffer .now in
+    let low = lt-ltb (c .before .before .outcome2 .given .0 .0) 100 (omega arith) in
+    sym (ap (λ (o : Outcome). lineLength o b) (c .before .before .outcome2 .given .1) ∙ ap (λ (t : Bool). cond t 0 (afterNewline b)) low)
 
--- src/lengths.rt:42:1
 returns-3 : tie.Need-returns-3
-returns-3 c = ?
+unfolding lineLength numberOf lengthOf
+returns-3 c =
+    let b = c .before .before .before .before .before .before .args .buffer .now in
+    let high = le-ltb (c .before .before .before .outcome2 .given .0 .0) 100 (omega arith) in
+    c .after-newline .ensures ∙ sym (ap (λ (o : Outcome). lineLength o b) (c .before .before .before .outcome2 .given .1) ∙ ap (λ (t : Bool). cond t 0 (afterNewline b)) high)
 
 pub line-length-spec : {M : Type 1} → statement M
 line-length-spec =

@@ -1,5 +1,5 @@
 -- `gateway::reports::report` meets its contract, stage by stage. Assumes nothing.
-use mathlib.Core.Path.{_≡_, sym, _∙_}
+use mathlib.Core.Path.{sym, _∙_}
 use Rattle.rules.specs.Tests.{lent, noReportRoom}
 use Rattle.rules.specs.Step.{report, step}
 use Rattle.state_bytes.specs.State.{stateOf}

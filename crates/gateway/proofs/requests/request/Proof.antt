@@ -1,5 +1,5 @@
 -- `gateway::requests::request` meets its contract, stage by stage. Assumes nothing.
-use mathlib.Core.Path.{_≡_, sym, _∙_}
+use mathlib.Core.Path.{sym, _∙_}
 use Rattle.rules.specs.Tests.{lent, noRoom}
 use Rattle.rules.specs.Step.{request, step}
 use Rattle.rules.specs.Turn.{single}
