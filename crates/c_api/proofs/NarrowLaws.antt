@@ -12,7 +12,7 @@ use Rattle.rules.specs.Tests.{State, lent, noReportRoom, unsound, badReport, re
 use Rattle.rules.specs.Step.{StepResult, plainAnswer, beside, report, step, reportStep}
 use Rattle.rules.specs.Turn.{buffersOf}
 use Rattle.state_bytes.specs.State.{stateOf}
-use Rattle.gateway.specs.Called.{tooShort, callOn}
+use Rattle.gateway.specs.Called.{badlyLent, callOn}
 use Rattle.c_api.specs.Called.{byteOf, kindOf}
 
 -- a number is its byte, or has no room in one
@@ -101,5 +101,5 @@ module _ (words buffer line : List ℕ) (s : State) where
 pub narrow-report : (state memory : List ℕ) (p kind reason : ℕ) (words buffer line : List ℕ)
     → callOn state memory (report (byteOf p) (byteOf (kindOf kind reason)) (reason % 65536) words buffer line)
     ≡ callOn state memory (report p (kindOf kind reason) reason words buffer line)
-unfolding callOn step tooShort buffersOf
+unfolding callOn step badlyLent buffersOf
 narrow-report state memory p kind reason words buffer line = rw (narrow-step words buffer line (lent (stateOf state) memory) p kind reason)

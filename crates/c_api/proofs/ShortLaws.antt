@@ -30,7 +30,7 @@ use Rattle.rules.specs.Turn.{turnOf, buffersOf}
 use Rattle.rules.proofs.LawfulLaws.{lawful}
 use Rattle.rules.proofs.NumberLaws.{by-test}
 use Rattle.state_bytes.specs.State.{stateOf, stateFormed}
-use Rattle.gateway.specs.Called.{Called, lentOn, tooShort, finished, callOn}
+use Rattle.gateway.specs.Called.{Called, lentOn, badlyLent, finished, callOn}
 use Rattle.c_api.specs.Called.{Short, bothLengths}
 
 -- what is refused has no length
@@ -73,7 +73,7 @@ pub call-within : (state memory : List ℕ) (c : Call) → lengthOf (callOn stat
 unfolding callOn finished
 call-within state memory c =
     by-test (λ (x : Called). lengthOf (x .outcome) ≤ length (x .buffer)) (stateFormed state) (λ f. step-within (lent (stateOf state) memory) c)
-    (λ f. refused-within (lentOn state (tooShort memory c)) (buffersOf c .own))
+    (λ f. refused-within (lentOn state (badlyLent memory c)) (buffersOf c .own))
 
 -- ---- a report
 
@@ -128,7 +128,7 @@ pub report-small : (state memory : List ℕ) (p kind reason : ℕ) (words notice
 unfolding callOn finished step
 report-small state memory p kind reason words notice line nine =
     by-test (λ (x : Called). Small (x .outcome) (x .lineLength)) (stateFormed state)
-    (λ f. reportStep-small p kind reason words notice line (lent (stateOf state) memory) nine) (λ f. small-refused (lentOn state (tooShort memory (report p kind reason words notice line))))
+    (λ f. reportStep-small p kind reason words notice line (lent (stateOf state) memory) nine) (λ f. small-refused (lentOn state (badlyLent memory (report p kind reason words notice line))))
 
 -- words that are read are nine
 pub nine-words : (m : List ℕ) → length (vectorOf m) ≡ 9

@@ -18,7 +18,7 @@ use Rattle.state.specs.Layout.{slot}
 use Rattle.rules.specs.Tests.{State, lent, noRoom, unsound, requestNumber}
 use Rattle.rules.specs.Step.{answers, refused, requestStep, step}
 use Rattle.state_bytes.specs.State.{stateOf}
-use Rattle.gateway.specs.Called.{Called, called, tooShort, callOn, started, startOn}
+use Rattle.gateway.specs.Called.{Called, called, badlyLent, callOn, started, startOn}
 use Rattle.gateway.specs.Lengths.{replyLength}
 use Rattle.rules.specs.Turn.{buffersOf}
 use Rattle.lines.specs.declared.scan.Phase.{Phase}
@@ -157,7 +157,7 @@ module _ (s : State) (buffer : List ℕ) where
 
 -- two messages over 266 bytes are answered alike
 pub made-long : (x y s m : List ℕ) → 266 < length x → 266 < length y → requestMade x s m ≡ requestMade y s m
-unfolding requestMade callOn tooShort buffersOf step
+unfolding requestMade callOn badlyLent buffersOf step
 made-long x y s m h k = rw (refused-long (lent (stateOf s) m) zeroBuffer x h, refused-long (lent (stateOf s) m) zeroBuffer y k)
 
 -- a message is answered like its first bytes, if these are more than 266 or all

@@ -17,7 +17,7 @@ use Rattle.fields.proofs.WriteLaws.{short-line}
 use Rattle.rules.specs.Turn.{buffersOf}
 use Rattle.rules.specs.Tests.{textNumber}
 use Rattle.rules.specs.Step.{textStep, step}
-use Rattle.gateway.specs.Called.{tooShort, callOn}
+use Rattle.gateway.specs.Called.{badlyLent, callOn}
 use Rattle.calls.specs.declared.text.Shown.{Shown}
 use Rattle.calls.specs.Meaning.{textMade, textEffect}
 
@@ -115,7 +115,7 @@ lines-alike x y X Y e =
 -- ---- and answered alike
 
 made-alike : (shown : Shown) (x y s m : List ℕ) → lineOf x ≡ lineOf y → textMade shown x s m ≡ textMade shown y s m
-unfolding textMade callOn step textStep textNumber tooShort buffersOf
+unfolding textMade callOn step textStep textNumber badlyLent buffersOf
 made-alike shown x y s m e = rw e
 
 pub made-begun : (shown : Shown) (x y s m : List ℕ) → 35 < length x → 35 < length y → take 35 x ≡ take 35 y → textMade shown x s m ≡ textMade shown y s m
