@@ -23,7 +23,7 @@ static void deviate(const char *what, const char *expected, const char *got) {
 
 static void tell(const char *who, const char *what, const char *expected, const char *got) {
     if (strcmp(expected, got) != 0) deviate(what, expected, got);
-    printf("%-7s%-30s%s\n", who, what, *got ? got : "-");
+    printf("%-9s%-30s%s\n", who, what, *got ? got : "-");
 }
 
 /* A line of so many bytes as a string, without its newline; the empty string if there is none. */
@@ -47,8 +47,9 @@ static void bench(const char *line, const char *expected) {
 
 /* A request of host 253 by a message, which is granted. */
 static void message(const char *what, unsigned cmd, unsigned pid, unsigned arg1, unsigned arg2) {
+    static const uint8_t no_string[1] = {0};
     uint8_t request[PALUSTRODE_MESSAGE_BYTES], reply[PALUSTRODE_MESSAGE_BYTES];
-    int64_t length = palustrode_write_request(PALUSTRODE_TEXT_HOST, cmd, pid, arg1, arg2, request, 0, request, sizeof request);
+    int64_t length = palustrode_write_request(PALUSTRODE_TEXT_HOST, cmd, pid, arg1, arg2, no_string, 0, request, sizeof request);
     int64_t result = length < 0 ? length : firmware_request(request, (size_t)length, reply);
     tell("message", what, "granted", result < 0 ? "refused" : "granted");
 }
