@@ -15,7 +15,7 @@ use Rattle.run_state.specs.RunState.{accepts, goesOn, runAfter}
 use Rattle.process.specs.Report.{storeVectorAndReplant, passes, verdictOf, passed, reported, recipientOf, answerOf}
 use Rattle.process.specs.Request.{hasBreak, hasRoom, examined, deposited, vectorAfter, breakSet, breakRemoved, created, cleared}
 use Rattle.breakpoints.specs.Seen.{restored, seen, savedFrom, overlaySavedByte, overlaySavedWord}
-use Rattle.process.specs.Request.{sheltered, halted, stopped, stepped, wentOn, continued, steppedFrom}
+use Rattle.process.specs.Request.{sheltered, halted, stopped, stepped, vectorFrom, wentOn, continued, steppedFrom}
 use Rattle.breakpoints.specs.Entry.{validBreakAddress}
 use Rattle.process.specs.Sound.{absentHasNoHost, liftSound, usedSound, entrySound, soundTest, keepsRules}
 use Rattle.process.specs.Sizes.{validSize}
@@ -24,13 +24,12 @@ use Rattle.state.specs.Records.{lowestAbsent}
 use Rattle.state.specs.Fresh.{freshProcess, freshProcesses, freshStarts, freshStart}
 use Rattle.state.specs.Sound.{recordsSound, soundTest as soundState}
 use Rattle.state.specs.Layout.{used, usedBefore, startIsUnique, placed, laidOut, slot, withSlot, closed, startWithout, startsWithout}
-use Rattle.rules.specs.Rule.{public, ruleOf, names, sizeAsked}
+use Rattle.rules.specs.Rule.{public, insider, ruleOf, names, sizeAsked}
 use Rattle.session.specs.Session.{sessionSound}
 use Rattle.rules.specs.TextRule.{wordOf, wordBytes, wordAt, wordRange, pcRange, textRuleOf, failure, statusOf, owedLine}
 use Rattle.fields.specs.Letters.{known}
-use Rattle.fields.specs.Hex.{hexDigit, digitsIn, hexDigits, hexNumeral, hexValue, digitsOf, valueFrom, plain, digitsAt, numberAt, numberAfter}
+use Rattle.fields.specs.Hex.{hexValue, digitsOf, valueFrom, plain, digitsAt, numberAt, numberAfter}
 use Rattle.fields.specs.Read.{separates, headAfter, headOf, endsAt, lineAfter, lineFrom, lineOf}
-use Rattle.fields.specs.Written.{blankNumeral, written as lineText}
 use Rattle.rules.specs.Window.{putInPlace, putLast, takenOut}
 use Rattle.rules.specs.Run.{run}
 use Rattle.rules.specs.Step.{stored, put, grantedNamed, grantedCreate, granted, refused, requestStep, noticeTo, notified, reportStep, textStep, step}
@@ -38,5 +37,5 @@ use Rattle.rules.specs.Tests.{askedTests, requestNumber, reportNumber, textNumb
 use Rattle.cases.specs.Cases.{CasesHold}
 
 pub cases-hold : CasesHold
-unfolding CasesHold sessionSound answerOf owedLine halted stopped stepped wentOn continued steppedFrom wordOf wordBytes wordAt wordRange pcRange textRuleOf failure statusOf known hexDigit digitsIn hexDigits hexNumeral hexValue digitsOf valueFrom plain digitsAt numberAt numberAfter separates headAfter headOf endsAt lineAfter lineFrom lineOf blankNumeral lineText textStep textNumber overlay lowFirst vectorOf cantOf createdOf noticeOf written headerOf stringOf fixedRight firstFailing fieldsRight carriedLength wrongLength wrongHeader misfits rowOf requestForm matches find plantedIn liftedIn removedFrom replanted liftedAt fresh accepts goesOn storeVectorAndReplant passes verdictOf recipientOf passed runAfter reported hasBreak hasRoom examined deposited vectorAfter breakSet breakRemoved created cleared restored seen savedFrom sheltered overlaySavedByte overlaySavedWord validBreakAddress absentHasNoHost liftSound usedSound entrySound soundTest validSize keepsRules freshProcess freshProcesses freshStarts freshStart total used usedBefore startIsUnique placed laidOut recordsSound soundState slot withSlot closed startWithout startsWithout public ruleOf names sizeAsked run putInPlace putLast takenOut stored put grantedNamed grantedCreate granted refused requestStep noticeTo notified reportStep step lowestAbsent askedTests requestNumber reportNumber
+unfolding CasesHold insider sessionSound answerOf owedLine halted stopped stepped vectorFrom wentOn continued steppedFrom wordOf wordBytes wordAt wordRange pcRange textRuleOf failure statusOf known hexValue digitsOf valueFrom plain digitsAt numberAt numberAfter separates headAfter headOf endsAt lineAfter lineFrom lineOf textStep textNumber overlay lowFirst vectorOf cantOf createdOf noticeOf written headerOf stringOf fixedRight firstFailing fieldsRight carriedLength wrongLength wrongHeader misfits rowOf requestForm matches find plantedIn liftedIn removedFrom replanted liftedAt fresh accepts goesOn storeVectorAndReplant passes verdictOf recipientOf passed runAfter reported hasBreak hasRoom examined deposited vectorAfter breakSet breakRemoved created cleared restored seen savedFrom sheltered overlaySavedByte overlaySavedWord validBreakAddress absentHasNoHost liftSound usedSound entrySound soundTest validSize keepsRules freshProcess freshProcesses freshStarts freshStart total used usedBefore startIsUnique placed laidOut recordsSound soundState slot withSlot closed startWithout startsWithout public ruleOf names sizeAsked run putInPlace putLast takenOut stored put grantedNamed grantedCreate granted refused requestStep noticeTo notified reportStep step lowestAbsent askedTests requestNumber reportNumber
 cases-hold = refl

@@ -7,6 +7,7 @@ use lib.ListN.{replicate, set}
 use Rattle.run_state.specs.ReportKind.{BPT, TTRAP}
 use Rattle.rules.specs.Step.{Call, store}
 use Rattle.cases.specs.Case.{Case, Seen, outcomes, nothing, debuggers, vector, counts, saved, begins, moves, progress, going, sent, asked, reports, says, answer, told, silent, said, stored}
+use Rattle.fields.specs.Written.{written}
 use Rattle.state.specs.Layout.{capacity}
 
 -- process 2 alone
@@ -293,7 +294,7 @@ moveCase = record {
 
 -- ---- text lines (K7)
 
--- a text line to process 2 with this letter, or from it: `0x2`, a blank and the letter, and then what follows
+-- a text line to process 2 with this letter: `0x2`, a blank and the letter, and then what follows
 abbrev pub two : ℕ → List ℕ → List ℕ
 two letter rest = 48 ∷ 120 ∷ 50 ∷ 32 ∷ letter ∷ rest
 
@@ -309,21 +310,13 @@ toWrite = 32 ∷ 48 ∷ 120 ∷ 49 ∷ 48 ∷ 48 ∷ 32 ∷ 48 ∷ 120 ∷ 49 �
 abbrev pub fromPC : List ℕ
 fromPC = 32 ∷ 48 ∷ 120 ∷ 49 ∷ 32 ∷ 48 ∷ 120 ∷ 48 ∷ 10 ∷ []
 
--- ` 0x0 0x3412` and the newline
-abbrev pub wordBefore : List ℕ
-wordBefore = 32 ∷ 48 ∷ 120 ∷ 48 ∷ 32 ∷ 48 ∷ 120 ∷ 51 ∷ 52 ∷ 49 ∷ 50 ∷ 10 ∷ []
+-- the line that answers one with this letter: done, and this is the response
+abbrev pub done : ℕ → ℕ → List ℕ
+done letter response = written (record { pid = 2; letter = letter; third = 0; fourth = response })
 
--- ` 0x0 0x12345678` and the newline
-abbrev pub wordWritten : List ℕ
-wordWritten = 32 ∷ 48 ∷ 120 ∷ 48 ∷ 32 ∷ 48 ∷ 120 ∷ 49 ∷ 50 ∷ 51 ∷ 52 ∷ 53 ∷ 54 ∷ 55 ∷ 56 ∷ 10 ∷ []
-
--- ` 0xffffffff 0x10` and the newline: an answer is owed
-abbrev pub owedStill : List ℕ
-owedStill = 32 ∷ 48 ∷ 120 ∷ 102 ∷ 102 ∷ 102 ∷ 102 ∷ 102 ∷ 102 ∷ 102 ∷ 102 ∷ 32 ∷ 48 ∷ 120 ∷ 49 ∷ 48 ∷ 10 ∷ []
-
--- ` 0x0 0x57f` and the newline: '127 plus 256 times the signal: 5 for BPT and TTRAP'
-abbrev pub signalFive : List ℕ
-signalFive = 32 ∷ 48 ∷ 120 ∷ 48 ∷ 32 ∷ 48 ∷ 120 ∷ 53 ∷ 55 ∷ 102 ∷ 10 ∷ []
+-- and where it failed: 'the flag 0xffffffff', and the errno
+abbrev pub failed : ℕ → ℕ → List ℕ
+failed letter errno = written (record { pid = 2; letter = letter; third = 4294967295; fourth = errno })
 
 -- a request of host 253 to process 2 that uses PID alone
 abbrev pub bench : ℕ → Call
@@ -338,8 +331,9 @@ abbrev pub noticeAt : ℕ → ℕ → ℕ → List ℕ
 noticeAt cmd low high =
     0 ∷ 253 ∷ 255 ∷ 0 ∷ cmd ∷ 2 ∷ 0 ∷ 0 ∷ 0 ∷ 0 ∷ 1 ∷ 0 ∷ 2 ∷ 0 ∷ 3 ∷ 0 ∷ 4 ∷ 0 ∷ 5 ∷ 0 ∷ 6 ∷ 0 ∷ 7 ∷ 0 ∷ low ∷ high ∷ 1 ∷ 2 ∷ []
 
--- host 253 debugs and stops process 2, writes a word by `D` and sets a breakpoint under it, which `d` does not see; `c` is answered by the BPT
--- report and no line before it; `s` by the TTRAP report; and a STOP cancels the answer to another `c`
+-- host 253 debugs and stops process 2, writes a word by `D`, which answers the one before it, and sets a breakpoint under it, which `d` does
+-- not see; `c` is answered by the BPT report, with 127 and 256 times 5, and until then a line is refused with 116; `s` is answered by the TTRAP
+-- report; and a STOP cancels the answer to another `c`
 abbrev pub lineCase : Case
 lineCase = record {
   there = second;
@@ -351,14 +345,14 @@ lineCase = record {
       ∷ reached ∷ says (two 115 fromPC) ∷ executed ∷ says (two 99 fromPC) ∷ bench 3 ∷ [];
   seen = benchReply 1 (18 ∷ 52 ∷ 0 ∷ 0 ∷ []) (0 ∷ 0 ∷ 0 ∷ [])
       ∷ benchReply 3 (18 ∷ 52 ∷ 0 ∷ 0 ∷ []) (2 ∷ 0 ∷ 0 ∷ [])
-      ∷ said 0 (two 68 wordBefore) (120 ∷ 86 ∷ 52 ∷ 18 ∷ []) (2 ∷ 0 ∷ 0 ∷ [])
+      ∷ said 0 (done 68 13330) (120 ∷ 86 ∷ 52 ∷ 18 ∷ []) (2 ∷ 0 ∷ 0 ∷ [])
       ∷ answer 0 (0 ∷ 253 ∷ 255 ∷ 0 ∷ 8 ∷ 2 ∷ 1 ∷ 0 ∷ 0 ∷ 0 ∷ []) (3 ∷ 0 ∷ 52 ∷ 18 ∷ []) (2 ∷ 0 ∷ 0 ∷ [])
-      ∷ said 0 (two 100 wordWritten) (3 ∷ 0 ∷ 52 ∷ 18 ∷ []) (2 ∷ 0 ∷ 0 ∷ [])
+      ∷ said 0 (done 100 305419896) (3 ∷ 0 ∷ 52 ∷ 18 ∷ []) (2 ∷ 0 ∷ 0 ∷ [])
       ∷ said 0 [] (3 ∷ 0 ∷ 52 ∷ 18 ∷ []) (0 ∷ 1 ∷ 0 ∷ [])
-      ∷ said 116 (two 100 owedStill) (3 ∷ 0 ∷ 52 ∷ 18 ∷ []) (0 ∷ 1 ∷ 0 ∷ [])
-      ∷ told (noticeAt 66 0 1) (two 99 signalFive) (3 ∷ 0 ∷ 52 ∷ 18 ∷ []) (3 ∷ 0 ∷ 256 ∷ [])
+      ∷ said 116 (failed 100 16) (3 ∷ 0 ∷ 52 ∷ 18 ∷ []) (0 ∷ 1 ∷ 0 ∷ [])
+      ∷ told (noticeAt 66 0 1) (done 99 1407) (3 ∷ 0 ∷ 52 ∷ 18 ∷ []) (3 ∷ 0 ∷ 256 ∷ [])
       ∷ said 0 [] (120 ∷ 86 ∷ 52 ∷ 18 ∷ []) (1 ∷ 2 ∷ 256 ∷ [])
-      ∷ told (noticeAt 67 2 1) (two 115 signalFive) (3 ∷ 0 ∷ 52 ∷ 18 ∷ []) (2 ∷ 0 ∷ 258 ∷ [])
+      ∷ told (noticeAt 67 2 1) (done 115 1407) (3 ∷ 0 ∷ 52 ∷ 18 ∷ []) (2 ∷ 0 ∷ 258 ∷ [])
       ∷ said 0 [] (3 ∷ 0 ∷ 52 ∷ 18 ∷ []) (0 ∷ 1 ∷ 258 ∷ [])
       ∷ benchReply 3 (3 ∷ 0 ∷ 52 ∷ 18 ∷ []) (2 ∷ 0 ∷ 258 ∷ [])
       ∷ [];
