@@ -17,5 +17,5 @@ pub fn may_look(process: Process, host: u8) -> bool
     if host == 0 {
         return false;
     }
-    process.host == host
+    debugs(process, host)
 }

@@ -72,17 +72,26 @@ fn notify(host: u8, pid: u8, kind: u8, reason: u16, words: [u16; 9], notice: &mu
     write_notice(host, kind, pid, reason, words, notice)
 }
 
+// The status of a process that has ended.
+const ENDED_STATUS: u32 = 0;
+
+// The status of one that was stopped by a trap, signal 4: 127, and 256 times the signal.
+const TRAP_STATUS: u32 = 1151;
+
+// The status of one that was stopped by a breakpoint or after a step, signal 5.
+const BREAK_STATUS: u32 = 1407;
+
 // The status that answers a `c` or an `s` after a report of this kind.
 fn status(kind: u8) -> u32
     ensures { λ r. ⌜ r ≡ statusOf kind ⌝ }
 {
     if kind == HALT {
-        return 0;
+        return ENDED_STATUS;
     }
     if kind == TRAP {
-        return 1151;
+        return TRAP_STATUS;
     }
-    1407
+    BREAK_STATUS
 }
 
 // Writes the line of an owed answer, if one is owed; its length.
