@@ -102,9 +102,10 @@ fn answer_owed(owed: Owed, pid: u8, kind: u8, line: &mut [u8]) -> usize
     if !owed.owes() {
         return 0;
     }
+    let letter = owed.letter();
     let text = TextAnswer {
         pid: pid as u32,
-        letter: owed.letter(),
+        letter: letter,
         failed: false,
         value: status(kind),
     };

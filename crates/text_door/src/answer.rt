@@ -27,11 +27,12 @@ pub fn fail(number: u8, line: Line, out: &mut [u8]) -> Outcome
     requires { ⌜ lineBytes ≤ length (now out) ⌝ }
     ensures { λ r. ⌜ answer r (now (out .exit)) ≡ textRefusal number line (now (out .entry)) ⌝ }
 {
+    let errno = number as u32 - 100;
     let failure = TextAnswer {
         pid: line.pid,
         letter: line.letter,
         failed: true,
-        value: number as u32 - 100,
+        value: errno,
     };
     write_answer(failure, out);
     Outcome::Refused(number)

@@ -51,7 +51,8 @@ fn word_fits(line: Line, size: u16) -> bool
     if 65535 < address {
         return false;
     }
-    address + 4 <= size as u32
+    let end = address + 4;
+    end <= size as u32
 }
 
 // There is a register of this number.

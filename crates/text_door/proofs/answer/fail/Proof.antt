@@ -8,8 +8,8 @@ use borrow.Author.Needs.{needs}
 use Rattle.text_door.proofs.answer.fail.Statement.{statement}
 use Rattle.text_door.proofs.answer.fail.Tie as tie
 
-sub-t6 : tie.Need-sub-t6
-sub-t6 c = search needs
+sub-errno : tie.Need-sub-errno
+sub-errno c = search needs
 
 write-answer-requires : tie.Need-write-answer-requires
 write-answer-requires c κs = search needs
@@ -26,4 +26,4 @@ returns c =
     rw (le-ltb (a .number) 100 (s .pre .0), ← outcome-other (a .number) 0 (λ e. omega (arith, e, s .pre .0)), w .write-answer .ensures .1 .1)
 
 pub fail-spec : {M : Type 1} → statement M
-fail-spec = tie.close (tie.spec sub-t6 write-answer-requires same-length returns)
+fail-spec = tie.close (tie.spec sub-errno write-answer-requires same-length returns)

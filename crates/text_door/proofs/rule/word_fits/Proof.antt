@@ -15,12 +15,12 @@ returns-2 : tie.Need-returns-2
 unfolding wordRange
 returns-2 c = let a = c .before .before .args in rw (eq-eqb _ _ (c .before .if1 .left), lt-leb (a .line .third + 4) (a .size) (omega arith))
 
-add-result : tie.Need-add-result
-add-result c = search needs
+add-end : tie.Need-add-end
+add-end c = search needs
 
 returns-3 : tie.Need-returns-3
 unfolding wordRange
 returns-3 c = rw (eq-eqb _ _ (c .before .if1 .left))
 
 pub word-fits-spec : {M : Type 1} → statement M
-word-fits-spec = tie.close (tie.spec returns returns-2 add-result returns-3)
+word-fits-spec = tie.close (tie.spec returns returns-2 add-end returns-3)
