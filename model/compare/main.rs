@@ -80,7 +80,7 @@ use std::process::ExitCode;
 
 /// The stack that include/palustrode.h says a call needs. The model in the library's
 /// place may need any.
-const STACK: usize = if cfg!(feature = "standin") { usize::MAX } else { 1024 };
+const STACK: usize = if cfg!(feature = "standin") { usize::MAX } else { 1280 };
 
 fn main() -> ExitCode {
     let mut arguments = std::env::args().skip(1);
