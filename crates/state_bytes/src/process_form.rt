@@ -136,11 +136,14 @@ pub(crate) fn put_process(p: Process, bytes: &mut [u8])
     put_entries(breaks, &mut bytes[ENTRIES_AT..]);
 }
 
-// The session in the head is formed, and the host there may be owed the answer.
+// The session in the head is formed, and the host there may be owed the answer. That nothing is owed is told first, by one comparison.
 fn session_fits(bytes: &[u8]) -> bool
     requires { ⌜ headWidth ≤ length (now bytes) ⌝ }
     ensures { λ r. ⌜ r ≡ sessionFits (now (bytes .entry)) ⌝ }
 {
+    if bytes[OWED_AT] == 0 {
+        return true;
+    }
     if bytes[OWED_AT] > LAST_OWED_NUMBER {
         return false;
     }
