@@ -7,12 +7,11 @@ use native.Mathlib.Omega.{arith}
 use borrow.Author.Tests.{eqb-true, eq-eqb, ne-eqb}
 use lib.Dec.{eqb}
 use Rattle.lists.proofs.Bool.{&&-left, &&-right}
-use Rattle.fields.specs.declared.write.Fields.{Fields}
 use Rattle.fields.specs.declared.read.Line.{Line}
 use Rattle.fields.specs.declared.answer.TextAnswer.{TextAnswer}
 use Rattle.fields.specs.declared.answer.AnswerLine.{AnswerLine}
 use Rattle.fields.specs.Written.{written, Sayable}
-use Rattle.fields.specs.Read.{lineOf, fieldsOf, wholeLine}
+use Rattle.fields.specs.Read.{lineOf, wholeLine}
 use Rattle.fields.specs.Answer.{failedFlag, isFlag, answerFields, noAnswer, answerFrom, answerOf, SayableAnswer}
 use Rattle.fields.specs.Theorems.{ReadsAnswers}
 use Rattle.fields.proofs.ReadLaws.{and-false}

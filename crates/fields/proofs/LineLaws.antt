@@ -2,7 +2,7 @@
 use mathlib.Core.Path.{_≡_, refl, sym, ap, _∙_, subst}
 use mathlib.Core.Bool.{Bool, true, false, cond, _&&_, _||_, true≢false}
 use mathlib.Core.List.{List, [], _∷_, _++_}
-use Prim.Native.Nat.{ℕ, suc, _+_, _-_, _≤_, _<_}
+use Prim.Native.Nat.{ℕ, _+_, _-_, _≤_, _<_}
 use native.Mathlib.Omega.{arith}
 use borrow.Author.Tests.{eqb-true, eqb-false, eq-eqb, ne-eqb}
 use lib.ListN.{length, drop, getD, length-drop, drop-of-length-le, List·getD-eq-default}
@@ -18,7 +18,7 @@ use Rattle.fields.specs.Hex.{hexNumeral, hexValue, digitsOf, numberAt, n
 use Rattle.fields.specs.Written.{blankNumeral, written, Sayable}
 use Rattle.fields.specs.Read.{separates, noHead, headAfter, headOf, unread, headOnly, wholeLine, endsAt, lineAfter, lineFrom, lineOf, fieldsOf}
 use Rattle.fields.specs.Theorems.{ReadsLines, ReadsHeads}
-use Rattle.fields.proofs.ReadLaws.{and-false, here, stands-first, stands-rest, stands-after, stands-within, numeral-is-read, blank-is-read, Stands, numeral-stands, blank-stands}
+use Rattle.fields.proofs.ReadLaws.{and-false, here, stands-first, stands-rest, stands-after, stands-within, numeral-is-read, blank-is-read, numeral-stands, blank-stands}
 
 -- ---- where a field, and a line, may end
 

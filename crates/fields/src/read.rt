@@ -78,17 +78,19 @@ impl Head {
         if text[at] != 32 {
             return Head::none();
         }
-        if !is_known(text[at + 1]) {
+        let letter = text[at + 1];
+        if !is_known(letter) {
             return Head::none();
         }
-        if !separates(text, at + 2) {
+        let next = at + 2;
+        if !separates(text, next) {
             return Head::none();
         }
         Head {
             ok: true,
             pid: n.value,
-            letter: text[at + 1],
-            next: at + 2,
+            letter: letter,
+            next: next,
         }
     }
 

@@ -45,12 +45,12 @@ finished state x =
     reportCalled (x .answer .outcome) (x .answer .lineLength) (cond (isGranted (x .answer .outcome)) (stateBytes (x .after .records)) state)
     (x .after .memory) (x .answer .buffer) (x .answer .line)
 
--- the test 1 of a call: what it is lent is too short; a store is lent nothing
-unfoldable pub tooShort : List ℕ → Call → Bool
-tooShort memory (request m buffer) = noRoom memory buffer
-tooShort memory (report p kind reason words buffer line) = noReportRoom memory buffer line
-tooShort memory (store p a v) = false
-tooShort memory (textLine text buffer) = noLineRoom memory buffer
+-- the test 1 of a call: what it is lent has a wrong length; a store is lent nothing
+unfoldable pub badlyLent : List ℕ → Call → Bool
+badlyLent memory (request m buffer) = noRoom memory buffer
+badlyLent memory (report p kind reason words buffer line) = noReportRoom memory buffer line
+badlyLent memory (store p a v) = false
+badlyLent memory (textLine text buffer) = noLineRoom memory buffer
 
 -- the tests 1 and 2, which every call makes first
 unfoldable pub lentOn : List ℕ → Bool → ℕ
@@ -60,7 +60,7 @@ lentOn state short = cond short 1 (cond (stateSound state) 0 2)
 unfoldable pub callOn : List ℕ → List ℕ → Call → Called
 callOn state memory c =
     cond (stateFormed state) (finished state (step (lent (stateOf state) memory) c))
-    (refusedBy (lentOn state (tooShort memory c)) state memory (buffersOf c))
+    (refusedBy (lentOn state (badlyLent memory c)) state memory (buffersOf c))
 
 -- what the machine leaves when it stores a byte at an address of process p, whose bytes begin where the state says: it changes memory alone
 -- and is told nothing

@@ -30,8 +30,9 @@ pub record Starts : Type 0 where
   -- after a fresh start with right sizes, with a memory of its length
   pub fresh : (there : List Bool) (sizes state memory : List ℕ) → length there ≡ 8 → sizesRight there sizes ≡ true → length state ≡ stateWidth
       → length memory ≡ capacity → Begins (startOn there sizes state .state) memory
-  -- wherever the tests 1 and 2 pass
+  -- wherever the tests 1 and 2 pass, of a message or of a text line
   pub passed : (state memory buffer : List ℕ) → lentOn state (noRoom memory buffer) ≡ 0 → Begins state memory
+  pub passed-line : (state memory buffer : List ℕ) → lentOn state (noLineRoom memory buffer) ≡ 0 → Begins state memory
   -- and after each call of a list
   pub after : (state memory : List ℕ) → Begins state memory → (c : Call) → Typed c → (x : Called) → Did state memory c x → Begins (x .state) (x .memory)
 
@@ -96,5 +97,5 @@ pub record Demands : Type 0 where
   pub ledger : Ledger
   -- a breakpoint in a loop comes back
   pub loops : Loops
-  -- a granted `c` or `s` is answered once, unless it is cancelled
+  -- a granted `c` or `s` is answered at most once, by the first report that stops or ends the process, unless it is cancelled
   pub owed-answers : OwedAnswers

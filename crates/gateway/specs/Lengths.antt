@@ -20,9 +20,13 @@ replyLength o = cond (ltb (numberOf o) 7) (lengthOf o) headerBytes
 unfoldable pub noticeLength : Outcome → ℕ
 noticeLength o = lengthOf o
 
+-- the index after the first newline
+unfoldable pub afterNewline : List ℕ → ℕ
+afterNewline buffer = first (λ (c : ℕ). eqb c 10) buffer + 1
+
 -- of a text line: the line that answers it at once; from number 100 on the line with the flag, up to its newline; else nothing
 unfoldable pub lineLength : Outcome → List ℕ → ℕ
-lineLength o buffer = cond (ltb (numberOf o) 100) (lengthOf o) (first (λ (c : ℕ). eqb c 10) buffer + 1)
+lineLength o buffer = cond (ltb (numberOf o) 100) (lengthOf o) (afterNewline buffer)
 
 -- what stands in the buffer as far as a length of the outcome reaches
 abbrev pub front : (Outcome → ℕ) → Answer → List ℕ
@@ -51,7 +55,10 @@ pub record Lengths : Type 0 where
   pub line-front : (s : State) (text b c : List ℕ) → length b ≡ length c
       → take (textLength (textStep text b s .answer)) (textStep text b s .answer .buffer)
       ≡ take (textLength (textStep text c s .answer)) (textStep text c s .answer .buffer)
-  -- and of the line beside a notice
+  -- both hold of the line beside a notice
+  pub report-line-behind : (s : State) (p kind reason : ℕ) (words buffer line : List ℕ)
+      → drop (reportStep p kind reason words buffer line s .answer .lineLength) (reportStep p kind reason words buffer line s .answer .line)
+      ≡ drop (reportStep p kind reason words buffer line s .answer .lineLength) line
   pub report-line-front : (s : State) (p kind reason : ℕ) (words buffer b c : List ℕ) → length b ≡ length c
       → take (reportStep p kind reason words buffer b s .answer .lineLength) (reportStep p kind reason words buffer b s .answer .line)
       ≡ take (reportStep p kind reason words buffer c s .answer .lineLength) (reportStep p kind reason words buffer c s .answer .line)

@@ -9,20 +9,18 @@ use state_bytes::read_process_at;
 use text_door::fail;
 use text_door::line_for_process;
 ghost use mathlib.Core.Path.{_≡_};
-ghost use mathlib.Core.Bool.{true};
-ghost use mathlib.Core.List.{List};
-ghost use Prim.Native.Nat.{ℕ, _<_};
-ghost use Rattle.fields.specs.Read.{lineOf};
+ghost use Prim.Native.Nat.{_<_};
 ghost use Rattle.rules.specs.Tests.{lent, noLineRoom};
-ghost use Rattle.rules.specs.Step.{textLine, textStep};
+ghost use Rattle.rules.specs.Step.{textLine};
 ghost use Rattle.state_bytes.specs.State.{stateOf};
+ghost use Rattle.gateway.specs.Stage.{lineStep};
 ghost use Rattle.gateway.specs.Called.{called, lentOn, finished, Did};
 
 // A line that can be read, to a process with a number under 8.
 fn line_known(line: Line, state: &mut [u8], memory: &mut [u8], out: &mut [u8]) -> Outcome
-    requires { ⌜ (line .headed ≡ true) × (line .whole ≡ true) × (line .pid < 8) ⌝ }
+    requires { ⌜ line .pid < 8 ⌝ }
     requires { ⌜ lentOn (now state) (noLineRoom (now memory) (now out)) ≡ 0 ⌝ }
-    ensures { λ r. ⌜ ((text : List ℕ) → lineOf text ≡ line → called r (now (state .exit)) (now (memory .exit)) (now (out .exit)) ≡ finished (now (state .entry)) (textStep text (now (out .entry)) (lent (stateOf (now (state .entry))) (now (memory .entry))))) ⌝ }
+    ensures { λ r. ⌜ called r (now (state .exit)) (now (memory .exit)) (now (out .exit)) ≡ finished (now (state .entry)) (lineStep line (now (out .entry)) (lent (stateOf (now (state .entry))) (now (memory .entry)))) ⌝ }
 {
     let index = line.pid as usize;
     let process = read_process_at(state, index);

@@ -14,7 +14,7 @@ use Rattle.process.specs.Record.{withRun, withVector}
 use Rattle.process.specs.Find.{find}
 use Rattle.process.specs.Local.{Local}
 use Rattle.process.specs.Planting.{plantedIn, liftedIn, replanted, liftedAt}
-use Rattle.process.specs.Request.{pc, onRecord, halted, stopped, resumed, stepped, proceeded, vectorFrom, goingTo, wentOn, continued, steppedFrom}
+use Rattle.process.specs.Request.{pc, onRecord, broughtToStop, stopped, resumed, stepped, proceeded, vectorFrom, goingTo, wentOn, continued, steppedFrom}
 use Rattle.process.specs.Report.{storeVectorAndReplant, verdictOf, passed, carriedOut, reported}
 use Rattle.run_state.specs.declared.Run.the-variants.{Stopped}
 use Rattle.run_state.specs.RunState.{moving, atBreak}
@@ -84,7 +84,7 @@ shape-liftedAt at l = shape-cond (ltb (find (At at) (l .process)) 8) _ l (shape 
 -- ---- requests
 
 pub shape-stopped : (l : Local) → shape (stopped l) ≡ shape l
-unfolding stopped halted
+unfolding stopped broughtToStop
 shape-stopped l = go (moving (l .process .run))
   where
     go : (t : Bool) → shape (cond t (onRecord (withRun Stopped) (replanted l)) l) ≡ shape l

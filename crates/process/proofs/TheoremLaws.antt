@@ -28,7 +28,7 @@ use Rattle.run_state.specs.RunState.{moving, steppingOrPassing, stoppedOrAtBrea
 use Rattle.breakpoints.specs.Seen.{putWord, isPlanted, restored, seen, savedFrom}
 use Rattle.process.specs.Local.{Local, local, extent, Proper}
 use Rattle.process.specs.Planting.{plantedIn, liftedIn, removedFrom, replanted, liftedAt}
-use Rattle.process.specs.Request.{pc, onRecord, hasBreak, hasRoom, endDebugged, halted, stopped, resumed, stepped, proceeded, goingTo, wentOn, continued, steppedFrom, examined, toBeSeen, deposited, breakSet, breakRemoved, created, cleared}
+use Rattle.process.specs.Request.{pc, onRecord, hasBreak, hasRoom, endDebugged, broughtToStop, stopped, resumed, stepped, proceeded, goingTo, wentOn, continued, steppedFrom, examined, toBeSeen, deposited, breakSet, breakRemoved, created, cleared}
 use Rattle.process.specs.Report.{storeVectorAndReplant, verdictOf, passed, carriedOut, reported}
 use Rattle.process.specs.Theorems.{seenOf, DepositIsSeen, SeenStays, EndDebugRestores, StoreIsUnseen, RunningIsPlanted, SoundStays}
 use Rattle.run_state.proofs.RunLaws.{stoppedOrAtBreak-still, atBreak-stopped, after-pass-lifts, accepts-moves}
@@ -91,7 +91,7 @@ unfolding breakRemoved
 unbreak-seen a l g e = seen-removed l g a e
 
 stop-seen : (l : Local) → Proper l → seenOf (stopped l) ≡ seenOf l
-unfolding stopped halted
+unfolding stopped broughtToStop
 stop-seen l g = go (moving (l .process .run))
   where
     go : (t : Bool) → seenOf (cond t (onRecord (withRun Stopped) (replanted l)) l) ≡ seenOf l
@@ -239,8 +239,8 @@ unfolding endDebugged
 end-debug-sound l g =
     sound-free (withRun (released (l .process .run)) (withHost 0 (withSession noSession (withBreaks noBreaks (l .process))))) (sound-of l g .sized) refl refl (λ t. refl)
 
-halt-sound : (l : Local) → Proper l → Sound (halted l .process)
-unfolding halted
+halt-sound : (l : Local) → Proper l → Sound (broughtToStop l .process)
+unfolding broughtToStop
 halt-sound l g = go (moving (l .process .run))
   where
     go : (t : Bool) → Sound (cond t (onRecord (withRun Stopped) (replanted l)) l .process)
@@ -252,7 +252,7 @@ halt-sound l g = go (moving (l .process .run))
 
 stop-sound : (l : Local) → Proper l → Sound (stopped l .process)
 unfolding stopped
-stop-sound l g = sound-owing Nothing (halted l .process) (λ i. absurd (true≢false (sym i))) (halt-sound l g)
+stop-sound l g = sound-owing Nothing (broughtToStop l .process) (λ i. absurd (true≢false (sym i))) (halt-sound l g)
 
 -- the breakpoint in an entry is lifted as a process that had none lifted starts to step or to pass
 module _ (l : Local) (g : Proper l) (none : NoneLifted (l .process)) where

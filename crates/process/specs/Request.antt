@@ -59,12 +59,12 @@ endDebugged l =
 -- ---- STOP, RESUME, SINGLE STEP, PROCEED BPT
 
 -- 'running or stepping becomes stopped, and a lifted breakpoint is planted again. Other states stay.'; of passing: 'STOP makes it stopped'
-unfoldable pub halted : Local → Local
-halted l = cond (moving (l .process .run)) (onRecord (withRun Stopped) (replanted l)) l
+unfoldable pub broughtToStop : Local → Local
+broughtToStop l = cond (moving (l .process .run)) (onRecord (withRun Stopped) (replanted l)) l
 
 -- STOP: and it cancels 'an owed answer', in every run state
 unfoldable pub stopped : Local → Local
-stopped l = onRecord (owing Nothing) (halted l)
+stopped l = onRecord (owing Nothing) (broughtToStop l)
 
 -- 'to running'
 abbrev pub resumed : Local → Local

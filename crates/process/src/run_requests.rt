@@ -8,14 +8,14 @@ use session::Owed;
 ghost use mathlib.Core.Path.{_≡_};
 ghost use Rattle.process.specs.Local.{local, Tested};
 ghost use Rattle.process.specs.Record.{withRun};
-ghost use Rattle.process.specs.Request.{halted, stopped, stepped, proceeded};
+ghost use Rattle.process.specs.Request.{broughtToStop, stopped, stepped, proceeded};
 
 impl Process {
     // STOP but for the owed answer, which stays.
-    fn halt(self, bytes: &mut [u8]) -> Self
+    fn bring_to_stop(self, bytes: &mut [u8]) -> Self
         requires { ⌜ Tested self (now bytes) ⌝ }
-        ensures { λ r. ⌜ r ≡ halted (local self (now (bytes .entry))) .process ⌝ }
-        ensures { λ _. ⌜ now (bytes .exit) ≡ halted (local self (now (bytes .entry))) .bytes ⌝ }
+        ensures { λ r. ⌜ r ≡ broughtToStop (local self (now (bytes .entry))) .process ⌝ }
+        ensures { λ _. ⌜ now (bytes .exit) ≡ broughtToStop (local self (now (bytes .entry))) .bytes ⌝ }
     {
         let run = self.run;
         if run.moving() {
@@ -30,7 +30,7 @@ impl Process {
         ensures { λ r. ⌜ r ≡ stopped (local self (now (bytes .entry))) .process ⌝ }
         ensures { λ _. ⌜ now (bytes .exit) ≡ stopped (local self (now (bytes .entry))) .bytes ⌝ }
     {
-        let p = self.halt(bytes);
+        let p = self.bring_to_stop(bytes);
         p.owing(Owed::Nothing)
     }
 

@@ -1,4 +1,5 @@
--- The rules of the gateway. Words in quotation marks are document 01's.
+-- The rules of the gateway. Words in quotation marks are document 01's, a change request's or, of text lines, source
+-- document 002's.
 pub mod Rule
 pub mod TextRule
 pub mod Tests

@@ -1,14 +1,13 @@
 -- Owed answers, in the words of a user: a granted `c` or `s` is answered at most once, by the first report that stops or ends the process, unless
 -- it is cancelled before. Words in quotation marks are the change request's (K7).
 use mathlib.Core.Path.{_≡_}
-use mathlib.Core.Bool.{true, false}
+use mathlib.Core.Bool.{Bool, true, false, _||_}
 use mathlib.Core.List.{List, [], _∷_}
-use mathlib.Core.Logic.{_⊎_}
 use Prim.Native.Nat.{ℕ, _<_}
 use lib.ListN.{length}
+use lib.Dec.{eqb}
 use Rattle.lists.specs.Buffer.{overlay}
 use Rattle.ops.specs.Codes.{STOP, END-DEBUG, DESTROY}
-use Rattle.format.specs.Outcome.{outcome}
 use Rattle.run_state.specs.RunState.{moving}
 use Rattle.session.specs.declared.Owed.{Owed}
 use Rattle.session.specs.declared.Owed.the-variants.{Nothing}
@@ -16,6 +15,7 @@ use Rattle.session.specs.Session.{owes, owedLetter}
 use Rattle.fields.specs.Read.{lineOf}
 use Rattle.rules.specs.TextRule.{owedLine}
 use Rattle.rules.specs.Tests.{State, recordOf}
+use Rattle.rules.specs.Access.{alone, grants}
 use Rattle.rules.specs.Step.{Call, request, report, store, textLine, step}
 use Rattle.rules.specs.Turn.{buffersOf}
 use Rattle.rules.specs.Ready.{Ready}
@@ -70,9 +70,13 @@ pub record StopsIt (p : ℕ) (s : State) (c : Call) : Type 0 where
   pub granted : Granted s c
   pub stops : moving (recordOf (step s c .after) p .run) ≡ false
 
--- 'STOP, END DEBUG and DESTROY cancel an owed answer'
+-- 'STOP, END DEBUG and DESTROY'
+abbrev pub cancelling : ℕ → Bool
+cancelling cmd = eqb cmd STOP || (eqb cmd END-DEBUG || eqb cmd DESTROY)
+
+-- one of these, granted at process p: they 'cancel an owed answer'
 pub record Cancels (p : ℕ) (s : State) (c : Call) : Type 0 where
-  pub op : (fieldsOf c .cmd ≡ STOP) ⊎ ((fieldsOf c .cmd ≡ END-DEBUG) ⊎ (fieldsOf c .cmd ≡ DESTROY))
+  pub op : cancelling (fieldsOf c .cmd) ≡ true
   pub named : fieldsOf c .pid ≡ p
   pub granted : Granted s c
 
@@ -87,29 +91,33 @@ NoLine p s c = subject (only p) c ≡ true → step s c .answer .lineLength ≡ 
 
 -- ---- lists
 
--- nothing is owed, and no line is sent about process p until another `c` or `s` to it is granted
-unfoldable pub Settled : ℕ → State → List Call → Type 0
-Settled p s [] = owedAt s p ≡ Nothing
-Settled p s (c ∷ l) =
-    (owedAt s p ≡ Nothing) × (NoLine p s c × (((o : Owed) × Asks p o s c) ⊎ Settled p (step s c .after) l))
+-- nothing is owed, and no line is sent about process p, until another `c` or `s` to it is granted
+pub data Settled (p : ℕ) : State → List Call → Type 0 where
+  ends : {s : State} → owedAt s p ≡ Nothing → Settled p s []
+  asksAgain : {s : State} {c : Call} {l : List Call} → owedAt s p ≡ Nothing → NoLine p s c → (o : Owed) → Asks p o s c → Settled p s (c ∷ l)
+  stays : {s : State} {c : Call} {l : List Call} → owedAt s p ≡ Nothing → NoLine p s c → Settled p (step s c .after) l → Settled p s (c ∷ l)
 
--- what becomes of an owed answer: it is answered or cancelled by one of the calls, or it is owed still
-unfoldable pub Fate : ℕ → Owed → State → List Call → Type 0
-Fate p o s [] = owedAt s p ≡ o
-Fate p o s (c ∷ l) =
-    ((StopsIt p s c × Answers p o s c) × Settled p (step s c .after) l)
-    ⊎ (((Cancels p s c × NoLine p s c) × Settled p (step s c .after) l)
-    ⊎ (((StopsIt p s c → ⊥) × ((Cancels p s c → ⊥) × NoLine p s c)) × Fate p o (step s c .after) l))
+-- what becomes of an answer that process p owes: the first report that stops or ends the process answers it, unless a call before cancels it; no
+-- other `c` or `s` is granted until then, and at the end of the list it may be owed still
+pub data Fate (p : ℕ) (o : Owed) : State → List Call → Type 0 where
+  owedStill : {s : State} → owedAt s p ≡ o → Fate p o s []
+  answered : {s : State} {c : Call} {l : List Call} → StopsIt p s c → Answers p o s c → Settled p (step s c .after) l → Fate p o s (c ∷ l)
+  cancelled : {s : State} {c : Call} {l : List Call} → Cancels p s c → NoLine p s c → Settled p (step s c .after) l → Fate p o s (c ∷ l)
+  waits : {s : State} {c : Call} {l : List Call} → (StopsIt p s c → ⊥) → (Cancels p s c → ⊥) → ((k : Owed) → Asks p k s c → ⊥) → NoLine p s c
+      → Fate p o (step s c .after) l → Fate p o s (c ∷ l)
 
 -- ---- the theorem
 
 -- what a user may rely on
 pub record OwedAnswers : Type 0 where
-  -- a granted `c` or `s` writes nothing at once, and its answer is owed
+  -- a granted `c` or `s` writes nothing at once, and its answer is owed; 'Both are answered when a report next stops or ends the process',
+  -- at most once, unless cancelled before
   pub asked : (s : State) → Ready s → (c : Call) (p : ℕ) (o : Owed) → Asks p o s c
-      → (step s c .answer .outcome ≡ outcome 0 0) × (owedAt (step s c .after) p ≡ o)
-  -- 'Both are answered when a report next stops or ends the process', once, unless cancelled before
+      → (step s c .answer ≡ grants (alone []) (buffersOf c)) × ((l : List Call) → Fate p o (step s c .after) l)
+  -- so from any sound state in which an answer is owed
   pub fate : (s : State) → Ready s → (p : ℕ) → p < 8 → (o : Owed) → owes o ≡ true → owedAt s p ≡ o → (l : List Call) → Fate p o s l
-  -- a report sends a line only where one was owed, and only if it stops or ends the process
-  pub only-owed : (s : State) → Ready s → (c : Call) (p : ℕ) → p < 8 → subject (only p) c ≡ true → 0 < step s c .answer .lineLength
-      → (owes (owedAt s p) ≡ true) × (StopsIt p s c × Answers p (owedAt s p) s c)
+  -- and where none is owed, no line is sent before a `c` or `s` is granted
+  pub settled : (s : State) → Ready s → (p : ℕ) → p < 8 → owedAt s p ≡ Nothing → (l : List Call) → Settled p s l
+  -- a line is sent only where an answer was owed, and only by the report that stops or ends the process
+  pub only-owed : (s : State) → Ready s → (c : Call) → 0 < step s c .answer .lineLength
+      → (p : ℕ) × ((owes (owedAt s p) ≡ true) × (StopsIt p s c × Answers p (owedAt s p) s c))

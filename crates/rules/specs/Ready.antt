@@ -10,7 +10,8 @@ use Rattle.state.specs.Sound.{EightEntries, soundTest}
 use Rattle.rules.specs.Tests.{State, recordOf}
 use Rattle.rules.specs.Step.{Call, request, report, store, textLine}
 
--- a sound state; records and entries have the sizes of the code's types, and with another memory every request and report is refused with 1
+-- a sound state; records and entries have the sizes of the code's types, and with another memory every request, text line and
+-- report is refused with 1
 pub record Ready (s : State) : Type 0 where
   pub memory : length (s .memory) ≡ capacity
   pub processes : length (s .records .processes) ≡ 8

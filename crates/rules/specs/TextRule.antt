@@ -1,4 +1,5 @@
--- What the text lines ask of a process and do to it: one row for each letter. Words in quotation marks are the change request's (K7).
+-- What the text lines ask of a process and do to it: one row for each letter. Words in quotation marks are the change request's (K7)
+-- and source document 002's.
 use mathlib.Core.Bool.{Bool, true, cond, _&&_, _||_}
 use mathlib.Core.List.{List, [], _∷_}
 use Prim.Native.Nat.{ℕ, _+_, _-_, _*_, _/_, _%_}

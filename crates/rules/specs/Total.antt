@@ -48,7 +48,7 @@ cantOver m buffer = overlay (written (cantOf (headerOf m)) []) buffer
 
 -- demand 1
 pub record Total : Type 0 where
-  -- 'The lowest-numbered test that fails gives the answer; none is given otherwise.'
+  -- 'The lowest-numbered test that fails gives the answer; none is given otherwise.'; of a text line the first 'in that order'
   pub number : (s : State) (c : Call) → First (testsOf s c) (numberOf (step s c .answer .outcome))
   -- 'Numbers returned': every number is one of the list
   pub listed : (s : State) (c : Call) → oneOf (numbersOf c) (numberOf (step s c .answer .outcome)) ≡ true
@@ -67,10 +67,10 @@ pub record Total : Type 0 where
   pub report-silent : (s : State) (p kind reason : ℕ) (words buffer line : List ℕ) (n : ℕ)
       → reportStep p kind reason words buffer line s .answer .outcome ≡ outcome (suc n) 0
       → reportStep p kind reason words buffer line s .answer ≡ record { outcome = outcome (suc n) 0; buffer = buffer; lineLength = 0; line = line }
-  -- a refused text line writes nothing under 100, and from 100 on 'one line with the flag': 'demand 1 counts this line as the CAN'T reply'
+  -- a refused text line writes nothing under 100, and from 100 on one line 'with the flag 0xffffffff': 'demand 1 counts this line as the CAN'T reply'
   pub line-silent : (s : State) (text buffer : List ℕ) (n : ℕ) → textStep text buffer s .answer .outcome ≡ outcome (suc n) 0
       → textStep text buffer s .answer .buffer ≡ cond (ltb (suc n) 100) buffer (overlay (failure (lineOf text) (suc n)) buffer)
-  -- so of a request and of a report
+  -- 'buffer bytes past those written are never touched', of a request and of a report
   pub request-past : (s : State) (m buffer : List ℕ) (n : ℕ) → requestStep m buffer s .answer .outcome ≡ outcome 0 n
       → drop n (requestStep m buffer s .answer .buffer) ≡ drop n buffer
   pub report-past : (s : State) (p kind reason : ℕ) (words buffer line : List ℕ) (n : ℕ) → reportStep p kind reason words buffer line s .answer .outcome ≡ outcome 0 n

@@ -85,7 +85,7 @@ abbrev pub noticeBytes : ℕ → ℕ → ℕ → List ℕ → Local → List ℕ
 noticeBytes p kind reason words l =
     cond (told kind words l) (written (noticeOf (recipientOf kind words l) kind p reason) (lowFirst words)) []
 
--- a report about a process; beside the notice goes the line that it owes
+-- a report about a process; beside the notice goes the line that the process owes
 unfoldable pub reportAccess : ℕ → ℕ → ℕ → List ℕ → Access
 reportAccess p kind reason words = record {
   outer = λ u. test 7 (not (u .there)) ∷ [];

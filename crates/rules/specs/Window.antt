@@ -1,5 +1,5 @@
--- The state seen one process at a time: a process with its bytes is taken out, and put back. Words in quotation marks are a change
--- request's (K9).
+-- The state seen one process at a time: a process with its bytes is taken out, and put back. Words in quotation marks are
+-- document 01's and those of change requests (K9, K7).
 use mathlib.Core.Bool.{cond}
 use mathlib.Core.List.{List, []}
 use Prim.Native.Nat.{ℕ}

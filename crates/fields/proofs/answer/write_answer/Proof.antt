@@ -1,6 +1,5 @@
 -- `fields::answer::write_answer` meets its contract: the line of its fields. Assumes nothing.
 use mathlib.Core.Path.{ap, _∙_}
-use mathlib.Core.List.{List}
 use borrow.Author.Needs.{needs}
 use lib.ListN.{length}
 use Rattle.lists.specs.Buffer.{overlay}

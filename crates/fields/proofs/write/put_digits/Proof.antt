@@ -1,13 +1,12 @@
 -- `fields::write::put_digits` meets its contract. The loop's invariant: the digits of what is left of the number complete the buffer. Assumes nothing.
 use mathlib.Core.Path.{_≡_, refl, ap, _∙_}
-use mathlib.Core.List.{List}
 use Prim.Native.Nat.{ℕ, _+_, _-_, _/_, _≤_, _<_}
 use native.Mathlib.Omega.{arith}
 use borrow.Author.Needs.{needs}
 use lib.ListN.{length, set, length-set}
 use lib.Seq.{sets}
 use Rattle.fields.specs.Hex.{hexDigits}
-use Rattle.fields.proofs.HexLaws.{one-digit, one-less, eight-digits}
+use Rattle.fields.proofs.HexLaws.{one-less, eight-digits}
 use Rattle.fields.proofs.WriteLaws.{digits-turn, digits-done}
 use Rattle.fields.proofs.write.put_digits.Statement.{statement}
 use Rattle.fields.proofs.write.put_digits.Tie as tie

@@ -1,9 +1,9 @@
 -- `fields::write::write_fields` meets its contract: field after field. Assumes nothing.
-use mathlib.Core.Path.{_≡_, _∙_}
+use mathlib.Core.Path.{_∙_}
 use Prim.Native.Nat.{_+_, _≤_}
 use native.Mathlib.Omega.{arith}
 use borrow.Author.Needs.{needs}
-use lib.ListN.{length, set, length-set}
+use lib.ListN.{set, length-set}
 use Rattle.fields.specs.Hex.{hexNumeral}
 use Rattle.fields.specs.Written.{blankNumeral, written, lineBytes}
 use Rattle.fields.proofs.WriteLaws.{put-length, put-again-length, put-line, put-whole}
@@ -65,7 +65,7 @@ same-length c =
     let s = x .before .before .before in
     let two = put-again-length (x .put-number .result) (y .put-after-blank .result) (s .args .f .letter) (hexNumeral (s .args .f .pid)) (blankNumeral (s .args .f .third)) (s .args .out .now) (x .put-number .last .1 .1 .0) (y .put-after-blank .last .1 .1 .0) (x .put-number .ensures .0) (y .put-after-blank .ensures .0) in
     let three = put-length (y .put-after-blank .result) (z .put-after-blank2 .result) (blankNumeral (s .args .f .fourth)) (y .put-after-blank .last .1 .1 .0) (z .put-after-blank2 .last .1 .1 .0) (z .put-after-blank2 .ensures .0) in
-    length-set (z .put-after-blank2 .last .1 .1 .0) (z .put-after-blank2 .result) 10 ∙ three ∙ two
+    length-set (z .put-after-blank2 .last .1 .1 .0) (z .put-after-blank2 .result) _ ∙ three ∙ two
 
 returns : tie.Need-returns
 returns c =

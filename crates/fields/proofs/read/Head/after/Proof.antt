@@ -45,11 +45,11 @@ returns-4 c =
     let a = c .before .before .before .before .before .before .before .before .args in
     c .none4 .ensures ∙ head-other (a .text .now) (a .n) (c .before .if4 .taken)
 
-add-is-known : tie.Need-add-is-known
-add-is-known c = search needs
+add-letter : tie.Need-add-letter
+add-letter c = search needs
 
-shared-slice-read-is-known : tie.Need-shared-slice-read-is-known
-shared-slice-read-is-known c = search needs
+shared-slice-read-letter : tie.Need-shared-slice-read-letter
+shared-slice-read-letter c = search needs
 
 is-known-requires : tie.Need-is-known-requires
 is-known-requires c κs = search needs
@@ -63,8 +63,8 @@ returns-5 c =
     let k = c .before .before .is-known in
     c .none5 .ensures ∙ head-unknown (a .text .now) (a .n) (sym (k .ensures) ∙ not-true _ (c .before .if5 .taken))
 
-add-separates : tie.Need-add-separates
-add-separates c = search needs
+add-next : tie.Need-add-next
+add-next c = search needs
 
 separates-requires : tie.Need-separates-requires
 separates-requires c κs = search needs
@@ -78,23 +78,14 @@ returns-6 c =
     let s = c .before .before .separates in
     c .none6 .ensures ∙ head-goes-on (a .text .now) (a .n) (sym (s .ensures) ∙ not-true _ (c .before .if6 .taken))
 
-add-t5 : tie.Need-add-t5
-add-t5 c = search needs
-
-shared-slice-read-t8 : tie.Need-shared-slice-read-t8
-shared-slice-read-t8 c = search needs
-
-add-t6 : tie.Need-add-t6
-add-t6 c = search needs
-
 returns-7 : tie.Need-returns-7
 returns-7 c =
-    let s = c .before .before in
+    let s = c .before in
     let k = s .before .before in
     let b = k .before .before in
     let n = b .before .before .before .before in
     let a = n .before .before .before .args in
-    head-found (a .text .now) (a .n) (not-false _ (n .if1 .left)) (b .if4 .left) (sym (k .is-known .ensures) ∙ not-false _ (s .before .if5 .left)) (sym (s .separates .ensures) ∙ not-false _ (c .before .if6 .left))
+    head-found (a .text .now) (a .n) (not-false _ (n .if1 .left)) (b .if4 .left) (sym (k .is-known .ensures) ∙ not-false _ (s .before .if5 .left)) (sym (s .separates .ensures) ∙ not-false _ (c .if6 .left))
 
 pub after-spec : {M : Type 1} → statement M
 after-spec =
@@ -110,16 +101,13 @@ after-spec =
     shared-slice-read-if4
     none-requires-4
     returns-4
-    add-is-known
-    shared-slice-read-is-known
+    add-letter
+    shared-slice-read-letter
     is-known-requires
     none-requires-5
     returns-5
-    add-separates
+    add-next
     separates-requires
     none-requires-6
     returns-6
-    add-t5
-    shared-slice-read-t8
-    add-t6
     returns-7)

@@ -5,8 +5,8 @@ use borrow.Author.Needs.{needs}
 use Rattle.process.proofs.record.Process.stop.Statement.{statement}
 use Rattle.process.proofs.record.Process.stop.Tie as tie
 
-halt-requires : tie.Need-halt-requires
-halt-requires c κs = search needs
+bring-to-stop-requires : tie.Need-bring-to-stop-requires
+bring-to-stop-requires c κs = search needs
 
 owing-requires : tie.Need-owing-requires
 owing-requires c κs = search needs
@@ -18,7 +18,7 @@ returns : tie.Need-returns
 unfolding stopped
 returns c =
     let h = c .before .before .before in
-    rw (c .owing .ensures, h .halt .ensures .0) (refl, h .halt .ensures .1)
+    rw (c .owing .ensures, h .bring-to-stop .ensures .0) (refl, h .bring-to-stop .ensures .1)
 
 pub stop-spec : {M : Type 1} → statement M
-stop-spec = tie.close (tie.spec halt-requires owing-requires same-length returns)
+stop-spec = tie.close (tie.spec bring-to-stop-requires owing-requires same-length returns)
