@@ -5,7 +5,8 @@
 # make model-teeth  wrong libraries against the model: the comparison of the gate has to see each of them
 # make bench     instructions a call, stack and code size of the library, beside the model
 # make fuzz      a coverage-guided fuzzer on library and model; SECONDS=600 for a longer run
-# make core      a vent loop under the library on a simulated PDP-11 (`pdp11`, of the package simh): each call and trap, checked and told
+# make core      a vent loop under the library on a simulated PDP-11 (`pdp11`, of the package simh): each call and trap, and each text line of a
+#                debugger, checked and told
 # make run       plays the recording examples/handover.txt: each call, and below it what came of it
 
 SECONDS = 60

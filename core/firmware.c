@@ -1,6 +1,7 @@
 /* The firmware's side of the stub. The gateway has one core; a process is on it during core_run and at no other time, so that no process executes
  * while a call of the library is under way. */
 #include "firmware.h"
+#include <stdio.h>
 #include <string.h>
 
 enum { HALT = 0000000, BPT = 0000003, NO_WORD = 0200000 };
@@ -24,7 +25,7 @@ int64_t firmware_start(uint64_t there, const uint16_t *sizes) {
     return result;
 }
 
-/* A vector changes by two requests: CREATE, whose reply has the number of the new process in PID, and DEPOSIT STATE VECTOR, which changes ARG2
+/* A vector changes by two requests of messages: CREATE, whose reply has the number of the new process in PID, and DEPOSIT STATE VECTOR, which changes ARG2
  * bytes from ARG1 on. What else a request changed, run states and where processes lie, is read from the state before each slice. */
 int64_t firmware_request(const uint8_t *message, size_t length, uint8_t *reply) {
     int64_t result =
@@ -34,6 +35,20 @@ int64_t firmware_request(const uint8_t *message, size_t length, uint8_t *reply) 
     palustrode_read_answer(reply, (size_t)result, f, PALUSTRODE_FIELDS);
     if (f[PALUSTRODE_CMD] == PALUSTRODE_CREATE) load_words(f[PALUSTRODE_PID], 0, CORE_WORDS);
     if (f[PALUSTRODE_CMD] == PALUSTRODE_DEPOSIT_VECTOR) load_words(f[PALUSTRODE_PID], f[PALUSTRODE_ARG1], f[PALUSTRODE_ARG2]);
+    return result;
+}
+
+/* A vector changes by two letters of a text line: `R` writes the register in its third field, and `c` and `s` set PC if their third field is another
+ * than 1. A line that is granted has at most 35 bytes and can be read. */
+int64_t firmware_line(const uint8_t *text, size_t length, uint8_t *line) {
+    int64_t result = palustrode_line(state, sizeof state, memory, sizeof memory, text, length, line, PALUSTRODE_LINE_BYTES);
+    char copy[PALUSTRODE_LINE_BYTES + 1] = {0}, letter;
+    unsigned p, address;
+    if (result < 0) return result;
+    memcpy(copy, text, length);
+    if (sscanf(copy, "0x%x %c 0x%x", &p, &letter, &address) != 3) return result;
+    if (letter == 'R') load_words(p, 2 * address, 2);
+    if ((letter == 'c' || letter == 's') && address != 1) load_words(p, CORE_PC, 2);
     return result;
 }
 
@@ -75,5 +90,5 @@ void firmware_slice(unsigned p, struct slice *slice) {
     execute(memory + palustrode_start(state, p), get_word(process + PALUSTRODE_SIZE_AT), kept[p], one, slice);
     if (!slice->reported) return;
     slice->result = palustrode_report(state, sizeof state, memory, sizeof memory, p, slice->kind, slice->reason, kept[p], CORE_WORDS,
-                                      slice->notice, sizeof slice->notice);
+                                      slice->notice, sizeof slice->notice, slice->line, sizeof slice->line);
 }

@@ -84,7 +84,7 @@ void desk_refused(const char *what, unsigned cmd, unsigned run_state, unsigned w
 static const char *who_was_told(const struct slice *slice) {
     if (slice->result == 0) return "nobody";
     if (slice->result < 0) return "the report was refused";
-    int64_t carried = palustrode_read_answer(slice->notice, (size_t)slice->result, fields, PALUSTRODE_FIELDS);
+    int64_t carried = palustrode_read_answer(slice->notice, palustrode_notice_length(slice->result), fields, PALUSTRODE_FIELDS);
     int right = carried == CORE_WORDS && fields[PALUSTRODE_HOST] == DESK && fields[PALUSTRODE_CMD] == PALUSTRODE_NOTICE + slice->kind &&
                 fields[PALUSTRODE_PID] == vents && fields[PALUSTRODE_ARG1] == slice->reason &&
                 memcmp(slice->notice + PALUSTRODE_HEADER_BYTES, firmware_words(vents), CORE_WORDS) == 0;

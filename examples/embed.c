@@ -17,6 +17,7 @@ enum {
 static uint8_t state[PALUSTRODE_STATE_BYTES];
 static uint8_t memory[PALUSTRODE_MEMORY_BYTES];
 static uint8_t out[PALUSTRODE_MESSAGE_BYTES];
+static uint8_t line[PALUSTRODE_LINE_BYTES];
 
 static uint8_t *process(unsigned p) { return state + p * PALUSTRODE_PROCESS_BYTES; }
 
@@ -61,9 +62,9 @@ static void report(const char *what, uint64_t process, uint64_t kind, uint16_t p
     uint8_t words[PALUSTRODE_WORDS_BYTES] = {0};
     words[2 * PC] = (uint8_t)(pc & 255);
     words[2 * PC + 1] = (uint8_t)(pc >> 8);
-    int64_t r =
-        palustrode_report(state, sizeof state, memory, sizeof memory, process, kind, 0, words, sizeof words, out, sizeof out);
-    show(what, r, r >= 0 ? (size_t)r : 0);
+    int64_t r = palustrode_report(state, sizeof state, memory, sizeof memory, process, kind, 0, words, sizeof words, out,
+                                  sizeof out, line, sizeof line);
+    show(what, r, palustrode_notice_length(r));
 }
 
 /* The desk's end: host 5 writes a request, to process 2 unless it is a CREATE, the gateway answers it, and the desk reads the answer. */

@@ -70,7 +70,7 @@ pub fn request_from(r: [u8; 8], records: &State) -> Call {
     let (mut arg1, mut arg2) = (moved(r[0], word(r[4], r[5])), moved(r[0], word(r[6], r[7])));
     if !any {
         let processes = if near { 2 } else { 8 };
-        (host, cmd, pid) = (5 + host % 4 / 3, cmd % 14, pid % processes);
+        (host, cmd, pid) = ([5, 5, 6, TEXT_HOST][usize::from(host) % 4], cmd % 14, pid % processes);
         if matches!(cmd, NOP | CREATE_PROCESS) {
             pid = 0;
         }
@@ -126,6 +126,60 @@ pub fn report_from(r: [u8; 8], records: &State) -> Call {
     let wide = |n: u64| n | if any { u64::from(r[7] & 1) << (8 + r[7] % 56) } else { 0 };
     let (process, kind) = (wide(process.into()), kind.into());
     Call::Report { process, kind, reason: reason.into(), words }
+}
+
+/// A line; with bit 6 to a process that host 253 debugs.
+pub fn line_from(r: [u8; 8], records: &State) -> Call {
+    let (any, near) = (r[0] & 128 != 0, r[0] & 8 != 0);
+    let request = if any { r[2] } else { LETTERS[usize::from(r[2]) % LETTERS.len()] };
+    let ours = |process: &Process| process.there && process.host == TEXT_HOST;
+    let p = match pick(r[1], records, ours).filter(|_| r[0] & 64 != 0) {
+        Some(p) => p,
+        None if any => r[1],
+        None => r[1] % if near { 2 } else { 8 },
+    };
+    let process = &records.processes[usize::from(p) % PROCESSES];
+    let n = u32::from(moved(r[0], word(r[3], r[4])));
+    let addr = match request {
+        _ if any => n << (r[7] % 17),
+        b'r' | b'R' => n % 10,
+        b'c' | b's' => match r[3] % 4 {
+            0 | 1 => 1,
+            2 => used_address(r[4], process).unwrap_or(0).into(),
+            _ => n,
+        },
+        // around the end of the process, or a multiple of 4
+        _ if r[3] % 8 == 0 => {
+            u32::from(process.size) + u32::from(r[4] % 16) - 8 * u32::from(process.size > 8)
+        }
+        _ => n & !3,
+    };
+    let data = u32::from(word(r[5], r[6])) << if any { r[7] % 17 } else { 0 };
+    let mut line = [0; LONGEST_LINE];
+    let length = write_line(p.into(), request, addr, data, &mut line);
+    let mut text = line[..length].to_vec();
+    spoil_line(r[7], r[6], &mut text);
+    Call::Line { text }
+}
+
+/// Spoils a text in one place, as this byte says: mostly not.
+fn spoil_line(by: u8, place: u8, text: &mut Vec<u8>) {
+    let at = usize::from(place) % text.len();
+    match by {
+        240 => text.truncate(at),
+        241 => text.insert(at, b' '),
+        242 => text.insert(at, b'0'),
+        243 => text.insert(at, b'\n'),
+        244 => text.push(b'\n'),
+        245 => text.insert(text.len() - 1, b'\r'),
+        246 => text.make_ascii_uppercase(),
+        247 => {
+            text.remove(at);
+        }
+        248 => text[at] = place,
+        249 => text.insert(at, place),
+        _ => {}
+    }
 }
 
 /// A desk's call: bit 6 reads the message that the record would ask with, as an answer; otherwise its fields are written, with bit 7 wider

@@ -4,7 +4,9 @@
 //! The first byte says which processes are there, the second how large each of them is; in the desk's calls, and where bit 7 of a report asks
 //! for it, numbers are wider than their fields. Then come records of eight bytes; the low three bits of the first say what it is:
 //!
-//!     0 to 2  a request: HOST, CMD, PID, ARG1, ARG2, with the string that its CMD carries
+//!     0, 1    a request: HOST, CMD, PID, ARG1, ARG2, with the string that its CMD carries
+//!     2       a line of the text debugger: PID, letter, ADDR, DATA, and how its text is spoiled; or, with bit 4, of any bytes, from those
+//!             that follow the record
 //!     3       a request of any bytes: a length, and the message from the bytes that follow the record
 //!     4       a machine report
 //!     5       a store by the machine into a process's own bytes, or, with bit 4, a call of the desk's end
@@ -15,9 +17,11 @@
 //! fields as they come; otherwise they are brought into the range where calls are granted. Bit 3 brings processes and addresses close
 //! together, bit 4 makes the string a byte too long, bit 5 takes the arguments from the edges of the ranges, and the size of a CREATE from
 //! those of the free bytes too; of damage, it makes an entry, or moves one process alone. Bit 6 brings a request to a process from the host
-//! that debugs it, and makes a report one that the run state makes likely.
+//! that debugs it, a line to a process of host 253, and makes a report one that the run state makes likely.
 #![no_main]
 
+#[path = "../model/compare/answers.rs"]
+mod answers;
 #[allow(dead_code)] // what is wrong with a layout is not asked here
 #[path = "../model/compare/layout.rs"]
 mod layout;
@@ -34,7 +38,7 @@ mod stack;
 
 use layout::{lay_out, order, out_of_order};
 use model::*;
-use reading::{desk_from, report_from, request_from, word, Records};
+use reading::{desk_from, line_from, report_from, request_from, word, Records};
 use sides::{is_sound, Call, Pair, Side};
 use std::os::raw::c_int;
 
@@ -57,23 +61,24 @@ fn compare(call: &Call, pair: &mut Pair) {
 // ---------------------------------------------------------------- guiding
 
 /// The library is not instrumented. The fuzzer also counts as new what it answers to which call in which condition of the process.
-/// After the calls come CREATE and DESTROY once more, in the layout that they find.
-const CALLS: usize = 25;
-const ANSWERS: usize = 17;
-/// Six run states with three conditions of breakpoints each; and as many of a layout, 2 * 9.
-const CONDITIONS: usize = 6 * 3;
+/// After the calls come CREATE and DESTROY once more, in the layout that they find, and then the letters of lines, and lines with none.
+const CALLS: usize = 25 + LETTERS.len() + 1;
+const LINES: usize = 25;
+const ANSWERS: usize = 18;
+/// Six run states with three conditions of breakpoints and three of what is owed; those of a layout are fewer.
+const CONDITIONS: usize = 6 * 3 * 3;
 
 #[link_section = "__libfuzzer_extra_counters"]
 static mut SEEN: [u8; CALLS * ANSWERS * CONDITIONS] = [0; CALLS * ANSWERS * CONDITIONS];
 
-/// Run state, and whether there is no breakpoint, none lifted, or one lifted.
+/// Run state, whether there is no breakpoint, none lifted, or one lifted, and what is owed.
 fn condition(state: &[u8], p: u8) -> usize {
     let at = RECORD_BYTES * (usize::from(p) % PROCESSES);
     let Some(record) = state.get(at..at + RECORD_BYTES) else { return 0 };
     let entries = || record[ENTRIES_AT..].chunks_exact(ENTRY_BYTES).filter(|e| e[0] == 1);
     let lifted = entries().any(|e| e[1] == 1);
     let breaks = if lifted { 2 } else { usize::from(entries().next().is_some()) };
-    usize::from(record[2]).min(5) * 3 + breaks
+    (usize::from(record[2]).min(5) * 3 + breaks) * 3 + usize::from(record[OWED_AT]).min(2)
 }
 
 /// The condition of the process that a call names.
@@ -81,6 +86,7 @@ fn condition_for(call: &Call, state: &[u8]) -> usize {
     match call {
         Call::Request { message } => condition(state, message.get(5).copied().unwrap_or(0)),
         Call::Report { process, .. } => condition(state, *process as u8),
+        Call::Line { text } => condition(state, read_line(text).map_or(0, |line| line.pid as u8)),
         _ => 0,
     }
 }
@@ -122,16 +128,27 @@ fn note(call: &Call, found: usize, laid: Option<(usize, usize)>, answer: i64) {
         Call::Write { .. } => 20,
         Call::Read { .. } => 21,
         Call::FreshStart { .. } => 22,
+        Call::Line { text } => LINES + letter_of(text),
     };
     let answered = match answer {
+        // of a report, with a line
+        256.. if matches!(call, Call::Report { .. }) => 17,
         1.. => 0,
         0 => 1,
-        refused => 1 + (-refused).clamp(1, 15) as usize,
+        -99.. => 1 + (-answer).min(15) as usize,
+        // of a line: 101, 103, 114, 116, 122
+        _ => 8 + (-answer - 100) as usize / 3,
     };
     for (what, found) in [Some((what, found)), laid].into_iter().flatten() {
         let index = (what * ANSWERS + answered) * CONDITIONS + found;
         unsafe { SEEN[index] = 1 };
     }
+}
+
+/// The place of a line's letter among all, or the one after the last.
+fn letter_of(text: &[u8]) -> usize {
+    let place = |line: LineRead| LETTERS.iter().position(|&letter| letter == line.request);
+    read_line(text).and_then(place).unwrap_or(LETTERS.len())
 }
 
 // ---------------------------------------------------------------- damage
@@ -143,7 +160,7 @@ struct Spoiled {
     /// Those of the first byte are there too, and they lie in another order: that of these bytes, one for each process.
     order: Option<[u8; 8]>,
     keep: bool,
-    lengths: Option<[u8; 4]>,
+    lengths: Option<[u8; 5]>,
 }
 
 /// A length that does not fit, or one that does.
@@ -176,8 +193,10 @@ impl Spoiled {
         }
         let record = RECORD_BYTES * (usize::from(r[1]) % if r[0] & 8 != 0 { 2 } else { 8 });
         if r[0] & 32 == 0 {
-            self.damage.push((record + usize::from(r[2]) % RECORD_BYTES, r[3] % 8));
-            self.damage.push((record + usize::from(r[4]) % RECORD_BYTES, r[5] % 8));
+            // host 253 is the one whose answers are owed
+            let small = |byte: u8| if byte % 8 == 7 { TEXT_HOST } else { byte % 8 };
+            self.damage.push((record + usize::from(r[2]) % RECORD_BYTES, small(r[3])));
+            self.damage.push((record + usize::from(r[4]) % RECORD_BYTES, small(r[5])));
             return;
         }
         let entry = record + ENTRIES_AT + ENTRY_BYTES * (usize::from(r[2]) % BREAKPOINTS);
@@ -202,10 +221,11 @@ impl Spoiled {
             lay_out(&mut records, &order);
             side.state.change().copy_from_slice(&encode(&records));
         }
-        if let Some([state, memory, output, _]) = self.lengths {
+        if let Some([state, memory, output, line, _]) = self.lengths {
             side.state = side.state.resized(other(STATE_BYTES, state));
             side.memory = side.memory.resized(other(MEMORY, memory));
             side.output = side.output.resized(other(LONGEST, output));
+            side.line = side.line.resized(other(LONGEST_LINE, line));
         }
     }
 
@@ -289,7 +309,16 @@ fn run(data: &[u8]) {
     let mut spoiled = Spoiled::default();
     while let Some(r) = list.next() {
         match r[0] & 7 {
-            0..=2 => {
+            2 => {
+                let text =
+                    if r[0] & 16 != 0 { Some(list.take(usize::from(r[1]) % 64)) } else { None };
+                let call = match text {
+                    Some(text) => Call::Line { text: text.to_vec() },
+                    None => line_from(r, &records(&pair)),
+                };
+                make(&mut pair, call, std::mem::take(&mut spoiled));
+            }
+            0 | 1 => {
                 let call = request_from(r, &records(&pair));
                 make(&mut pair, call, std::mem::take(&mut spoiled));
             }
@@ -304,7 +333,7 @@ fn run(data: &[u8]) {
             5 if r[0] & 16 != 0 => desk(&pair, desk_from(r)),
             5 => store(&mut pair, r),
             6 => spoiled.damage_from(r),
-            _ => spoiled.lengths = Some([r[1], r[2], r[3], r[4]]),
+            _ => spoiled.lengths = Some([r[1], r[2], r[3], r[5], r[4]]),
         }
     }
 }

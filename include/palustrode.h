@@ -1,17 +1,18 @@
-/* The debugging stub for firmware in C, and the desk's end of its protocol. docs/EMBEDDING.md says what each byte means. */
+/* The debugging stub for firmware in C, with a door for the text debugger of the bench, and the desk's end of its protocol. docs/EMBEDDING.md says
+ * what each byte means. */
 #ifndef PALUSTRODE_H
 #define PALUSTRODE_H
 
 #include <stddef.h>
 #include <stdint.h>
 
-/* A state is eight processes of 87 bytes, the last 64 of which are eight breakpoint entries of 8 bytes; then, from byte 696 on, where each
+/* A state is eight processes of 88 bytes, the last 64 of which are eight breakpoint entries of 8 bytes; then, from byte 704 on, where each
  * process begins in memory, two bytes each, low byte first. All processes lie in one memory of 16,384 bytes, one after the other without gaps,
  * each with as many bytes as its size says; free bytes follow the last. */
-#define PALUSTRODE_STATE_BYTES 712
-#define PALUSTRODE_PROCESS_BYTES 87
+#define PALUSTRODE_STATE_BYTES 720
+#define PALUSTRODE_PROCESS_BYTES 88
 #define PALUSTRODE_ENTRY_BYTES 8
-#define PALUSTRODE_STARTS_AT 696
+#define PALUSTRODE_STARTS_AT 704
 #define PALUSTRODE_MEMORY_BYTES 16384
 
 /* The number of processes, and of their sizes; and the least and the greatest size in bytes, which is even. In ARG1 of a CREATE 0 stands for
@@ -27,8 +28,12 @@
 #define PALUSTRODE_MESSAGE_BYTES 266
 #define PALUSTRODE_HEADER_BYTES 10
 
-/* The stack that a call needs, in bytes, what it calls included: 1,016 were measured on x86-64 (docs/EMBEDDING.md says how). */
-#define PALUSTRODE_STACK_BYTES 1024
+/* The longest line of text, its newline included, which is the least room for one that is written; and the host as which the text debugger asks. */
+#define PALUSTRODE_LINE_BYTES 35
+#define PALUSTRODE_TEXT_HOST 253
+
+/* The stack that a call needs, in bytes, what it calls included: 1,232 were measured on x86-64, by a text line (docs/EMBEDDING.md says how). */
+#define PALUSTRODE_STACK_BYTES 1280
 
 /* The op codes of requests, in CMD. A CAN'T has PALUSTRODE_CANT added. */
 #define PALUSTRODE_NOP 0
@@ -54,11 +59,13 @@
 #define PALUSTRODE_KIND_TTRAP 3
 #define PALUSTRODE_NOTICE 64
 
-/* Of a process's bytes in the state, those that the firmware acts on: 1 if it is there, its run state, its size, and its nine words. */
+/* Of a process's bytes in the state, those that the firmware acts on: 1 if it is there, its run state, its size, which answer is owed to the text
+ * debugger (0 none, 1 to a `c`, 2 to an `s`), and its nine words. */
 #define PALUSTRODE_THERE_AT 0
 #define PALUSTRODE_RUN_STATE_AT 2
 #define PALUSTRODE_SIZE_AT 3
-#define PALUSTRODE_VECTOR_AT 5
+#define PALUSTRODE_OWED_AT 5
+#define PALUSTRODE_VECTOR_AT 6
 
 /* The run states. A process executes only while it is there and running, stepping or passing, and one instruction only while stepping or passing
  * (docs/EMBEDDING.md, "What the firmware does around the calls"). */
@@ -81,8 +88,9 @@
 extern "C" {
 #endif
 
-/* Each call returns the length granted, 0 or more, or minus the number of the refusal. Any bytes in the buffers are safe, and any lengths.
- * Numbers are 64 bits wide, so that none is cut on its way in: one that its field has no room for is refused, with the number named below.
+/* Each call returns the length granted, 0 or more (a report two lengths in one number), or minus the number of the refusal. Any bytes in the
+ * buffers are safe, and any lengths. Numbers are 64 bits wide, so that none is cut on its way in: one that its field has no room for is refused,
+ * with the number named below.
  *
  * What a caller must see to, since no call can test it:
  * - each pointer is valid for the number that follows it: of bytes, and for the sizes and the five fields of 16-bit words. Nothing is promised
@@ -100,7 +108,7 @@ extern "C" {
 /* A fresh start: process p is there where bit p of `there` is set, running, with no host and with sizes[p] bytes, and the others are not; their
  * sizes are passed over. In memory they lie one after the other in the order of their numbers, from byte 0 on. Every byte of the state is
  * written, whatever it held; memory is not touched, and stays as it is. 0; or, with nothing written, -1 where not eight sizes are lent or the
- * state has not its 712 bytes, else -2 where the size of a process that is to be there is odd, 0 or over 4,096 or all these sizes together are
+ * state has not its 720 bytes, else -2 where the size of a process that is to be there is odd, 0 or over 4,096 or all these sizes together are
  * more than 16,384, and else -7 where a bit above the eighth is set. */
 int64_t palustrode_fresh_start(uint64_t there, const uint16_t *sizes, size_t sizes_count, uint8_t *state, size_t state_length);
 
@@ -110,11 +118,24 @@ int64_t palustrode_fresh_start(uint64_t there, const uint16_t *sizes, size_t siz
 int64_t palustrode_request(uint8_t *state, size_t state_length, uint8_t *memory, size_t memory_length,
                            const uint8_t *message, size_t message_length, uint8_t *reply, size_t reply_length);
 
-/* A machine report of one of the four kinds; the nine words R0 to R5, SP, PC, PS as 18 bytes, low byte first. Another length of the words is
- * refused with -1; a kind over 3, a reason not 0 with another kind than TRAP, and a reason over 65,535 with -14; a process over 7 with -7. */
+/* A machine report of one of the four kinds; the nine words R0 to R5, SP, PC, PS as 18 bytes, low byte first. Two things may come of it, each in a
+ * buffer of its own: a notice of 28 bytes, and a line that answers the `c` or `s` with which the text debugger let the process go on. Granted, it
+ * returns the length of the notice (0 or 28) plus 256 times the length of the line (0 to 35): palustrode_notice_length and
+ * palustrode_report_line_length below tell them apart. Another length of the words, and a line buffer under 35 bytes, are refused with -1; a kind
+ * over 3, a reason not 0 with another kind than TRAP, and a reason over 65,535 with -14; a process over 7 with -7. A refused report writes
+ * nothing. */
 int64_t palustrode_report(uint8_t *state, size_t state_length, uint8_t *memory, size_t memory_length, uint64_t process,
                           uint64_t kind, uint64_t reason, const uint8_t *words, size_t words_length, uint8_t *notice,
-                          size_t notice_length);
+                          size_t notice_length, uint8_t *line, size_t line_length);
+
+/* A line of the text debugger, which asks as host 253: any bytes, and the buffer for the line that answers. A line is `PID REQUEST ADDR DATA` and a
+ * newline, as in "0x2 i 0x100 0x0\n"; it is answered by `PID REQUEST ERRFLG RESPONSE` and a newline. Granted, it returns the length of the line
+ * written, or 0 where nothing is written yet: a `c` or `s` is answered by a later report. Refused with -101 (no right), -103 (no such process), -114
+ * (outside or not aligned), -116 (an answer is owed) or -122 (not readable, wrong run state, or a register value over 65,535), it has written a line
+ * with 0xffffffff and the number less 100; palustrode_line_length below finds its length. Refused with -1 (also where the line buffer is under 35
+ * bytes), -2 or -6 (PID or request cannot be read), it has written nothing. */
+int64_t palustrode_line(uint8_t *state, size_t state_length, uint8_t *memory, size_t memory_length, const uint8_t *text,
+                        size_t text_length, uint8_t *line, size_t line_length);
 
 /* The desk writes a request with these fields and this string: its length, or -1 (under 266 bytes of room), -3 (a string over 256 bytes),
  * -4 (a host that is not 1 to 255), -5 (no op code) or -6 (an unused field is not 0, a PID over 255, an argument over 65,535, a CREATE with a
@@ -131,7 +152,7 @@ int64_t palustrode_read_answer(const uint8_t *message, size_t message_length, ui
 }
 #endif
 
-/* The 87 bytes of process p, 0 to 7, in a state; found by a table, since the core has no multiply instruction. */
+/* The 88 bytes of process p, 0 to 7, in a state; found by a table, since the core has no multiply instruction. */
 static inline const uint8_t *palustrode_process(const uint8_t *state, unsigned p) {
     static const uint16_t at[PALUSTRODE_PROCESSES] = {0 * PALUSTRODE_PROCESS_BYTES, 1 * PALUSTRODE_PROCESS_BYTES,
                                                       2 * PALUSTRODE_PROCESS_BYTES, 3 * PALUSTRODE_PROCESS_BYTES,
@@ -140,12 +161,28 @@ static inline const uint8_t *palustrode_process(const uint8_t *state, unsigned p
     return state + at[p];
 }
 
-/* Where process p, 0 to 7, begins in memory, read from the 712 bytes of a state: its bytes are memory[start] to memory[start + size - 1]. Of a
+/* Where process p, 0 to 7, begins in memory, read from the 720 bytes of a state: its bytes are memory[start] to memory[start + size - 1]. Of a
  * process that is not there it says nothing. Read it anew after each fresh start and each granted CREATE or DESTROY, of any process; nothing
  * else moves one. */
 static inline size_t palustrode_start(const uint8_t *state, unsigned p) {
     const uint8_t *start = state + PALUSTRODE_STARTS_AT + p + p;
     return start[0] + 256u * start[1];
+}
+
+/* The length of the notice to send after a report that returned r: 0 where there is none, or the report was refused. */
+static inline size_t palustrode_notice_length(int64_t r) { return r < 0 ? 0 : (size_t)(r & 255); }
+
+/* The length of the line to send after a report that returned r: 0 where there is none, or the report was refused. */
+static inline size_t palustrode_report_line_length(int64_t r) { return r < 0 ? 0 : (size_t)(r >> 8); }
+
+/* The length of the line to send after palustrode_line returned r: that of the line granted, or, where it was refused with 100 or more, up to and
+ * with the newline; 0 where nothing was written. */
+static inline size_t palustrode_line_length(int64_t r, const uint8_t *line) {
+    size_t length = 0;
+    if (r >= 0) return (size_t)r;
+    if (r > -100) return 0;
+    while (line[length] != '\n') length++;
+    return length + 1;
 }
 
 #endif

@@ -1,19 +1,20 @@
 //! Makes the calls that `perf/run` measures.
 //!
 //!     driver rows              the rows: name, tab, what it does
-//!     driver check ROW TURNS   the row on all sides: answers, state, memory and output are the same, and the answers those expected
+//!     driver check ROW TURNS   the row on all sides: answers, state, memory, output and line are the same, and the answers those expected
 //!     driver stack SIDE ROW    the deepest stack of the row's calls, in bytes
 //!     driver SIDE ROW TURNS    the row on one side, and nothing printed
 //!
-//! SIDE is `library`, `typed` (the model on a state kept as a struct), `bytes` (the model on the 712 bytes of a state) or `empty` (no call
+//! SIDE is `library`, `typed` (the model on a state kept as a struct), `bytes` (the model on the 720 bytes of a state) or `empty` (no call
 //! is made; what is left is the harness).
 #![no_main]
 
 use library::*;
 use model::{
-    State, BEGINS_AT, FIELDS, LONGEST, MEMORY, PROCESSES, RECORD_BYTES, STATE_BYTES, VECTOR,
+    State, BEGINS_AT, FIELDS, LONGEST, LONGEST_LINE, MEMORY, OWED_AT, PROCESSES, RECORD_BYTES,
+    STATE_BYTES, VECTOR,
 };
-use rows::{rows, to, Row, Start, Step, P};
+use rows::{rows, to, Row, Start, Step};
 use std::arch::asm;
 use std::ffi::{c_char, c_int, CStr};
 use std::hint::black_box;
@@ -29,20 +30,22 @@ struct Gate<S> {
     state: S,
     memory: Vec<u8>,
     output: Vec<u8>,
+    line: Vec<u8>,
     fields: [u16; FIELDS],
 }
 
 impl<S> Gate<S> {
     fn new(state: S) -> Self {
         let memory = (0..MEMORY).map(|i| (i % 251) as u8).collect();
-        Gate { state, memory, output: vec![0; LONGEST], fields: [0; FIELDS] }
+        let (output, line) = (vec![0; LONGEST], vec![0; LONGEST_LINE]);
+        Gate { state, memory, output, line, fields: [0; FIELDS] }
     }
 }
 
 trait Side {
     fn make(&mut self, step: &Step) -> i64;
-    /// State bytes, memory and output.
-    fn seen(&self) -> (Vec<u8>, &[u8], &[u8]);
+    /// State bytes, memory, output and line.
+    fn seen(&self) -> (Vec<u8>, &[u8], &[u8], &[u8]);
 
     fn start(&mut self, row: &Row) {
         self.make(&to(model::DEBUG, 0, 0));
@@ -67,13 +70,14 @@ struct Bytes(Gate<[u8; STATE_BYTES]>);
 struct Typed(Gate<State>);
 struct Empty(Gate<[u8; STATE_BYTES]>);
 
-/// The byte of the process's run state.
-const RUN_AT: usize = RECORD_BYTES * P as usize + 2;
-
 /// Sets a state's bytes back by a few stores, where a step is no call.
 fn set_back(state: &mut [u8; STATE_BYTES], step: &Step) {
     match step {
-        Step::Run(run) => state[RUN_AT] = *run as u8,
+        Step::Put { pid, run, owed } => {
+            let record = RECORD_BYTES * usize::from(*pid);
+            state[record + 2] = *run as u8;
+            state[record + OWED_AT] = *owed as u8;
+        }
         Step::Back { pid, there, host, begins } => {
             let record = RECORD_BYTES * usize::from(*pid);
             state[record] = u8::from(*there);
@@ -88,16 +92,34 @@ fn set_back(state: &mut [u8; STATE_BYTES], step: &Step) {
 
 impl Side for Library {
     fn make(&mut self, step: &Step) -> i64 {
-        let Gate { state, memory, output, fields } = &mut self.0;
+        let Gate { state, memory, output, line, fields } = &mut self.0;
         let (s, m, o) = (state.as_mut_ptr(), memory.as_mut_ptr(), output.as_mut_ptr());
+        let l = line.as_mut_ptr();
         match step {
             Step::Request(a) => unsafe {
                 palustrode_request(s, STATE_BYTES, m, MEMORY, a.as_ptr(), a.len(), o, LONGEST)
             },
-            Step::Report { kind, bytes: w, .. } => unsafe {
+            Step::Report { pid, kind, bytes: w, .. } => unsafe {
                 let w = w.as_ptr();
-                let (p, k) = (P.into(), (*kind).into());
-                palustrode_report(s, STATE_BYTES, m, MEMORY, p, k, 0, w, VECTOR, o, LONGEST)
+                let (p, k) = ((*pid).into(), (*kind).into());
+                palustrode_report(
+                    s,
+                    STATE_BYTES,
+                    m,
+                    MEMORY,
+                    p,
+                    k,
+                    0,
+                    w,
+                    VECTOR,
+                    o,
+                    LONGEST,
+                    l,
+                    LONGEST_LINE,
+                )
+            },
+            Step::Line(a) => unsafe {
+                palustrode_line(s, STATE_BYTES, m, MEMORY, a.as_ptr(), a.len(), l, LONGEST_LINE)
             },
             Step::Write([host, cmd, pid, arg1, arg2], string) => unsafe {
                 let (string, length) = (string.as_ptr(), string.len());
@@ -108,15 +130,15 @@ impl Side for Library {
             Step::Read(a) => unsafe {
                 palustrode_read_answer(a.as_ptr(), a.len(), fields.as_mut_ptr(), FIELDS)
             },
-            Step::Run(_) | Step::Back { .. } => {
+            Step::Put { .. } | Step::Back { .. } => {
                 set_back(state, step);
                 0
             }
         }
     }
 
-    fn seen(&self) -> (Vec<u8>, &[u8], &[u8]) {
-        (self.0.state.to_vec(), &self.0.memory, &self.0.output)
+    fn seen(&self) -> (Vec<u8>, &[u8], &[u8], &[u8]) {
+        (self.0.state.to_vec(), &self.0.memory, &self.0.output, &self.0.line)
     }
 }
 
@@ -133,36 +155,41 @@ fn by_desk(step: &Step, output: &mut [u8], fields: &mut [u16]) -> i64 {
 
 impl Side for Bytes {
     fn make(&mut self, step: &Step) -> i64 {
-        let Gate { state, memory, output, fields } = &mut self.0;
+        let Gate { state, memory, output, line, fields } = &mut self.0;
         match step {
             Step::Request(message) => model::request_bytes(state, memory, message, output),
-            Step::Report { kind, bytes, .. } => {
-                model::report_bytes(state, memory, P.into(), (*kind).into(), 0, bytes, output)
+            Step::Report { pid, kind, bytes, .. } => {
+                let (pid, kind) = ((*pid).into(), (*kind).into());
+                model::report_bytes(state, memory, pid, kind, 0, bytes, output, line)
             }
+            Step::Line(text) => model::line_bytes(state, memory, text, line),
             Step::Write(..) | Step::Read(..) => by_desk(step, output, fields),
-            Step::Run(_) | Step::Back { .. } => {
+            Step::Put { .. } | Step::Back { .. } => {
                 set_back(state, step);
                 0
             }
         }
     }
 
-    fn seen(&self) -> (Vec<u8>, &[u8], &[u8]) {
-        (self.0.state.to_vec(), &self.0.memory, &self.0.output)
+    fn seen(&self) -> (Vec<u8>, &[u8], &[u8], &[u8]) {
+        (self.0.state.to_vec(), &self.0.memory, &self.0.output, &self.0.line)
     }
 }
 
 impl Side for Typed {
     fn make(&mut self, step: &Step) -> i64 {
-        let Gate { state, memory, output, fields } = &mut self.0;
+        let Gate { state, memory, output, line, fields } = &mut self.0;
         match step {
             Step::Request(message) => model::request(state, memory, message, output),
-            Step::Report { kind, words, .. } => {
-                model::report(state, memory, P.into(), (*kind).into(), 0, words, output)
+            Step::Report { pid, kind, words, .. } => {
+                let (pid, kind) = ((*pid).into(), (*kind).into());
+                model::report(state, memory, pid, kind, 0, words, output, line)
             }
+            Step::Line(text) => model::line(state, memory, text, line),
             Step::Write(..) | Step::Read(..) => by_desk(step, output, fields),
-            Step::Run(run) => {
-                state.processes[usize::from(P)].run = *run;
+            Step::Put { pid, run, owed } => {
+                let process = &mut state.processes[usize::from(*pid)];
+                (process.run, process.owed) = (*run, *owed);
                 0
             }
             Step::Back { pid, there, host, begins } => {
@@ -176,27 +203,27 @@ impl Side for Typed {
         }
     }
 
-    fn seen(&self) -> (Vec<u8>, &[u8], &[u8]) {
-        (model::encode(&self.0.state).to_vec(), &self.0.memory, &self.0.output)
+    fn seen(&self) -> (Vec<u8>, &[u8], &[u8], &[u8]) {
+        (model::encode(&self.0.state).to_vec(), &self.0.memory, &self.0.output, &self.0.line)
     }
 }
 
 impl Side for Empty {
     fn make(&mut self, step: &Step) -> i64 {
         match step {
-            Step::Request(message) => black_box(message.len()) as i64,
+            Step::Request(text) | Step::Line(text) => black_box(text.len()) as i64,
             Step::Report { kind, .. } => i64::from(black_box(*kind)),
             Step::Write(_, string) => black_box(string.len()) as i64,
             Step::Read(message) => black_box(message.len()) as i64,
-            Step::Run(_) | Step::Back { .. } => {
+            Step::Put { .. } | Step::Back { .. } => {
                 set_back(&mut self.0.state, step);
                 0
             }
         }
     }
 
-    fn seen(&self) -> (Vec<u8>, &[u8], &[u8]) {
-        (self.0.state.to_vec(), &self.0.memory, &self.0.output)
+    fn seen(&self) -> (Vec<u8>, &[u8], &[u8], &[u8]) {
+        (self.0.state.to_vec(), &self.0.memory, &self.0.output, &self.0.line)
     }
 }
 

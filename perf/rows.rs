@@ -1,6 +1,6 @@
 //! The rows of the table that `perf/run` prints: what each starts from, and the calls of one turn.
 
-use model::{Run, FIELDS, PROCESSES, VECTOR, WORDS};
+use model::{Owed, Run, FIELDS, PROCESSES, TEXT_HOST, VECTOR, WORDS};
 
 /// What a row starts from: the processes that are there, and the sizes of all.
 #[derive(Clone, Copy)]
@@ -15,6 +15,8 @@ const SEVEN: Start = Start { there: 0x7f, sizes: [1024, 1024, 4096, 1024, 1024, 
 const FOUR: Start = Start { there: 0x0f, sizes: [4096, 4096, 4096, 4096, 0, 0, 0, 0] };
 pub const P: u8 = 2;
 const OWNER: u8 = 5;
+/// The process that the text debugger asks for, of 1,024 bytes.
+const BENCH: u8 = 3;
 const STRANGER: u8 = 6;
 /// Where EXAMINE, DEPOSIT and breakpoints are.
 const AT: u16 = 256;
@@ -22,16 +24,23 @@ const AT: u16 = 256;
 pub enum Step {
     Request(Vec<u8>),
     Report {
+        pid: u8,
         kind: u8,
         words: [u16; WORDS],
         bytes: [u8; VECTOR],
     },
+    /// A line of the text debugger.
+    Line(Vec<u8>),
     /// The desk writes a request with these fields and this string.
     Write([u64; FIELDS], Vec<u8>),
     /// The desk reads an answer.
     Read(Vec<u8>),
-    /// No call: the process is set back to this run state by one store into the state.
-    Run(Run),
+    /// No call: a process is set back to this run state and to what it owes, by two stores into the state.
+    Put {
+        pid: u8,
+        run: Run,
+        owed: Owed,
+    },
     /// No call: a process is set back to being there, debugged by this host, or not there; and all of them to where they lay at the
     /// start.
     Back {
@@ -66,8 +75,20 @@ pub fn to(cmd: u8, arg1: u16, arg2: u16) -> Step {
 }
 
 fn tell(kind: u8, pc: u16) -> Step {
+    tell_of(P, kind, pc)
+}
+
+fn tell_of(pid: u8, kind: u8, pc: u16) -> Step {
     let words = [1, 2, 3, 4, 5, 6, 7, pc, 9];
-    Step::Report { kind, words, bytes: model::vector_bytes(&words) }
+    Step::Report { pid, kind, words, bytes: model::vector_bytes(&words) }
+}
+
+fn put(run: Run) -> Step {
+    Step::Put { pid: P, run, owed: Owed::Nothing }
+}
+
+fn text(text: &str) -> Step {
+    Step::Line(format!("{text}\n").into_bytes())
 }
 
 fn row(name: &str, what: &str, before: Vec<Step>, turn: Vec<Step>, answers: i64) -> Row {
@@ -131,10 +152,10 @@ pub fn rows() -> Vec<Row> {
     let pair = vec![tell(BPT, AT), tell(TTRAP, AT)];
     rows.push(row("silent-pair", "BPT and TTRAP report, silent, a pair", counted, pair, 0));
     let stopped = vec![to(BREAK, AT, 0), tell(BPT, AT)];
-    let back = Step::Run(Run::AtBreakpoint);
+    let back = put(Run::AtBreakpoint);
     let pair = vec![to(PROCEED_BPT, 0, 0), tell(TTRAP, AT), back];
     rows.push(row("proceed", "PROCEED BPT and silent TTRAP, a pair", stopped, pair, 10));
-    let back = vec![tell(TRAP, AT), Step::Run(Run::Running)];
+    let back = vec![tell(TRAP, AT), put(Run::Running)];
     rows.push(row("notice", "TRAP report with notice", vec![], back, 28));
     let turn = vec![ask(STRANGER, EXAMINE, P, AT, 16, 0)];
     rows.push(row("stranger", "EXAMINE of 16 by a stranger, refused", vec![], turn, -8));
@@ -158,5 +179,28 @@ pub fn rows() -> Vec<Row> {
     ];
     let ended = vec![to(END_DEBUG, 0, 0)];
     rows.push(row("session", "a debugging session of 11 calls", ended, session, 8 * 10 + 3 * 28));
+    rows.extend(lines());
     rows
+}
+
+/// Lines of the text debugger, and the report that answers one of them. A number in an answer has eight digits, an answered line 16 bytes.
+fn lines() -> [Row; 6] {
+    use model::{BREAK, DEBUG, STOP, TRAP};
+    let debugged =
+        || vec![ask(TEXT_HOST, DEBUG, BENCH, 0, 0, 0), ask(TEXT_HOST, STOP, BENCH, 0, 0, 0)];
+    let planted = (0..8).map(|k| ask(TEXT_HOST, BREAK, BENCH, AT + 32 * k, 0, 0));
+    let planted = debugged().into_iter().chain(planted).collect();
+    let stopped = Step::Put { pid: BENCH, run: Run::Stopped, owed: Owed::Nothing };
+    let owing = Step::Put { pid: BENCH, run: Run::Running, owed: Owed::Continue };
+    let store = vec![text("0x3 I 0x100 0x12345678")];
+    let look = || vec![text("0x3 i 0x100 0x0")];
+    let answered = vec![owing, tell_of(BENCH, TRAP, AT)];
+    [
+        row("line-i", "a line i", debugged(), look(), 21),
+        row("line-i-8", "a line i, 8 planted", planted, look(), 21),
+        row("line-store", "a line I", debugged(), store, 21),
+        row("line-c", "a line c", debugged(), vec![text("0x3 c 0x1 0x0"), stopped], 0),
+        row("line-stranger", "a line i, no right", vec![], vec![text("0x2 i 0x100 0x0")], -101),
+        row("answered", "TRAP report with notice and line", debugged(), answered, 28 + 256 * 16),
+    ]
 }

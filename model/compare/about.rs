@@ -5,13 +5,15 @@ use model::*;
 
 /// What a call is about: the process, PC as the call finds or brings it, and the
 /// range from ARG1 of ARG2 bytes. `cmd` is that of a request that passes tests
-/// 3, 4 and 5.
+/// 3, 4 and 5. Of a line in which PID and request can be read, `line` is what can be
+/// read, and the range is that of the word at ADDR.
 pub struct About<'a> {
     pub state: &'a State,
     pub memory: &'a [u8],
     pub length: usize,
     pub cmd: Option<u8>,
     pub kind: Option<u8>,
+    pub line: Option<LineRead>,
     pub pid: u8,
     pub p: usize,
     pub process: &'a Process,
@@ -44,6 +46,13 @@ impl<'a> About<'a> {
                 let about = About::process(state, memory, byte(5));
                 About { length: m.len(), cmd, first: word(6), count: word(8), ..about }
             }
+            Call::Line { text } => {
+                let line = read_line(text);
+                let pid = line.map_or(0, |line| line.pid.min(255) as u8);
+                let first =
+                    line.and_then(|line| line.arguments).map_or(0, |(addr, _)| addr as usize);
+                About { line, first, count: 4, ..About::process(state, memory, pid) }
+            }
             _ => About::process(state, memory, 0),
         }
     }
@@ -51,8 +60,9 @@ impl<'a> About<'a> {
     pub fn process(state: &'a State, memory: &'a [u8], pid: u8) -> About<'a> {
         let p = usize::from(pid) % PROCESSES;
         let process = &state.processes[p];
-        let (cmd, kind, pc) = (None, None, process.vector[PC]);
-        About { state, memory, length: 0, cmd, kind, pid, p, process, pc, first: 0, count: 0 }
+        let (cmd, kind, line, pc) = (None, None, None, process.vector[PC]);
+        let (length, first, count) = (0, 0, 0);
+        About { state, memory, length, cmd, kind, line, pid, p, process, pc, first, count }
     }
 
     pub fn is(&self, cmd: u8) -> bool {

@@ -1,5 +1,6 @@
 //! Random calls, most of them such as can be granted in the state at hand.
 
+use crate::lines::make_line;
 use crate::random::Random;
 use crate::reports::{any_telling, make_report};
 use crate::sides::Call;
@@ -7,7 +8,7 @@ use crate::sizes::size_to_create;
 use model::*;
 
 /// Hosts that meet at the same processes.
-pub const HOSTS: [u8; 3] = [5, 6, 7];
+pub const HOSTS: [u8; 4] = [5, 6, 7, TEXT_HOST];
 
 /// Numbers at the edges of the paper's ranges.
 pub const EDGES: [u16; 18] =
@@ -16,8 +17,8 @@ pub const EDGES: [u16; 18] =
 /// Ranges of a process's memory, how far before its end the first byte is (in the
 /// last, one after it) and the count, at the edges of what is granted. A DEPOSIT of
 /// 257 bytes is a message of 267.
-const LAST_RANGES: [(u16, u16); 8] =
-    [(4, 4), (3, 4), (2, 2), (0, 0), (0, 1), (256, 256), (257, 257), (u16::MAX, 0)];
+const LAST_RANGES: [(u16, u16); 10] =
+    [(4, 4), (4, 4), (3, 4), (3, 4), (2, 2), (0, 0), (0, 1), (256, 256), (257, 257), (u16::MAX, 0)];
 
 /// The same at the edges that are the same for every size.
 const RANGES: [(u16, u16); 3] = [(65535, 2), (0, 256), (0, 257)];
@@ -26,29 +27,49 @@ const RANGES: [(u16, u16); 3] = [(65535, 2), (0, 256), (0, 257)];
 const VECTOR_RANGES: [(u16, u16); 6] = [(0, 18), (16, 2), (17, 2), (18, 0), (18, 1), (65535, 2)];
 
 /// What a list tends to: the weights of the fourteen op codes, how many of sixteen
-/// calls are reports, and whether these are such as a machine makes in the run state
-/// at hand.
+/// calls are reports and how many lines, whether the reports are such as a machine makes
+/// in the run state at hand, and whether host 253 asks rather than another.
 pub struct Mood {
     weights: [usize; 14],
     reports: usize,
+    lines: usize,
     machine: bool,
+    bench: bool,
 }
 
-pub const MOODS: [Mood; 7] = [
+/// A list without lines.
+const fn mood(weights: [usize; 14], reports: usize, machine: bool) -> Mood {
+    Mood { weights, reports, lines: 0, machine, bench: false }
+}
+
+/// A list of host 253, with so many lines.
+const fn bench(weights: [usize; 14], reports: usize, lines: usize) -> Mood {
+    Mood { weights, reports, lines, machine: true, bench: true }
+}
+
+pub const MOODS: [Mood; 11] = [
     // a little of everything
-    Mood { weights: [1, 6, 2, 2, 4, 3, 4, 2, 5, 2, 3, 3, 2, 2], reports: 4, machine: false },
+    mood([1, 6, 2, 2, 4, 3, 4, 2, 5, 2, 3, 3, 2, 2], 4, false),
     // all eight breakpoints of a process
-    Mood { weights: [1, 6, 0, 1, 4, 2, 4, 1, 24, 2, 1, 7, 1, 1], reports: 4, machine: true },
+    mood([1, 6, 0, 1, 3, 2, 3, 1, 26, 2, 1, 9, 1, 1], 5, true),
     // all eight processes
-    Mood { weights: [1, 2, 1, 1, 1, 1, 1, 1, 1, 1, 1, 1, 5, 2], reports: 2, machine: false },
+    mood([1, 2, 1, 1, 1, 1, 1, 1, 1, 1, 1, 1, 5, 2], 2, false),
     // running, stepping, proceeding
-    Mood { weights: [1, 6, 1, 4, 3, 9, 3, 2, 8, 2, 9, 9, 2, 2], reports: 8, machine: false },
+    mood([1, 6, 1, 4, 3, 9, 3, 2, 8, 2, 9, 9, 2, 2], 8, false),
     // processes come and go, with breakpoints
-    Mood { weights: [1, 5, 1, 1, 2, 3, 2, 1, 9, 1, 2, 3, 14, 9], reports: 3, machine: false },
+    mood([1, 5, 1, 1, 2, 3, 2, 1, 9, 1, 2, 3, 14, 9], 3, false),
     // breakpoints in loops
-    Mood { weights: [1, 6, 1, 3, 3, 6, 3, 2, 8, 3, 5, 14, 2, 1], reports: 9, machine: true },
+    mood([1, 6, 1, 3, 3, 6, 3, 2, 8, 3, 5, 14, 2, 1], 9, true),
     // and such as are taken away while a process passes them
-    Mood { weights: [1, 6, 6, 8, 2, 6, 2, 2, 12, 14, 4, 14, 1, 1], reports: 8, machine: true },
+    mood([1, 6, 8, 9, 2, 6, 2, 2, 12, 18, 4, 14, 1, 1], 8, true),
+    // a little of everything, and lines
+    Mood { lines: 3, ..mood([1, 6, 2, 2, 4, 3, 4, 2, 5, 2, 3, 3, 2, 2], 4, false) },
+    // the bench's text debugger: continuing and stepping
+    bench([1, 8, 1, 4, 1, 1, 1, 1, 8, 1, 1, 1, 1, 1], 6, 7),
+    // looking and storing, breakpoints planted
+    bench([1, 6, 1, 3, 2, 1, 2, 2, 9, 2, 1, 1, 2, 1], 3, 10),
+    // and answers that are owed are cancelled, and breakpoints taken away
+    bench([1, 8, 8, 9, 1, 4, 1, 2, 14, 18, 2, 12, 2, 4], 6, 4),
 ];
 
 pub fn make_call(random: &mut Random, state: &State, mood: &Mood) -> Call {
@@ -56,6 +77,9 @@ pub fn make_call(random: &mut Random, state: &State, mood: &Mood) -> Call {
     let reports = if mood.machine && !any_telling(state) { 2 } else { mood.reports };
     if random.below(16) < reports {
         return make_report(random, state, mood.machine);
+    }
+    if random.below(16 - reports) < mood.lines {
+        return make_line(random, state);
     }
     let mut message = make_request(random, state, mood);
     let mut spoil = random.one_in(8);
@@ -90,7 +114,7 @@ fn process_for(random: &mut Random, state: &State, cmd: u8) -> u8 {
     if any_is(&passing_bare) && random.one_in(2) {
         return some_process(random, state, passing_bare);
     }
-    if any_is(&has_lifted) && random.one_in(2) {
+    if any_is(&has_lifted) && (random.one_in(2) || cmd == UNBREAK) {
         return some_process(random, state, has_lifted);
     }
     if cmd == PROCEED_BPT && any_is(&lifts) && !random.one_in(4) {
@@ -136,7 +160,10 @@ pub fn make_request(random: &mut Random, state: &State, mood: &Mood) -> Vec<u8> 
         _ => process_for(random, state, cmd),
     };
     let process = &state.processes[usize::from(pid) % PROCESSES];
-    let host = some_host(random, process.host);
+    let host = match mood.bench && process.host == NOBODY && !random.one_in(4) {
+        true => TEXT_HOST,
+        false => some_host(random, process.host),
+    };
     let (arg1, arg2, string) = match cmd {
         CREATE_PROCESS => (size_to_create(random, state), 0, Vec::new()),
         _ => make_arguments(random, process, cmd),
@@ -186,6 +213,10 @@ fn make_arguments(random: &mut Random, process: &Process, cmd: u8) -> (u16, u16,
                 _ => random.pick(&[0, 0, 1, 1, 2, 3, 256, 65535]),
             };
             (address, count, Vec::new())
+        }
+        UNBREAK if has_lifted(process) && !random.one_in(4) => {
+            let lifted = process.breakpoints.iter().find(|b| b.used && b.lifted);
+            (lifted.map_or(0, |b| b.address), 0, Vec::new())
         }
         UNBREAK if !random.one_in(3) => (used_address(random, process), 0, Vec::new()),
         UNBREAK if random.one_in(3) => (some_edge(random, process), 0, Vec::new()),

@@ -3,10 +3,11 @@
 use crate::made::Made;
 use model::*;
 
-/// What a call asks of a process, or tells about it.
+/// What a call asks of a process, by a request or by a line, or tells about it.
 #[derive(Clone, Copy, PartialEq)]
 pub enum Cause {
     Asked(u8),
+    Line(u8),
     Told(u8),
 }
 
@@ -19,6 +20,10 @@ fn cause_of(made: &Made) -> Option<(Cause, usize)> {
             NOP | CREATE_PROCESS | DESTROY_PROCESS => return None,
             cmd => (Cause::Asked(cmd), made.byte(5)?.into()),
         },
+        Made::Line { text, .. } => {
+            let line = read_line(text)?;
+            (Cause::Line(line.request), line.pid.into())
+        }
         _ => return None,
     };
     (p < 8).then_some((cause, p as usize))
@@ -156,7 +161,7 @@ pub fn unnoticed(mut made: Made, test: impl Fn(Cause, &Process) -> bool) -> i64 
     match made {
         Made::Report { notice, .. } if test(cause, &old.processes[p]) => {
             notice.copy_from_slice(&before);
-            0
+            answer - notice_length(answer) as i64
         }
         _ => answer,
     }

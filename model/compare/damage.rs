@@ -11,7 +11,7 @@ use model::*;
 type Damage = fn(&mut Random, &mut [u8]);
 
 /// Every kind, and how often it is done.
-const DAMAGES: [(usize, Damage); 24] = [
+const DAMAGES: [(usize, Damage); 28] = [
     (4, some_bytes),
     (2, another_begin),
     (1, same_begin),
@@ -36,13 +36,18 @@ const DAMAGES: [(usize, Damage); 24] = [
     (3, old_bytes),
     (1, another_host),
     (1, one_more_breakpoint),
+    (1, wrong_owed),
+    (2, owed_to_another),
+    (2, owed),
+    (1, another_host_of_one_that_owes),
 ];
 
 /// The first so many of these touch the layout, and it is left as they leave it.
 const LAYOUT_DAMAGES: usize = 8;
 
-/// Wrong lengths of a state's bytes. Without the begins there would be 696.
-pub const STATE_LENGTHS: [usize; 8] = [0, 1, 87, 680, 696, 711, 713, 1424];
+/// Wrong lengths of a state's bytes. Without what is owed there would be 712, without the
+/// begins 704.
+pub const STATE_LENGTHS: [usize; 9] = [0, 1, 88, 696, 704, 712, 719, 721, 1440];
 
 /// Changes a state's bytes by one kind of damage, or their number. Where that opens a gap,
 /// since a size is another or a process is there or not, it is mostly closed again.
@@ -259,6 +264,7 @@ fn no_host(random: &mut Random, state: &mut [u8]) {
     make_there(random, state, record);
     let there = u8::from(!random.one_in(4));
     state[record..record + 3].copy_from_slice(&[there, NOBODY, run as u8]);
+    state[record + OWED_AT] = 0;
     random.fill(&mut state[record + VECTOR_AT..record + ENTRIES_AT]);
     state[record + ENTRIES_AT..record + RECORD_BYTES].fill(0);
 }
@@ -283,6 +289,45 @@ fn one_more_breakpoint(random: &mut Random, state: &mut [u8]) {
     let record = some_debugged(random, state);
     let address = 2 * random.below(usize::from(size_of(state, record)) / 2) as u16;
     put_entry(state, some_entry(random, record), 0, address);
+}
+
+/// What is owed is none that there is.
+fn wrong_owed(random: &mut Random, state: &mut [u8]) {
+    let record = some_debugged(random, state);
+    state[record + 1] = random.pick(&[state[record + 1], TEXT_HOST]);
+    let any = random.free_byte().max(3);
+    state[record + OWED_AT] = random.pick(&[3, 3, 4, 99, 115, 128, 255, any, any]);
+}
+
+/// An answer is owed to another host than 253, or to nobody, or by an absent process.
+fn owed_to_another(random: &mut Random, state: &mut [u8]) {
+    let record = some_debugged(random, state);
+    let any = random.free_byte();
+    state[record + 1] = random.pick(&[state[record + 1], NOBODY, 252, 254, 255, 5, any]);
+    if state[record + 1] == NOBODY {
+        state[record] = random.below(2) as u8;
+        state[record + ENTRIES_AT..record + RECORD_BYTES].fill(0);
+    }
+    state[record + OWED_AT] = random.pick(&[1, 2]);
+}
+
+/// Sound: host 253 debugs the process, and an answer is owed or not, in any run state.
+fn owed(random: &mut Random, state: &mut [u8]) {
+    let record = some_debugged(random, state);
+    state[record + 1] = TEXT_HOST;
+    state[record + OWED_AT] = random.pick(&[0, 1, 1, 2, 2]);
+    if !has_lifted(state, record) && random.one_in(2) {
+        state[record + 2] = some_run(random) as u8;
+    }
+}
+
+/// Another host debugs a process that owes an answer, if there is one.
+fn another_host_of_one_that_owes(random: &mut Random, state: &mut [u8]) {
+    let records = (0..PROCESSES).map(|p| RECORD_BYTES * p);
+    let owing: Vec<usize> = records.filter(|&record| state[record + OWED_AT] != 0).collect();
+    if !owing.is_empty() {
+        state[random.pick(&owing) + 1] = new_host(random);
+    }
 }
 
 /// Where some process's record begins in a state's bytes.
@@ -349,7 +394,7 @@ fn size_of(state: &[u8], record: usize) -> u16 {
 }
 
 fn put_size(state: &mut [u8], record: usize, size: u16) {
-    state[record + SIZE_AT..record + VECTOR_AT].copy_from_slice(&size.to_le_bytes());
+    state[record + SIZE_AT..record + OWED_AT].copy_from_slice(&size.to_le_bytes());
 }
 
 fn put_entry(state: &mut [u8], entry: usize, lifted: u8, address: u16) {

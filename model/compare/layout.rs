@@ -82,7 +82,7 @@ pub fn last_word(process: &Process) -> Option<u16> {
 
 /// Whether a call on a state came past test 2 though the layout is not sound.
 pub fn accepted_fault(call: &Call, answer: i64, before: &Side) -> bool {
-    let on_state = matches!(call, Call::Request { .. } | Call::Report { .. });
+    let on_state = matches!(call, Call::Request { .. } | Call::Report { .. } | Call::Line { .. });
     let tested = on_state && !matches!(-answer, WRONG_BUFFER | NOT_SOUND);
     tested && decode(before.state.bytes()).is_some_and(|state| fault(&state).is_some())
 }
@@ -96,6 +96,7 @@ pub fn changed(call: &Call, after: &Side) -> Option<usize> {
             _ => Some(message[5].into()),
         },
         Call::Report { process, .. } => Some(*process as usize),
+        Call::Line { text } => Some(read_line(text)?.pid as usize),
         _ => None,
     }
 }
@@ -105,7 +106,9 @@ pub fn broken_layout(call: &Call, before: &Side, after: &Side) -> Option<&'stati
     let new = decode(after.state.bytes())?;
     match call {
         Call::FreshStart { .. } => broken_start(&new),
-        Call::Request { .. } | Call::Report { .. } => broken_call(call, before, after, &new),
+        Call::Request { .. } | Call::Report { .. } | Call::Line { .. } => {
+            broken_call(call, before, after, &new)
+        }
         _ => None,
     }
 }

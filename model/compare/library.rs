@@ -31,6 +31,18 @@ extern "C" {
         words_len: usize,
         notice: *mut u8,
         notice_len: usize,
+        line: *mut u8,
+        line_len: usize,
+    ) -> i64;
+    pub fn palustrode_line(
+        state: *mut u8,
+        state_len: usize,
+        memory: *mut u8,
+        memory_len: usize,
+        text: *const u8,
+        text_len: usize,
+        line: *mut u8,
+        line_len: usize,
     ) -> i64;
     pub fn palustrode_write_request(
         host: u64,

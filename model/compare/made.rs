@@ -21,6 +21,13 @@ pub enum Made<'a> {
         numbers: [u64; 3],
         words: &'a [u8],
         notice: &'a mut [u8],
+        line: &'a mut [u8],
+    },
+    Line {
+        state: &'a mut [u8],
+        memory: &'a mut [u8],
+        text: &'a [u8],
+        line: &'a mut [u8],
     },
     Write {
         fields: [u64; FIELDS],
@@ -41,9 +48,10 @@ impl Made<'_> {
             Made::Request { state, memory, message, reply } => {
                 request_bytes(state, memory, message, reply)
             }
-            Made::Report { state, memory, numbers: [p, k, r], words, notice } => {
-                report_bytes(state, memory, *p, *k, *r, words, notice)
+            Made::Report { state, memory, numbers: [p, k, r], words, notice, line } => {
+                report_bytes(state, memory, *p, *k, *r, words, notice, line)
             }
+            Made::Line { state, memory, text, line } => line_bytes(state, memory, text, line),
             Made::Write { fields: [host, cmd, pid, arg1, arg2], string, request } => {
                 write_request(*host, *cmd, *pid, *arg1, *arg2, string, request)
             }
@@ -59,10 +67,10 @@ impl Made<'_> {
                 change(&mut message, &mut [0; 3]);
                 request_bytes(state, memory, &message, reply)
             }
-            Made::Report { state, memory, mut numbers, words, notice } => {
+            Made::Report { state, memory, mut numbers, words, notice, line } => {
                 change(&mut Vec::new(), &mut numbers);
                 let [p, k, r] = numbers;
-                report_bytes(state, memory, p, k, r, words, notice)
+                report_bytes(state, memory, p, k, r, words, notice, line)
             }
             mut made => made.right(),
         }
@@ -73,12 +81,13 @@ impl Made<'_> {
         match self {
             Made::Start { state, .. }
             | Made::Request { state, .. }
-            | Made::Report { state, .. } => Some(state),
+            | Made::Report { state, .. }
+            | Made::Line { state, .. } => Some(state),
             _ => None,
         }
     }
 
-    /// The records of a request's or a report's state, if its bytes are a state's.
+    /// The records of the state of a call on one, if its bytes are a state's.
     pub fn records(&mut self) -> Option<State> {
         if matches!(self, Made::Start { .. }) {
             return None;
@@ -92,24 +101,29 @@ impl Made<'_> {
         }
     }
 
-    /// The memory of a request or a report.
+    /// The memory of a call on a state.
     pub fn memory(&mut self) -> Option<&mut [u8]> {
         match self {
-            Made::Request { memory, .. } | Made::Report { memory, .. } => Some(memory),
+            Made::Request { memory, .. }
+            | Made::Report { memory, .. }
+            | Made::Line { memory, .. } => Some(memory),
             _ => None,
         }
     }
 
-    /// The model's answer to a request or a report on other records; nothing is written.
+    /// The model's answer to a call on other records; nothing is written.
     pub fn on_other(mut self, records: &State) -> i64 {
         let mut state = encode(records);
         match self {
             Made::Request { memory, message, reply, .. } => {
                 request_bytes(&mut state, &mut memory.to_vec(), message, &mut reply.to_vec())
             }
-            Made::Report { memory, numbers: [p, k, r], words, notice, .. } => {
-                let (mut memory, mut notice) = (memory.to_vec(), notice.to_vec());
-                report_bytes(&mut state, &mut memory, p, k, r, words, &mut notice)
+            Made::Report { memory, numbers: [p, k, r], words, notice, line, .. } => {
+                let [mut memory, mut notice, mut line] = [memory, notice, line].map(|b| b.to_vec());
+                report_bytes(&mut state, &mut memory, p, k, r, words, &mut notice, &mut line)
+            }
+            Made::Line { memory, text, line, .. } => {
+                line_bytes(&mut state, &mut memory.to_vec(), text, &mut line.to_vec())
             }
             _ => self.right(),
         }

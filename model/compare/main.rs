@@ -17,6 +17,7 @@
 //! `-C link-arg=-Wl,--allow-multiple-definition` besides.
 
 mod about;
+mod answers;
 mod calls;
 #[cfg(feature = "standin")]
 mod changes;
@@ -24,10 +25,16 @@ mod damage;
 mod desk;
 mod layout;
 mod library;
+mod line_table;
+#[cfg(feature = "standin")]
+mod lined;
+mod lines;
 #[cfg(feature = "standin")]
 mod made;
 mod passages;
 mod passages_layout;
+mod passages_lines;
+mod passages_owed;
 mod passages_passing;
 mod passing;
 mod random;
@@ -40,28 +47,40 @@ mod stack;
 mod standin;
 mod states;
 mod sweeps;
+mod sweeps_lines;
 mod sweeps_runs;
 mod table;
 mod values;
 mod values_layout;
+mod values_lines;
 mod values_passing;
 #[cfg(feature = "standin")]
 mod wrong;
 #[cfg(feature = "standin")]
+mod wrong_answers;
+#[cfg(feature = "standin")]
 mod wrong_create;
 #[cfg(feature = "standin")]
+mod wrong_going;
+#[cfg(feature = "standin")]
 mod wrong_layout;
+#[cfg(feature = "standin")]
+mod wrong_lines;
+#[cfg(feature = "standin")]
+mod wrong_owed;
 #[cfg(feature = "standin")]
 mod wrong_passing;
 #[cfg(feature = "standin")]
 mod wrong_sizes;
+#[cfg(feature = "standin")]
+mod wrong_text;
 
 use run::Comparison;
 use std::process::ExitCode;
 
 /// The stack that include/palustrode.h says a call needs. The model in the library's
 /// place may need any.
-const STACK: usize = if cfg!(feature = "standin") { usize::MAX } else { 1024 };
+const STACK: usize = if cfg!(feature = "standin") { usize::MAX } else { 1280 };
 
 fn main() -> ExitCode {
     let mut arguments = std::env::args().skip(1);

@@ -3,6 +3,8 @@
 
 use crate::about::{has_bytes, old, About};
 use crate::passages_layout::LAYOUT_PASSAGES;
+use crate::passages_lines::LINE_PASSAGES;
+use crate::passages_owed::OWED_PASSAGES;
 use crate::passages_passing::PASSING_PASSAGES;
 use crate::sides::Call;
 use model::*;
@@ -178,7 +180,8 @@ const PASSAGES: &[Passage] = &[
 
 /// Every passage, in the order in which they are counted.
 fn every() -> impl Iterator<Item = &'static Passage> {
-    PASSAGES.iter().chain(LAYOUT_PASSAGES).chain(PASSING_PASSAGES)
+    let lines = LINE_PASSAGES.iter().chain(OWED_PASSAGES);
+    PASSAGES.iter().chain(LAYOUT_PASSAGES).chain(PASSING_PASSAGES).chain(lines)
 }
 
 /// The passages whose test holds before a call.

@@ -162,24 +162,24 @@ pub const PASSING_PASSAGES: &[Passage] = &[
 ];
 
 impl About<'_> {
-    fn runs(&self, run: Run) -> bool {
+    pub fn runs(&self, run: Run) -> bool {
         self.process.run == run
     }
 
-    fn passing(&self) -> bool {
+    pub fn passing(&self) -> bool {
         self.runs(Run::Passing)
     }
 
-    fn hostless(&self) -> bool {
+    pub fn hostless(&self) -> bool {
         self.process.host == NOBODY
     }
 
-    fn ttrap(&self) -> bool {
+    pub fn ttrap(&self) -> bool {
         self.kind == Some(TTRAP)
     }
 
     /// Whether a BPT report stops the process.
-    fn stops(&self) -> bool {
+    pub fn stops(&self) -> bool {
         self.bpt() && !self.passes()
     }
 

@@ -7,9 +7,6 @@ use model::*;
 
 /// What K3 says of the process that a granted call changes, should both sides break it.
 pub fn broken_passing(call: &Call, before: &Side, after: &Side) -> Option<&'static str> {
-    if !matches!(call, Call::Request { .. } | Call::Report { .. }) {
-        return None;
-    }
     let p = changed(call, after)?;
     let was = decode(before.state.bytes())?.processes[p];
     let is = decode(after.state.bytes())?.processes[p];
@@ -20,10 +17,14 @@ pub fn broken_passing(call: &Call, before: &Side, after: &Side) -> Option<&'stat
     if was.run == Run::Passing && is.run != Run::Passing && !leaves(call) {
         return Some("both: passing is left by a call that does not end it");
     }
-    let keeps = matches!(call, Call::Report { .. }) || asks(call, |cmd| RUNS.contains(&cmd));
+    let keeps = match call {
+        Call::Request { message } => RUNS.contains(&message[4]),
+        Call::Line { text } => !read_line(text).is_some_and(|line| stores(line.request)),
+        _ => true,
+    };
     let (old, new) = (before.memory.bytes(), after.memory.bytes());
     if keeps && seen(&was, old) != seen(&is, new) {
-        return Some("both: a report or a change of the run state changes what is seen");
+        return Some("both: a call that stores nothing changes what is seen");
     }
     None
 }
@@ -31,15 +32,21 @@ pub fn broken_passing(call: &Call, before: &Side, after: &Side) -> Option<&'stat
 /// The requests that change the run state alone, and lift or plant for that.
 const RUNS: [u8; 4] = [STOP, RESUME, SINGLE_STEP, PROCEED_BPT];
 
-fn asks(call: &Call, test: impl Fn(u8) -> bool) -> bool {
-    matches!(call, Call::Request { message } if test(message[4]))
+/// The letters of lines that store a word.
+fn stores(request: u8) -> bool {
+    matches!(request, b'I' | b'D')
 }
 
 /// "STOP makes it stopped, END DEBUG running"; a report may end it too, and so do CREATE
 /// and DESTROY, which write a new record.
 fn leaves(call: &Call) -> bool {
-    let new = |cmd| matches!(cmd, STOP | END_DEBUG | CREATE_PROCESS | DESTROY_PROCESS);
-    matches!(call, Call::Report { .. }) || asks(call, new)
+    match call {
+        Call::Request { message } => {
+            matches!(message[4], STOP | END_DEBUG | CREATE_PROCESS | DESTROY_PROCESS)
+        }
+        Call::Report { .. } => true,
+        _ => false,
+    }
 }
 
 /// "The seen memory of a process is its memory with the saved word in place of each

@@ -55,10 +55,12 @@ fn by_kind(random: &mut Random, state: &State) -> (u8, u8) {
     (process, kind)
 }
 
-/// Whether a process runs and can come to a breakpoint, or is passing one.
+/// Whether a process runs and can come to a breakpoint, or is passing one, or owes an
+/// answer.
 fn telling(process: &Process) -> bool {
     let broken = process.breakpoints.iter().any(|b| b.used);
-    process.there && process.run.goes() && (broken || process.run == Run::Passing)
+    let owes = process.owed != Owed::Nothing;
+    process.there && process.run.goes() && (broken || process.run == Run::Passing || owes)
 }
 
 pub fn any_telling(state: &State) -> bool {
@@ -81,6 +83,7 @@ fn by_run_state(random: &mut Random, state: &State) -> (u8, u8) {
     let kind = match random.below(32) {
         0 => HALT,
         1 | 2 => TRAP,
+        3..=5 if reporting.owed != Owed::Nothing => TRAP,
         3..=18 if reporting.run != Run::Running => TTRAP,
         3 => TTRAP,
         _ => BPT,

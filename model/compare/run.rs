@@ -11,6 +11,8 @@
 use crate::calls::{make_call, make_request, some_output, used_address, Mood, MOODS};
 use crate::damage::{damage_state, STATE_LENGTHS};
 use crate::desk::make_desk_call;
+use crate::line_table::LineTable;
+use crate::lines::some_line_buffer;
 use crate::passages::{self, open, Open, Passages};
 use crate::random::Random;
 use crate::sides::{describe, is_sound, Call, Lent, Pair, Side, GUARD};
@@ -24,6 +26,7 @@ use model::*;
 /// What was met, on states that a fresh start leads to or on damaged ones.
 struct Met {
     table: Table,
+    lines: LineTable,
     passages: Passages,
     /// Stores by the machine into a planted word.
     stores: u64,
@@ -33,7 +36,13 @@ struct Met {
 
 impl Met {
     fn new(damaged: bool) -> Met {
-        Met { table: Table::new(damaged), passages: Passages::new(), stores: 0, stores_at_edge: 0 }
+        Met {
+            table: Table::new(damaged),
+            lines: LineTable::new(damaged),
+            passages: Passages::new(),
+            stores: 0,
+            stores_at_edge: 0,
+        }
     }
 }
 
@@ -318,13 +327,17 @@ impl Comparison {
     /// Makes one of the lent buffers shorter or longer than test 1 allows.
     fn spoil_buffer(&mut self, call: &mut Call) {
         let random = &mut self.random;
-        match (random.below(3), call) {
+        match (random.below(4), call) {
             (0, _) => {
                 let length = random.length(&[0, 1, 16_383, 16_385, 32_768, 65_536], 100_000);
                 self.pair.change(|side| side.memory = side.memory.resized(length));
             }
             (1, Call::Report { words, .. }) => {
                 words.resize(random.length(&[0, 1, 16, 17, 19, 20, 36], 100), 0);
+            }
+            (1, Call::Line { .. }) | (2, Call::Line { .. } | Call::Report { .. }) => {
+                let length = random.length(&[0, 1, 17, 33, 34, 34], LONGEST_LINE - 1);
+                self.pair.change(|side| side.line = side.line.resized(length));
             }
             _ => {
                 let length = random.length(&[0, 1, 9, 10, 27, 28, 265], 265);
@@ -337,6 +350,9 @@ impl Comparison {
         let output = some_output(&mut self.random);
         let offset = self.offset();
         self.pair.change(|side| side.output = Lent::new(&output, offset));
+        let line = some_line_buffer(&mut self.random);
+        let offset = self.offset();
+        self.pair.change(|side| side.line = Lent::new(&line, offset));
     }
 
     /// Makes the call on both sides and counts what was met.
@@ -353,6 +369,7 @@ impl Comparison {
         self.values.count(call, &self.pair.model, answer);
         let met = self.met();
         met.table.count(call, answer);
+        met.lines.count(call, answer);
         if let Some(open) = open {
             met.passages.count(open, answer);
         }
@@ -365,8 +382,10 @@ impl Comparison {
         let [fresh, damaged] = &self.met;
         println!("calls on states that a fresh start leads to");
         fresh.table.print();
+        fresh.lines.print();
         println!("\ncalls on damaged states and on what follows from them");
         damaged.table.print();
+        damaged.lines.print();
         println!("\n   fresh  damaged");
         passages::print(&fresh.passages, &damaged.passages);
         println!("{:>8} {:>8}  store into a planted word", fresh.stores, damaged.stores);
@@ -381,7 +400,8 @@ impl Comparison {
         if edge.contains(&0) {
             wrong.push("store into the first or last byte of a process".to_string());
         }
-        [fresh.table.wrong(), damaged.table.wrong(), self.desk.wrong(), self.values.wrong(), wrong]
-            .concat()
+        let tables = [fresh.table.wrong(), damaged.table.wrong(), self.desk.wrong()].concat();
+        let lines = [fresh.lines.wrong(), damaged.lines.wrong()].concat();
+        [tables, lines, self.values.wrong(), wrong].concat()
     }
 }

@@ -1,6 +1,7 @@
 //! A call made by the model and by the library, each on buffers of its own, and
 //! the comparison of all that they leave. The fuzzer uses this too.
 
+use crate::answers::{broken_line, line_written};
 use crate::layout::{accepted_fault, broken_layout};
 use crate::library::*;
 use crate::passing::broken_passing;
@@ -12,13 +13,14 @@ pub enum Call {
     FreshStart { there: u64, sizes: Vec<u16> },
     Request { message: Vec<u8> },
     Report { process: u64, kind: u64, reason: u64, words: Vec<u8> },
+    Line { text: Vec<u8> },
     Write { fields: [u64; FIELDS], string: Vec<u8> },
     Read { message: Vec<u8> },
 }
 
 impl Call {
-    /// The message, the nine words, the string, or the sizes as the processor keeps
-    /// them.
+    /// The message, the nine words, the text, the string, or the sizes as the processor
+    /// keeps them.
     pub fn input(&self) -> Cow<'_, [u8]> {
         match self {
             Call::FreshStart { sizes, .. } => {
@@ -26,6 +28,7 @@ impl Call {
             }
             Call::Request { message } | Call::Read { message } => message.into(),
             Call::Report { words, .. } => words.into(),
+            Call::Line { text } => text.into(),
             Call::Write { string, .. } => string.into(),
         }
     }
@@ -39,29 +42,29 @@ pub const GUARD: usize = 64;
 
 #[derive(Clone, Copy, PartialEq)]
 #[repr(C, align(64))]
-struct Line([u8; GUARD]);
+struct Block([u8; GUARD]);
 
 /// A lent buffer between its guard bytes, at any offset from an aligned address.
 #[derive(Clone, PartialEq)]
 pub struct Lent {
-    lines: Vec<Line>,
+    blocks: Vec<Block>,
     offset: usize,
     length: usize,
 }
 
 impl Lent {
     pub fn new(bytes: &[u8], offset: usize) -> Lent {
-        let lines = (GUARD + offset + bytes.len() + GUARD).div_ceil(GUARD);
-        let lines = vec![Line([0x5a; GUARD]); lines];
-        let mut lent = Lent { lines, offset: offset % GUARD, length: bytes.len() };
+        let blocks = (GUARD + offset + bytes.len() + GUARD).div_ceil(GUARD);
+        let blocks = vec![Block([0x5a; GUARD]); blocks];
+        let mut lent = Lent { blocks, offset: offset % GUARD, length: bytes.len() };
         lent.change().copy_from_slice(bytes);
         lent
     }
 
     /// All its bytes, those around it included.
     fn all(&self) -> &[u8] {
-        let first = self.lines.as_ptr().cast();
-        unsafe { std::slice::from_raw_parts(first, GUARD * self.lines.len()) }
+        let first = self.blocks.as_ptr().cast();
+        unsafe { std::slice::from_raw_parts(first, GUARD * self.blocks.len()) }
     }
 
     pub fn bytes(&self) -> &[u8] {
@@ -69,8 +72,8 @@ impl Lent {
     }
 
     pub fn change(&mut self) -> &mut [u8] {
-        let first = self.lines.as_mut_ptr().cast();
-        let all = unsafe { std::slice::from_raw_parts_mut(first, GUARD * self.lines.len()) };
+        let first = self.blocks.as_mut_ptr().cast();
+        let all = unsafe { std::slice::from_raw_parts_mut(first, GUARD * self.blocks.len()) };
         &mut all[GUARD + self.offset..][..self.length]
     }
 
@@ -86,33 +89,36 @@ impl Lent {
     }
 }
 
-/// The buffers lent to one of the two; `input` is the message, the words, the string
-/// or the sizes, `output` the reply, the notice or the request, or the fields that are
-/// read, two bytes each.
+/// The buffers lent to one of the two; `input` is the message, the words, the text, the
+/// string or the sizes, `output` the reply, the notice or the request, or the fields that
+/// are read, two bytes each, and `line` the line that is answered.
 #[derive(Clone)]
 pub struct Side {
     pub state: Lent,
     pub memory: Lent,
     pub input: Lent,
     pub output: Lent,
+    pub line: Lent,
 }
 
 impl Side {
     pub fn new(state: &[u8], memory: &[u8], output: &[u8]) -> Side {
-        let [state, memory, input, output] =
-            [state, memory, &[], output].map(|bytes| Lent::new(bytes, 0));
-        Side { state, memory, input, output }
+        let [state, memory, input, output, line] =
+            [state, memory, &[], output, &[0xee; LONGEST_LINE]].map(|bytes| Lent::new(bytes, 0));
+        Side { state, memory, input, output, line }
     }
 
     fn by_model(&mut self, call: &Call) -> i64 {
         let (s, m, i, o) =
             (self.state.change(), self.memory.change(), self.input.bytes(), self.output.change());
+        let l = self.line.change();
         match *call {
             Call::FreshStart { there, .. } => fresh_start_bytes(there, &words_of(i), s),
             Call::Request { .. } => request_bytes(s, m, i, o),
             Call::Report { process, kind, reason, .. } => {
-                report_bytes(s, m, process, kind, reason, i, o)
+                report_bytes(s, m, process, kind, reason, i, o, l)
             }
+            Call::Line { .. } => line_bytes(s, m, i, l),
             Call::Write { fields: [host, cmd, pid, arg1, arg2], .. } => {
                 write_request(host, cmd, pid, arg1, arg2, i, o)
             }
@@ -139,6 +145,7 @@ impl Side {
             (self.state.change(), self.memory.change(), self.input.change(), self.output.change());
         let (s_len, m_len, i_len, o_len) = (s.len(), m.len(), i.len(), o.len());
         let (s, m, i, o) = (s.as_mut_ptr(), m.as_mut_ptr(), i.as_mut_ptr(), o.as_mut_ptr());
+        let (l_len, l) = (self.line.bytes().len(), self.line.change().as_mut_ptr());
         match *call {
             Call::FreshStart { there, .. } => unsafe {
                 assert!(i as usize % 2 == 0 && i_len % 2 == 0, "sizes are words");
@@ -148,8 +155,9 @@ impl Side {
                 palustrode_request(s, s_len, m, m_len, i, i_len, o, o_len)
             },
             Call::Report { process: p, kind: k, reason: r, .. } => unsafe {
-                palustrode_report(s, s_len, m, m_len, p, k, r, i, i_len, o, o_len)
+                palustrode_report(s, s_len, m, m_len, p, k, r, i, i_len, o, o_len, l, l_len)
             },
+            Call::Line { .. } => unsafe { palustrode_line(s, s_len, m, m_len, i, i_len, l, l_len) },
             Call::Write { fields: [host, cmd, pid, arg1, arg2], .. } => unsafe {
                 palustrode_write_request(host, cmd, pid, arg1, arg2, i, i_len, o, o_len)
             },
@@ -186,7 +194,7 @@ impl Pair {
         change(&mut self.library);
     }
 
-    /// The message, the words, the string or the sizes, where the one before was.
+    /// The message, the words, the text, the string or the sizes, where the one before was.
     fn lend_input(&mut self, bytes: &[u8]) {
         self.change(|side| side.input = Lent::new(bytes, side.input.offset()));
     }
@@ -213,10 +221,11 @@ impl Pair {
         let byte = first_difference("state", in_state, &model.state, &library.state)
             .or_else(|| first_difference("memory", owner, &model.memory, &library.memory))
             .or_else(|| {
-                let name = "message, words, string or sizes";
+                let name = "message, words, text, string or sizes";
                 first_difference(name, place, &model.input, &library.input)
             })
-            .or_else(|| first_difference("output", place, &model.output, &library.output));
+            .or_else(|| first_difference("output", place, &model.output, &library.output))
+            .or_else(|| first_difference("line", place, &model.line, &library.line));
         if a == b && byte.is_none() {
             return None;
         }
@@ -271,6 +280,8 @@ fn broken_rule(call: &Call, answer: i64, before: &Side, after: &Side) -> Option<
     let written = match (call, answer) {
         (Call::FreshStart { .. }, _) => 0,
         (Call::Read { .. }, 0..) => 2 * FIELDS,
+        (Call::Report { .. }, _) => notice_length(answer),
+        (Call::Line { .. }, _) => 0,
         (_, 0..) => answer as usize,
         (Call::Request { .. }, -13..=-7) => HEAD,
         _ => 0,
@@ -282,6 +293,10 @@ fn broken_rule(call: &Call, answer: i64, before: &Side, after: &Side) -> Option<
     if before.output.bytes()[written..] != after.output.bytes()[written..] {
         return Some("both: buffer bytes past those written are touched");
     }
+    let answered = line_written(call, answer, after);
+    if before.line.bytes()[answered..] != after.line.bytes()[answered..] {
+        return Some("both: bytes past the line that is written are touched");
+    }
     let on_state = !matches!(call, Call::Write { .. } | Call::Read { .. });
     if !refused && on_state && !is_sound(after.state.bytes()) {
         return Some("both: the state is not sound after a granted call");
@@ -289,8 +304,9 @@ fn broken_rule(call: &Call, answer: i64, before: &Side, after: &Side) -> Option<
     if accepted_fault(call, answer, before) {
         return Some("both: a layout that is not sound is accepted");
     }
-    if refused {
-        return None;
+    let wrong_line = broken_line(call, answer, before, after);
+    if refused || wrong_line.is_some() {
+        return wrong_line;
     }
     broken_layout(call, before, after).or_else(|| broken_passing(call, before, after))
 }
@@ -317,11 +333,17 @@ pub fn describe(call: &Call, side: &Side) -> String {
         Call::Report { process, kind, reason, .. } => {
             format!("report, process {process}, kind {kind}, reason {reason}, words of {input}")
         }
+        Call::Line { text } => {
+            format!("line, {:?}, text of {input}", String::from_utf8_lossy(text))
+        }
         Call::Write { fields: [host, cmd, pid, arg1, arg2], .. } => format!(
             "write request, HOST {host}, CMD {cmd}, PID {pid}, ARG1 {arg1}, ARG2 {arg2}, string of {input}"
         ),
         Call::Read { .. } => format!("read answer, message of {input}"),
     };
-    let [s, m, o] = [&side.state, &side.memory, &side.output].map(|lent| lent.bytes().len());
-    format!("call: {call}\nlent: state of {s} bytes, memory of {m}, output buffer of {o}")
+    let [s, m, o, l] =
+        [&side.state, &side.memory, &side.output, &side.line].map(|lent| lent.bytes().len());
+    format!(
+        "call: {call}\nlent: state of {s} bytes, memory of {m}, output buffer of {o}, line buffer of {l}"
+    )
 }

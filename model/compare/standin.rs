@@ -54,6 +54,8 @@ pub unsafe extern "C" fn palustrode_report(
     words_len: usize,
     notice: *mut u8,
     notice_len: usize,
+    line: *mut u8,
+    line_len: usize,
 ) -> i64 {
     answer(Made::Report {
         state: from_raw_parts_mut(state, state_len),
@@ -61,6 +63,26 @@ pub unsafe extern "C" fn palustrode_report(
         numbers: [process, kind, reason],
         words: from_raw_parts(words, words_len),
         notice: from_raw_parts_mut(notice, notice_len),
+        line: from_raw_parts_mut(line, line_len),
+    })
+}
+
+#[no_mangle]
+pub unsafe extern "C" fn palustrode_line(
+    state: *mut u8,
+    state_len: usize,
+    memory: *mut u8,
+    memory_len: usize,
+    text: *const u8,
+    text_len: usize,
+    line: *mut u8,
+    line_len: usize,
+) -> i64 {
+    answer(Made::Line {
+        state: from_raw_parts_mut(state, state_len),
+        memory: from_raw_parts_mut(memory, memory_len),
+        text: from_raw_parts(text, text_len),
+        line: from_raw_parts_mut(line, line_len),
     })
 }
 

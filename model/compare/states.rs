@@ -36,6 +36,9 @@ fn some_sound_process(random: &mut Random, cleared: Process) -> Process {
         return process;
     }
     process.host = new_host(random);
+    if process.host == TEXT_HOST {
+        process.owed = random.pick(&Owed::ALL);
+    }
     let most = random.below(BREAKPOINTS + 1);
     for e in 0..BREAKPOINTS {
         add_breakpoint(random, &mut process, e, most);

@@ -22,7 +22,7 @@ pub const P: u8 = 2;
 const FEED: u8 = 3;
 const SIZES: [u16; PROCESSES] = [18, 2048, 4096, 1536, 2, 4, 4094, 4096];
 
-fn message(host: u8, cmd: u8, pid: u8, arg1: u16, arg2: u16, string: usize) -> Vec<u8> {
+pub fn message(host: u8, cmd: u8, pid: u8, arg1: u16, arg2: u16, string: usize) -> Vec<u8> {
     let [a, b] = arg1.to_be_bytes();
     let [c, d] = arg2.to_be_bytes();
     let mut message = vec![0, host, 255, 0, cmd, pid, a, b, c, d];
@@ -75,6 +75,7 @@ impl Sweep<'_> {
         sweep.hosts()?;
         sweep.reports()?;
         sweep.runs()?;
+        sweep.lines()?;
         sweep.lengths()?;
         sweep.starts()?;
         sweep.writes()?;
@@ -96,6 +97,17 @@ impl Sweep<'_> {
 
     pub fn back(&mut self) {
         self.pair.clone_from(&self.base);
+    }
+
+    /// Makes the state at hand the one to go back to, and returns the one before.
+    pub fn rebase(&mut self) -> Pair {
+        std::mem::replace(&mut self.base, self.pair.clone())
+    }
+
+    /// Goes back to an earlier one.
+    pub fn restore(&mut self, base: Pair) {
+        self.base = base;
+        self.back();
     }
 
     /// Each byte of the header, and each address and count.
@@ -161,12 +173,11 @@ impl Sweep<'_> {
         }
         for (there, sizes) in [(0x0f, [4096, 4096, 4096, 2600, 2, 2, 2, 2]), (0xff, [2; 8])] {
             self.make(&start(there, &sizes))?;
-            let base = std::mem::replace(&mut self.base, self.pair.clone());
+            let base = self.rebase();
             for n in 0..=u16::MAX {
                 self.apart(create(n))?;
             }
-            self.base = base;
-            self.back();
+            self.restore(base);
         }
         for size in (2..=LARGEST).step_by(2) {
             self.make(&start(0x0f, &[4096, 4096, 2048, size, 2, 2, 2, 2]))?;
@@ -264,6 +275,7 @@ impl Sweep<'_> {
             self.apart(to(DEPOSIT, 0, length as u16, length))?;
             let words = vec![1; length];
             self.apart(Call::Report { process: P.into(), kind: 0, reason: 0, words })?;
+            self.apart(Call::Line { text: vec![b' '; length] })?;
         }
         Ok(())
     }

@@ -7,6 +7,7 @@ use crate::layout::last_word;
 use crate::sides::{Call, Lent, Side};
 use crate::sizes::SIZES;
 use crate::values_layout::LAYOUT_VALUES;
+use crate::values_lines::LINE_VALUES;
 use crate::values_passing::PASSING_VALUES;
 use model::*;
 
@@ -141,12 +142,12 @@ const VALUES: &[Value] = &[
         on_state(c) && s.memory.bytes().len() % 4096 > 1 && s.memory.bytes().len() > 16_385
     }),
     value(WRONG_BUFFER, "output of 29 to 264 bytes", |c, s| {
-        on_state(c) && (29..265).contains(&s.output.bytes().len())
+        not_line(c) && (29..265).contains(&s.output.bytes().len())
     }),
     value(0, "output of 700 to 4,000 bytes", |c, s| {
-        on_state(c) && (700..4000).contains(&s.output.bytes().len())
+        not_line(c) && (700..4000).contains(&s.output.bytes().len())
     }),
-    value(0, "output over 8,192 bytes", |c, s| on_state(c) && s.output.bytes().len() > 8192),
+    value(0, "output over 8,192 bytes", |c, s| not_line(c) && s.output.bytes().len() > 8192),
     value(NOT_SOUND, "state of any other length", |c, s| on_state(c) && other_length(s)),
     value(WRONG_BUFFER, "fresh start, state of any other length", |c, s| {
         matches!(c, Call::FreshStart { .. }) && other_length(s)
@@ -259,8 +260,13 @@ fn report(call: &Call, test: impl Fn(u64, u64, u64) -> bool) -> bool {
     matches!(*call, Call::Report { process, kind, reason, .. } if test(process, kind, reason))
 }
 
-pub fn on_state(call: &Call) -> bool {
+/// Whether a call on a state has an output buffer.
+fn not_line(call: &Call) -> bool {
     matches!(call, Call::Request { .. } | Call::Report { .. })
+}
+
+pub fn on_state(call: &Call) -> bool {
+    matches!(call, Call::Request { .. } | Call::Report { .. } | Call::Line { .. })
 }
 
 /// The host of a notice, after the call.
@@ -279,7 +285,7 @@ fn wide(call: &Call, field: usize) -> bool {
 
 /// Every value, in the order in which they are counted.
 fn every() -> impl Iterator<Item = &'static Value> {
-    VALUES.iter().chain(LAYOUT_VALUES).chain(PASSING_VALUES)
+    VALUES.iter().chain(LAYOUT_VALUES).chain(PASSING_VALUES).chain(LINE_VALUES)
 }
 
 /// How often each value was met, and each buffer at each offset modulo 8.
@@ -288,8 +294,8 @@ pub struct Values {
     offsets: [[u64; 8]; BUFFERS.len()],
 }
 
-const BUFFERS: [&str; 6] =
-    ["state", "memory", "message, words or string", "output", "fields", "sizes"];
+const BUFFERS: [&str; 7] =
+    ["state", "memory", "message, words or string", "output", "fields", "sizes", "line"];
 
 /// Whether a buffer is one of words, which are never at an odd address.
 fn of_words(buffer: &str) -> bool {
@@ -318,7 +324,9 @@ impl Values {
             _ => {
                 at(0, &side.state);
                 at(1, &side.memory);
-                at(3, &side.output);
+                let line = matches!(call, Call::Line { .. });
+                let (buffer, lent) = if line { (6, &side.line) } else { (3, &side.output) };
+                at(buffer, lent);
             }
         }
         if !matches!(call, Call::FreshStart { .. }) {

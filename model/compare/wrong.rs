@@ -3,10 +3,15 @@
 
 use crate::made::{lengths, Made};
 use crate::run::Comparison;
+use crate::wrong_answers::WRONG_ANSWERS;
 use crate::wrong_create::WRONG_CREATE;
+use crate::wrong_going::WRONG_GOING;
 use crate::wrong_layout::WRONG_LAYOUT;
+use crate::wrong_lines::WRONG_LINES;
+use crate::wrong_owed::WRONG_OWED;
 use crate::wrong_passing::WRONG_PASSING;
 use crate::wrong_sizes::WRONG_SIZES;
+use crate::wrong_text::WRONG_TEXT;
 use model::*;
 use std::sync::atomic::{AtomicUsize, Ordering};
 
@@ -23,9 +28,9 @@ fn with_lengths(made: Made, memory_length: usize, output_length: usize) -> i64 {
             let (mut m, mut o) = lend(memory, reply);
             request_bytes(state, &mut m, message, &mut o)
         }
-        Made::Report { state, memory, numbers: [p, k, r], words, notice } => {
+        Made::Report { state, memory, numbers: [p, k, r], words, notice, line } => {
             let (mut m, mut o) = lend(memory, notice);
-            report_bytes(state, &mut m, p, k, r, words, &mut o)
+            report_bytes(state, &mut m, p, k, r, words, &mut o, line)
         }
         mut made => made.right(),
     }
@@ -38,7 +43,10 @@ pub struct Wrong {
 
 /// Every wrong library.
 fn every() -> impl Iterator<Item = &'static Wrong> {
-    WRONG.iter().chain(WRONG_SIZES).chain(WRONG_LAYOUT).chain(WRONG_CREATE).chain(WRONG_PASSING)
+    let lines = WRONG_TEXT.iter().chain(WRONG_LINES).chain(WRONG_GOING);
+    let lines = lines.chain(WRONG_OWED).chain(WRONG_ANSWERS);
+    let layout = WRONG_LAYOUT.iter().chain(WRONG_CREATE);
+    WRONG.iter().chain(WRONG_SIZES).chain(layout).chain(WRONG_PASSING).chain(lines)
 }
 
 /// Each is the model's answer, but for one error.
@@ -224,7 +232,7 @@ const WRONG: &[Wrong] = &[
             let answer = made.right();
             if let Made::Report { notice, .. } = made {
                 if answer > 0 {
-                    notice[answer as usize] ^= 1;
+                    notice[notice_length(answer)] ^= 1;
                 }
             }
             answer

@@ -2,14 +2,17 @@
 
 use super::*;
 
-/// Bytes of a process record: there, host, run state, size, nine words, 8 entries.
+/// Bytes of a process record: there, host, run state, size, what is owed, nine words, 8
+/// entries.
 pub const RECORD_BYTES: usize = ENTRIES_AT + BREAKPOINTS * ENTRY_BYTES;
 /// Bytes of a breakpoint entry: used, lifted, address, count, saved word.
 pub const ENTRY_BYTES: usize = 8;
 /// Where the size, low byte first, stands in a record.
 pub const SIZE_AT: usize = 3;
+/// Where a record says what is owed.
+pub const OWED_AT: usize = SIZE_AT + 2;
 /// Where the nine words begin in a record.
-pub const VECTOR_AT: usize = SIZE_AT + 2;
+pub const VECTOR_AT: usize = OWED_AT + 1;
 /// Where the entries begin in a record.
 pub const ENTRIES_AT: usize = VECTOR_AT + VECTOR;
 /// Where the eight begins stand in a state, two bytes each, low byte first.
@@ -47,8 +50,12 @@ fn run_from(byte: u8) -> Option<Run> {
     Run::ALL.get(usize::from(byte)).copied()
 }
 
-/// The state of 712 bytes; nothing where the length, a flag or a run state is
-/// none that `encode` gives.
+fn owed_from(byte: u8) -> Option<Owed> {
+    Owed::ALL.get(usize::from(byte)).copied()
+}
+
+/// The state of 720 bytes; nothing where the length, a flag, a run state or what is owed
+/// is none that `encode` gives.
 pub fn decode(bytes: &[u8]) -> Option<State> {
     if bytes.len() != STATE_BYTES {
         return None;
@@ -63,6 +70,7 @@ pub fn decode(bytes: &[u8]) -> Option<State> {
         process.host = record[1];
         process.run = run_from(record[2])?;
         process.size = u16::from_le_bytes([record[SIZE_AT], record[SIZE_AT + 1]]);
+        process.owed = owed_from(record[OWED_AT])?;
         process.vector = vector_from(&record[VECTOR_AT..ENTRIES_AT]);
         let entries = record[ENTRIES_AT..].chunks_exact(ENTRY_BYTES);
         for (breakpoint, entry) in process.breakpoints.iter_mut().zip(entries) {
@@ -78,7 +86,7 @@ pub fn decode(bytes: &[u8]) -> Option<State> {
     Some(state)
 }
 
-/// The 712 bytes of a state.
+/// The 720 bytes of a state.
 pub fn encode(state: &State) -> [u8; STATE_BYTES] {
     let mut bytes = [0; STATE_BYTES];
     let (records, begins) = bytes.split_at_mut(BEGINS_AT);
@@ -89,7 +97,8 @@ pub fn encode(state: &State) -> [u8; STATE_BYTES] {
         record[0] = u8::from(process.there);
         record[1] = process.host;
         record[2] = process.run as u8;
-        record[SIZE_AT..VECTOR_AT].copy_from_slice(&process.size.to_le_bytes());
+        record[SIZE_AT..OWED_AT].copy_from_slice(&process.size.to_le_bytes());
+        record[OWED_AT] = process.owed as u8;
         record[VECTOR_AT..ENTRIES_AT].copy_from_slice(&vector_bytes(&process.vector));
         let entries = record[ENTRIES_AT..].chunks_exact_mut(ENTRY_BYTES);
         for (entry, b) in entries.zip(&process.breakpoints) {
@@ -133,17 +142,32 @@ pub fn report_bytes(
     reason: u64,
     words: &[u8],
     notice: &mut [u8],
+    line: &mut [u8],
 ) -> i64 {
     if let Err(number) = lent(memory, notice) {
         return -number;
     }
-    if words.len() != VECTOR {
+    if words.len() != VECTOR || line.len() < LONGEST_LINE {
         return -WRONG_BUFFER;
     }
     let Some(mut records) = decode(state) else {
         return -NOT_SOUND;
     };
-    let answer = report(&mut records, memory, process, kind, reason, &vector_from(words), notice);
+    let words = vector_from(words);
+    let answer = report(&mut records, memory, process, kind, reason, &words, notice, line);
+    write_back(&records, answer, state);
+    answer
+}
+
+/// `line` over the bytes of a state.
+pub fn line_bytes(state: &mut [u8], memory: &mut [u8], text: &[u8], buffer: &mut [u8]) -> i64 {
+    if memory.len() != MEMORY || buffer.len() < LONGEST_LINE {
+        return -WRONG_BUFFER;
+    }
+    let Some(mut records) = decode(state) else {
+        return -NOT_SOUND;
+    };
+    let answer = line(&mut records, memory, text, buffer);
     write_back(&records, answer, state);
     answer
 }
@@ -155,7 +179,7 @@ fn write_back(records: &State, answer: i64, state: &mut [u8]) {
     }
 }
 
-/// `fresh_start` into 712 bytes: 0, or minus 1 where the buffer has not 712 or the
+/// `fresh_start` into 720 bytes: 0, or minus 1 where the buffer has not 720 or the
 /// sizes are not eight, or minus 2 where a process then there has a bad size or they
 /// are more than the memory, or minus 7 where a bit above the eighth is set: "number over 7". "The
 /// lowest-numbered test that fails gives the answer"

@@ -4,6 +4,8 @@
 mod desk;
 mod gateway;
 mod layout;
+mod lines;
+mod owed;
 mod passing;
 mod sizes;
 
@@ -282,7 +284,7 @@ fn a_trap_carries_its_reason() {
 #[test]
 fn the_order_of_a_requests_tests() {
     let mut g = Gateway::debugged();
-    let Gateway { state, memory, output } = &mut g;
+    let Gateway { state, memory, output, .. } = &mut g;
     let unsound = {
         let mut state = state.clone();
         state.processes[0].host = 1;
@@ -337,7 +339,7 @@ fn sound_states() {
 #[test]
 fn the_byte_form() {
     let mut bytes = [9; STATE_BYTES];
-    assert_eq!((STATE_BYTES, RECORD_BYTES, BEGINS_AT), (712, 87, 696));
+    assert_eq!((STATE_BYTES, RECORD_BYTES, BEGINS_AT), (720, 88, 704));
     assert_eq!(fresh_start_bytes(0b100, &[FEED; PROCESSES], &mut bytes), 0);
     assert_eq!(bytes[BEGINS_AT..], [0; 16]);
     for (p, record) in bytes[..BEGINS_AT].chunks_exact(RECORD_BYTES).enumerate() {
@@ -347,28 +349,31 @@ fn the_byte_form() {
     }
     assert_eq!(fresh_start_bytes(0, &FULL, &mut bytes[1..]), -1);
     let mut memory = vec![0; MEMORY];
-    let mut output = vec![0; LONGEST];
+    let (mut output, mut line) = (vec![0; LONGEST], vec![0; LONGEST_LINE]);
     memory[256..][..2].copy_from_slice(&[18, 52]);
     for m in [message(5, DEBUG, 2, 0, 0, &[]), message(5, BREAK, 2, 256, 515, &[])] {
         assert_eq!(request_bytes(&mut bytes, &mut memory, &m, &mut output), 10);
     }
-    assert_eq!(bytes[174..179], [1, 5, 0, 0, 6]);
-    assert_eq!(bytes[197..205], [1, 0, 0, 1, 3, 2, 18, 52]);
+    assert_eq!(bytes[176..182], [1, 5, 0, 0, 6, 0]);
+    assert_eq!(bytes[200..208], [1, 0, 0, 1, 3, 2, 18, 52]);
     let words = vector_bytes(&words_with(256));
-    let (b, m, o) = (&mut bytes, &mut memory, &mut output);
-    assert_eq!(report_bytes(b, m, 2, BPT.into(), 0, &words[1..], o), -1);
-    assert_eq!(report_bytes(b, m, 2, BPT.into(), 0, &words, o), 0);
-    assert_eq!(b[174..179], [1, 5, 5, 0, 6]);
-    assert_eq!(b[179..197], words);
-    assert_eq!(b[197..205], [1, 1, 0, 1, 2, 2, 18, 52]);
+    let (b, m, o, l) = (&mut bytes, &mut memory, &mut output, &mut line);
+    assert_eq!(report_bytes(b, m, 2, BPT.into(), 0, &words[1..], o, l), -1);
+    assert_eq!(report_bytes(b, m, 2, BPT.into(), 0, &words, o, &mut l[1..]), -1);
+    assert_eq!(report_bytes(b, m, 2, BPT.into(), 0, &words, o, l), 0);
+    assert_eq!(b[176..182], [1, 5, 5, 0, 6, 0]);
+    assert_eq!(b[182..200], words);
+    assert_eq!(b[200..208], [1, 1, 0, 1, 2, 2, 18, 52]);
     assert_eq!(encode(&decode(b).unwrap()), *b);
-    for (at, byte) in [(0, 2), (174, 255), (2, 6), (197, 2), (198, 2), (695 - 7, 2)] {
+    for (at, byte) in [(0, 2), (176, 255), (2, 6), (181, 3), (200, 2), (201, 2), (696, 2)] {
         let mut damaged = *b;
         damaged[at] = byte;
         assert_eq!(decode(&damaged), None);
         let before = damaged;
         assert_eq!(request_bytes(&mut damaged, m, &[], o), -2);
-        assert_eq!(report_bytes(&mut damaged, m, 2, 9, 0, &words, o), -2);
+        assert_eq!(report_bytes(&mut damaged, m, 2, 9, 0, &words, o, l), -2);
+        assert_eq!(line_bytes(&mut damaged, m, &[], l), -2);
+        assert_eq!(line_bytes(&mut damaged, m, &[], &mut l[1..]), -1);
         assert_eq!(request_bytes(&mut damaged, &mut [], &[], o), -1);
         assert_eq!(damaged, before);
     }

@@ -13,6 +13,8 @@ mod bytes;
 mod cases;
 mod desk;
 mod layout;
+mod line_text;
+mod lines;
 mod reports;
 mod requests;
 mod runs;
@@ -20,7 +22,9 @@ mod runs;
 pub use bytes::*;
 pub use desk::{read_answer, write_request, FIELDS};
 pub use layout::{asked_size, free_bytes, used_bytes};
-pub use reports::report;
+pub use line_text::{read_line, write_line, LineRead, LETTERS, LONGEST_LINE};
+pub use lines::{line, Owed, TEXT_HOST};
+pub use reports::{answered_length, notice_length, report};
 pub use requests::request;
 pub use runs::Run;
 
@@ -128,7 +132,8 @@ const NOTICE_CMD: u8 = 64;
 /// The number of a refusal, as in the paper's table.
 pub type Refusal = i64;
 
-/// 1: "reply or notice buffer under 266"; K9: "1 asks 16,384 here", of the memory
+/// 1: "reply or notice buffer under 266"; K9: "1 asks 16,384 here", of the memory; K7:
+/// "1 asks 35 bytes of line buffer (a report's too)"
 pub const WRONG_BUFFER: Refusal = 1;
 /// 2: "state not sound"; K2: "2 covers a bad size (at fresh start too, of a
 /// process then there) or a breakpoint past it"; K9: "2 also more than that at fresh
@@ -141,7 +146,7 @@ pub const WRONG_HEAD: Refusal = 4;
 /// 5: "CMD not a known op code"
 pub const UNKNOWN_CMD: Refusal = 5;
 /// 6: "unused field not zero, or string of wrong length"; K9: "6, at the desk too, an
-/// odd or greater size"
+/// odd or greater size"; K7: "6 a PID or request that cannot be read"
 pub const WRONG_FIELDS: Refusal = 6;
 /// 7: "named process absent, or number over 7"
 pub const ABSENT: Refusal = 7;
@@ -177,7 +182,7 @@ pub struct Breakpoint {
 
 /// "A process record holds: there or not; host debugging it; run state [..];
 /// vector; up to 8 breakpoints". K2: "Each process gets a size". K9: "Starts and sizes
-/// are public": where it begins in memory is kept too.
+/// are public": where it begins in memory is kept too. K7: "an owed answer".
 #[derive(Clone, Copy, PartialEq, Eq, Debug)]
 pub struct Process {
     pub there: bool,
@@ -185,6 +190,7 @@ pub struct Process {
     pub run: Run,
     pub size: u16,
     pub begin: u16,
+    pub owed: Owed,
     pub vector: [u16; WORDS],
     pub breakpoints: [Breakpoint; BREAKPOINTS],
 }
@@ -207,6 +213,7 @@ const CLEARED: Process = Process {
     run: Run::Running,
     size: LARGEST,
     begin: 0,
+    owed: Owed::Nothing,
     vector: [0; WORDS],
     breakpoints: [FREE; BREAKPOINTS],
 };
@@ -250,6 +257,10 @@ impl Process {
     fn sound(&self) -> bool {
         // K2: "2 covers a bad size", there or not: "Each process gets a size"
         if !right_size(self.size) {
+            return false;
+        }
+        // K7: "none is owed unless host 253 debugs it"
+        if self.owed != Owed::Nothing && self.host != TEXT_HOST {
             return false;
         }
         // "an absent process has no host"

@@ -2,9 +2,10 @@
 
 use super::*;
 
-/// A machine report: the granted length, 0 where no notice goes out, or minus
-/// the refusal's number. "A report is tested by 1, 2, 14, 7, 9 in that order,
-/// and a refused one writes nothing at all."
+/// A machine report: the length of the notice, 0 where none goes out, and 256 times that
+/// of the line that is answered, or minus the refusal's number. "A report is tested by 1,
+/// 2, 14, 7, 9 in that order, and a refused one writes nothing at all." K7: "in a line
+/// buffer beside any notice, both lengths told"
 pub fn report(
     state: &mut State,
     memory: &mut [u8],
@@ -13,9 +14,14 @@ pub fn report(
     reason: u64,
     words: &[u16; WORDS],
     notice: &mut [u8],
+    line: &mut [u8],
 ) -> i64 {
     if let Err(number) = lent(memory, notice) {
         return -number;
+    }
+    // K7: "1 asks 35 bytes of line buffer (a report's too)"
+    if line.len() < LONGEST_LINE {
+        return -WRONG_BUFFER;
     }
     if !sound(state) {
         return -NOT_SOUND;
@@ -37,11 +43,31 @@ pub fn report(
     if !record.take(&mut memory[record.place()], kind, words) {
         return 0;
     }
+    let answered = record.answer_owed(process, kind, line);
+    // "to the host debugging it, if any"
+    if record.host == NOBODY {
+        return told(0, answered);
+    }
     // "a notice of 28 bytes goes to the host debugging it"; "(reason in
     // ARG1)"; "PID; the rest zero; then the 18 bytes"
     write_head(&mut notice[..HEAD], record.host, NOTICE_CMD + kind, process, reason, 0);
     notice[HEAD..NOTICE].copy_from_slice(&vector_bytes(words));
-    NOTICE as i64
+    told(NOTICE, answered)
+}
+
+/// The lengths of the notice and of the line, as one number.
+fn told(notice: usize, answered: usize) -> i64 {
+    (notice + 256 * answered) as i64
+}
+
+/// The length of the notice of which a report tells; 0 where it is refused.
+pub fn notice_length(answer: i64) -> usize {
+    answer.max(0) as usize % 256
+}
+
+/// The length of the line that a report answers; 0 where it is refused.
+pub fn answered_length(answer: i64) -> usize {
+    answer.max(0) as usize / 256
 }
 
 /// 14: "report of kind over 3, or a reason not 0 with a kind that isn't TRAP".
@@ -54,7 +80,7 @@ fn kind_and_reason(kind: u64, reason: u64) -> Option<(u8, u16)> {
 }
 
 impl Process {
-    /// Takes an accepted report; says whether a notice goes out. "The vector is
+    /// Takes an accepted report; says whether it stops or ends the process. "The vector is
     /// stored and a lifted breakpoint planted again."
     fn take(&mut self, space: &mut [u8], kind: u8, words: &[u16; WORDS]) -> bool {
         self.vector = *words;
@@ -74,8 +100,7 @@ impl Process {
             BPT => Run::AtBreakpoint,
             _ => Run::Stopped,
         };
-        // "to the host debugging it, if any"
-        self.host != NOBODY
+        true
     }
 
     /// "For BPT with a breakpoint at PC and remaining count above 0: the count

@@ -178,20 +178,23 @@ impl Process {
     /// "END DEBUG: all breakpoints go, planted words put back; nobody debugs
     /// it. Stopped, at a breakpoint or stepping becomes running; ended stays."
     /// K3: passing becomes running too. "a freed entry is all zero": so are all
-    /// eight.
+    /// eight. K7: "STOP, END DEBUG and DESTROY cancel an owed answer".
     fn end_debug(&mut self, space: &mut [u8]) {
         for breakpoint in &mut self.breakpoints {
             breakpoint.free(space);
         }
         self.host = NOBODY;
+        self.owed = Owed::Nothing;
         if self.run != Run::Ended {
             self.run = Run::Running;
         }
     }
 
     /// "STOP: running or stepping becomes stopped, and a lifted breakpoint is
-    /// planted again. Other states stay." K3, of passing: "STOP makes it stopped".
+    /// planted again. Other states stay." K3, of passing: "STOP makes it stopped". K7: it
+    /// cancels "an owed answer", in any run state.
     fn stop(&mut self, space: &mut [u8]) {
+        self.owed = Owed::Nothing;
         if self.run.goes() {
             self.run = Run::Stopped;
             self.plant_lifted(space);
@@ -276,7 +279,7 @@ impl Process {
 
     /// "SINGLE STEP at a breakpoint first lifts the breakpoint at PC, if there
     /// is one."
-    fn single_step(&mut self, space: &mut [u8]) {
+    pub(super) fn single_step(&mut self, space: &mut [u8]) {
         if self.run == Run::AtBreakpoint {
             self.lift_at_pc(space);
         }
@@ -285,7 +288,7 @@ impl Process {
 
     /// "PROCEED BPT: only at a breakpoint; lifts the one at PC, if there, then
     /// running." K3: passing, "entered only where a breakpoint was lifted".
-    fn proceed(&mut self, space: &mut [u8]) {
+    pub(super) fn proceed(&mut self, space: &mut [u8]) {
         let lifted = self.lift_at_pc(space);
         self.run = if lifted { self.run.after_lift() } else { Run::Running };
     }

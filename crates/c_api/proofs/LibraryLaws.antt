@@ -2,30 +2,35 @@
 use mathlib.Core.Path.{_≡_, refl, sym, ap, ap₂, _∙_}
 use mathlib.Core.Bool.{true, true≢false}
 use mathlib.Core.List.{List, [], _∷_, map}
-use Prim.Native.Nat.{ℕ, zero, suc, _<_}
+use Prim.Native.Nat.{ℕ, zero, suc}
 use native.Mathlib.Omega.{arith}
 use borrow.Author.Tests.{eq-eqb, eqb-true, ltb-true, not-false}
 use lib.IntN.{ℤ, pos, negsuc, +ℤ-idl}
 use lib.ListN.{length}
+use lib.Dec.{eqb}
+use Rattle.lists.specs.Word.{vectorOf}
 use Rattle.format.specs.declared.outcome.Outcome.{Outcome}
 use Rattle.format.specs.declared.outcome.Outcome.the-variants.{Granted, Refused}
 use Rattle.format.specs.Outcome.{outcome, numberOf, lengthOf}
+use Rattle.format.specs.Layout.{headerOf}
 use Rattle.format.proofs.OutcomeLaws.{first-passes, rest-passes}
 use Rattle.state.specs.Layout.{capacity}
-use Rattle.rules.specs.Tests.{State}
-use Rattle.rules.specs.Step.{Answer, Call, request, report, store, step}
+use Rattle.rules.specs.Rule.{names, creates}
+use Rattle.rules.specs.Tests.{State, requestNumber, textNumber}
+use Rattle.rules.specs.Step.{Answer, StepResult, plainAnswer, Call, request, report, store, textLine, step, requestStep, granted, grantedNamed, grantedCreate, refused, textStep}
 use Rattle.rules.specs.Ready.{Typed}
 use Rattle.rules.specs.Run.{TraceItem, traceItem, run}
 use Rattle.rules.specs.Isolation.{isGranted}
+use Rattle.rules.proofs.NumberLaws.{by-test}
 use Rattle.rules.proofs.TotalLaws.{total}
 use Rattle.state_bytes.specs.Widths.{processCount, stateWidth}
-use Rattle.gateway.specs.Called.{Called, Did}
-use Rattle.gateway.specs.Sequence.{Begins, item, readFrom}
+use Rattle.gateway.specs.Called.{Called, callOn, machineStored, Did}
+use Rattle.gateway.specs.Sequence.{Begins, readFrom}
 use Rattle.gateway.proofs.SequenceLaws.{Follows, did-follows, did-begins, fresh-begins}
 use Rattle.gateway.proofs.DemandLaws.{lists-on-bytes}
-use Rattle.c_api.specs.Called.{signed, Returns, reportOn, bitsOf, startNumber, startWith}
-use Rattle.c_api.specs.Library.{LibraryCall, requested, reported, stored, Returned, DidReturn, DoneByLibrary, callOf, Whole, AllWhole, outcomeOf, returnedItem, returnedItems, MadeByLibrary, LibraryDemands}
-use Rattle.c_api.proofs.ShortLaws.{nine-words}
+use Rattle.c_api.specs.Called.{signed, bothLengths, Returns, Reports, kindOf, reportOn, bitsOf, startNumber, startWith}
+use Rattle.c_api.specs.Library.{LibraryCall, requested, reported, stored, lineSent, Returned, DidReturn, DoneByLibrary, callOf, Whole, AllWhole, outcomeOf, noticeTold, lineTold, plainTold, answerTold, returnedItem, returnedItems, MadeByLibrary, LibraryDemands}
+use Rattle.c_api.proofs.ShortLaws.{Small, report-small, nine-words}
 use Rattle.c_api.proofs.StartLaws.{start-same}
 
 -- ---- the number that is returned tells the outcome
@@ -37,49 +42,123 @@ told (Granted n) g = refl
 told (Refused zero) g = absurd (true≢false (sym (g refl)))
 told (Refused (suc n)) g = ap outcomeOf (+ℤ-idl (negsuc n))
 
+-- both lengths of a report come back from the one number
+both-told : (o : Outcome) (n : ℕ) → Small o n → (numberOf o ≡ 0 → isGranted o ≡ true)
+    → (noticeTold (signed (bothLengths o n)) ≡ o) × (lineTold (signed (bothLengths o n)) ≡ n)
+unfolding signed bothLengths noticeTold lineTold numberOf lengthOf isGranted
+both-told (Granted k) n f g =
+    let own = f .own in
+    (ap Granted (omega arith), omega arith)
+both-told (Refused zero) n f g = absurd (true≢false (sym (g refl)))
+both-told (Refused (suc k)) n f g = (ap noticeTold (+ℤ-idl (negsuc k)), ap lineTold (+ℤ-idl (negsuc k)) ∙ sym (f .silent refl))
+
+-- ---- calls with no line buffer
+
+Lineless : StepResult → Type 0
+Lineless x = (x .answer .lineLength ≡ 0) × (x .answer .line ≡ [])
+
+request-lineless : (s : State) (m buffer : List ℕ) → Lineless (step s (request m buffer))
+unfolding Lineless step requestStep granted grantedNamed grantedCreate refused
+request-lineless s m buffer =
+    by-test Lineless (eqb (requestNumber s m buffer) 0)
+    (λ e. by-test Lineless (names (headerOf m .cmd)) (λ n. (refl, refl))
+    (λ n. by-test Lineless (creates (headerOf m .cmd)) (λ c. (refl, refl)) (λ c. (refl, refl))))
+    (λ e. (refl, refl))
+
+line-lineless : (s : State) (text buffer : List ℕ) → Lineless (step s (textLine text buffer))
+unfolding Lineless step textStep
+line-lineless s text buffer = by-test Lineless (eqb (textNumber s text buffer) 0) (λ e. (refl, refl)) (λ e. (refl, refl))
+
+store-lineless : (s : State) (p a v : ℕ) → Lineless (step s (store p a v))
+unfolding Lineless step
+store-lineless s p a v = (refl, refl)
+
 -- ---- one call
 
--- the call of the gateway that it is
-record IsCall (state memory : List ℕ) (c : Call) (y : Returned) : Type 0 where
+-- the call of the gateway that it is, and the answer that it told where the call follows the rules
+record IsCall (state memory : List ℕ) (c : LibraryCall) (y : Returned) : Type 0 where
   call : Called
-  did : Did state memory c call
-  returns : Returns call (y .result) (y .state) (y .memory) (y .buffer)
-
-is-call : (state memory : List ℕ) (c : LibraryCall) → Whole c → (y : Returned) → DidReturn state memory c y → IsCall state memory (callOf c) y
-unfolding DidReturn Did callOf Whole reportOn
-is-call state memory (requested m reply) w y d = record { call = _; did = refl; returns = d }
-is-call state memory (reported p kind reason words notice) w y d = record { call = _; did = refl; returns = rw (eq-eqb (length words) 18 w) at d }
-is-call state memory (stored p a v) w y d = record { call = _; did = (d .0, refl); returns = d .1 }
+  did : Did state memory (callOf c) call
+  answered : Follows state memory (callOf c) call → answerTold c y ≡ step (readFrom state memory) (callOf c) .answer
+  state-is : y .state ≡ call .state
+  memory-is : y .memory ≡ call .memory
 
 typed : (c : LibraryCall) → Typed (callOf c)
 unfolding Typed callOf
 typed (requested m reply) = tt
-typed (reported p kind reason words notice) = nine-words words
+typed (reported p kind reason words notice line) = nine-words words
 typed (stored p a v) = tt
+typed (lineSent text line) = tt
 
-module _ (state memory : List ℕ) (b : Begins state memory) (c : LibraryCall) (y : Returned) (i : IsCall state memory (callOf c) y) where
-  abbrev x : Called
-  x = i .call
+module _ (state memory : List ℕ) (c : Call) (y : Returned) (x : Called) (f : Follows state memory c x) where
+  abbrev a : Answer
+  a = step (readFrom state memory) c .answer
 
-  follows : Follows state memory (callOf c) x
-  follows = did-follows state memory b (callOf c) (typed c) x (i .did)
-
+  -- what follows the rules is granted where its number is 0
   grants : numberOf (x .outcome) ≡ 0 → isGranted (x .outcome) ≡ true
   grants =
-      let same : x .outcome ≡ step (readFrom state memory) (callOf c) .answer .outcome = ap (λ (a : Answer). a .outcome) (follows .answer) in
-      rw same (total .granted (readFrom state memory) (callOf c))
+      let same : x .outcome ≡ a .outcome = ap (λ (b : Answer). b .outcome) (f .answer) in
+      rw same (total .granted (readFrom state memory) c)
 
-  outcome-is : outcomeOf (y .result) ≡ x .outcome
-  outcome-is = ap outcomeOf (i .returns .result-is) ∙ told (x .outcome) grants
+  plain-told : Lineless (step (readFrom state memory) c) → Returns x (y .result) (y .state) (y .memory) (y .buffer) → plainTold y ≡ a
+  unfolding Lineless
+  plain-told none r =
+      let outcome-is = ap outcomeOf (r .result-is) ∙ told (x .outcome) grants ∙ ap (λ (b : Answer). b .outcome) (f .answer) in
+      let buffer-is = r .buffer-is ∙ ap (λ (b : Answer). b .buffer) (f .answer) in
+      ap₂ plainAnswer outcome-is buffer-is
+      ∙ ap₂ (λ (n : ℕ) (line : List ℕ). record { outcome = a .outcome; buffer = a .buffer; lineLength = n; line = line }) (sym (none .0)) (sym (none .1))
+
+  both-are : Small (x .outcome) (x .lineLength) → Reports x (y .result) (y .state) (y .memory) (y .buffer) (y .line)
+      → record { outcome = noticeTold (y .result); buffer = y .buffer; lineLength = lineTold (y .result); line = y .line } ≡ a
+  both-are small r =
+      let back = both-told (x .outcome) (x .lineLength) small grants in
+      rw (r .result-is, back .0, back .1, r .notice-is, r .line-is) (f .answer)
+
+is-call : (state memory : List ℕ) (c : LibraryCall) → Whole c → (y : Returned) → DidReturn state memory c y → IsCall state memory c y
+unfolding DidReturn Did callOf Whole reportOn answerTold
+is-call state memory (requested m reply) w y d = record {
+  call = callOn state memory (request m reply);
+  did = refl;
+  answered = λ f. plain-told state memory (request m reply) y _ f (request-lineless (readFrom state memory) m reply) d;
+  state-is = d .state-is;
+  memory-is = d .memory-is;
+}
+is-call state memory (reported p kind reason words notice line) w y d =
+    let c = report p (kindOf kind reason) reason (vectorOf words) notice line in
+    let r : Reports (callOn state memory c) (y .result) (y .state) (y .memory) (y .buffer) (y .line) = rw (eq-eqb (length words) 18 w) at d in
+    record {
+      call = callOn state memory c;
+      did = refl;
+      answered = λ f. both-are state memory c y _ f (report-small state memory p (kindOf kind reason) reason (vectorOf words) notice line (nine-words words)) r;
+      state-is = r .state-is;
+      memory-is = r .memory-is;
+    }
+is-call state memory (stored p a v) w y d = record {
+  call = machineStored p a v state memory;
+  did = (d .0, refl);
+  answered = λ f. plain-told state memory (store p a v) y _ f (store-lineless (readFrom state memory) p a v) (d .1);
+  state-is = d .1 .state-is;
+  memory-is = d .1 .memory-is;
+}
+is-call state memory (lineSent text line) w y d = record {
+  call = callOn state memory (textLine text line);
+  did = refl;
+  answered = λ f. plain-told state memory (textLine text line) y _ f (line-lineless (readFrom state memory) text line) d;
+  state-is = d .state-is;
+  memory-is = d .memory-is;
+}
+
+module _ (state memory : List ℕ) (b : Begins state memory) (c : LibraryCall) (y : Returned) (i : IsCall state memory c y) where
+  follows : Follows state memory (callOf c) (i .call)
+  follows = did-follows state memory b (callOf c) (typed c) (i .call) (i .did)
 
   item-run : returnedItem c y ≡ traceItem (readFrom state memory) (callOf c)
   item-run =
-      let answer = ap₂ (λ (o : Outcome) (buffer : List ℕ). record { outcome = o; buffer = buffer }) outcome-is (i .returns .buffer-is) ∙ follows .answer in
-      let after = ap₂ readFrom (i .returns .state-is) (i .returns .memory-is) ∙ follows .after in
-      ap₂ (λ (a : Answer) (t : State). record { call = callOf c; answer = a; after = t }) answer after
+      ap₂ (λ (answer : Answer) (t : State). record { call = callOf c; answer = answer; after = t }) (i .answered follows)
+      (ap₂ readFrom (i .state-is) (i .memory-is) ∙ follows .after)
 
   after-begins : Begins (y .state) (y .memory)
-  after-begins = rw (i .returns .state-is, i .returns .memory-is) (did-begins state memory b (callOf c) (typed c) x (i .did))
+  after-begins = rw (i .state-is, i .memory-is) (did-begins state memory b (callOf c) (typed c) (i .call) (i .did))
 
 -- ---- whole lists
 

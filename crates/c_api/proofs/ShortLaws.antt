@@ -1,95 +1,136 @@
--- No call grants more than a signed number holds. Assumes nothing.
+-- No call grants more than a signed number holds: what it wrote is in its buffer, and a report's two lengths are small. Assumes nothing.
 use mathlib.Core.Path.{_≡_, refl}
-use mathlib.Core.Bool.{Bool, true, false, cond}
-use mathlib.Core.List.{List, []}
-use Prim.Native.Nat.{ℕ, _≤_}
+use mathlib.Core.Bool.{Bool, true, false, cond, true≢false}
+use mathlib.Core.List.{List}
+use Prim.Native.Nat.{ℕ, _+_, _*_, _≤_, _<_}
 use native.Mathlib.Omega.{arith}
-use borrow.Author.Tests.{eqb-true}
-use lib.ListN.{length, drop}
+use borrow.Author.Tests.{eqb-true, ltb-true, not-false}
+use lib.ListN.{length, drop, length-append}
 use lib.Dec.{eqb}
+use Rattle.lists.specs.Buffer.{overlay}
 use Rattle.lists.specs.Word.{vectorOf}
-use Rattle.lists.proofs.Short.{take-short}
+use Rattle.lists.proofs.Bool.{&&-left}
 use Rattle.lists.proofs.Word.{length-lowFirst}
-use Rattle.format.specs.declared.header.Header.{Header}
-use Rattle.process.specs.Local.{Local}
-use Rattle.breakpoints.specs.Seen.{seen}
-use Rattle.process.specs.Request.{examined}
-use Rattle.rules.specs.Rule.{ruleOf, names, creates}
-use Rattle.format.specs.Outcome.{outcome, lengthOf, firstFailing}
-use Rattle.format.specs.Layout.{headerOf}
-use Rattle.format.proofs.OutcomeLaws.{lengthOf-none, rest-passes}
-use Rattle.rules.specs.Tests.{State, lent, recordOf, ruleTests, askedTests, requestNumber, reportNumber}
-use Rattle.rules.specs.Step.{Answer, StepResult, request, report, step, localOf, grantedNamed, grantedCreate, granted, refused, requestStep, told, noticeTo, notified, reportStep}
-use Rattle.rules.proofs.StepLaws.{by-test}
-use Rattle.checks.proofs.OpLaws.{coded}
-use Rattle.service.proofs.EffectLaws.{examine-short}
+use Rattle.format.specs.declared.outcome.Outcome.{Outcome}
+use Rattle.format.specs.declared.outcome.Outcome.the-variants.{Granted, Refused}
+use Rattle.format.specs.Outcome.{outcome, lengthOf, isGranted, firstFailing}
+use Rattle.format.proofs.OutcomeLaws.{lengthOf-none, first-passes, rest-passes}
+use Rattle.fields.specs.Written.{lineBytes}
+use Rattle.fields.proofs.WriteLaws.{short-line}
+use Rattle.run_state.specs.ReportKind.{TRAP, HALT}
+use Rattle.session.specs.declared.Owed.{Owed}
+use Rattle.session.specs.Session.{owes}
+use Rattle.process.specs.Report.{answerOf}
+use Rattle.rules.specs.TextRule.{statusOf, owedLine}
+use Rattle.rules.specs.Tests.{State, lent, reportNumber}
+use Rattle.rules.specs.Window.{Buffers}
+use Rattle.rules.specs.Access.{Place, nowhere, atProcess, Turn, numberAt, reached, taken}
+use Rattle.rules.specs.Step.{Answer, StepResult, Call, report, step, localOf, told, noticeTo, notified, reportStep}
+use Rattle.rules.specs.Turn.{turnOf, buffersOf}
+use Rattle.rules.proofs.LawfulLaws.{lawful}
+use Rattle.rules.proofs.NumberLaws.{by-test}
 use Rattle.state_bytes.specs.State.{stateOf, stateFormed}
-use Rattle.rules.specs.Turn.{bufferOf}
-use Rattle.gateway.specs.Called.{Called, lentOn, finished, callOn}
-use Rattle.c_api.specs.Called.{Short}
-
-examined-short : (at count : ℕ) (l : Local) → length (examined at count l) ≤ count
-unfolding examined
-examined-short at count l = take-short count (drop at (seen (l .process .breaks) (l .bytes))) .0
-
--- a granted request that names a process passed the tests of its rule
-rule-passed : (s : State) (m buffer : List ℕ) → requestNumber s m buffer ≡ 0 → names (headerOf m .cmd) ≡ true
-    → firstFailing (ruleTests (ruleOf (headerOf m .cmd)) (headerOf m) (recordOf s (headerOf m .pid))) ≡ 0
-unfolding requestNumber askedTests
-rule-passed s m buffer e n =
-    let laid = rest-passes 1 _ _ (rest-passes 0 _ _ e) in
-    let asked = rest-passes 5 _ _ (rest-passes 4 _ _ (rest-passes 3 _ _ (rest-passes 2 _ _ laid))) in
-    rest-passes 6 _ _ (rw n at asked)
-
--- and EXAMINE's count is at most 256
-shown-short : (h : Header) (s : State) → firstFailing (ruleTests (ruleOf (h .cmd)) h (recordOf s (h .pid))) ≡ 0
-    → length (ruleOf (h .cmd) .shown h (localOf s (h .pid))) ≤ 256
-shown-short h s e = rw (coded (h .cmd) .shown h (localOf s (h .pid))) (go (eqb (h .cmd) 6) refl)
-  where
-    go : (t : Bool) → eqb (h .cmd) 6 ≡ t → length (cond {A = List ℕ} t (examined (h .arg1) (h .arg2) (localOf s (h .pid))) []) ≤ 256
-    go true op =
-        omega (arith, examined-short (h .arg1) (h .arg2) (localOf s (h .pid)), examine-short h (recordOf s (h .pid)) e (eqb-true (h .cmd) 6 op))
-    go false op = omega arith
+use Rattle.gateway.specs.Called.{Called, lentOn, badlyLent, finished, callOn}
+use Rattle.c_api.specs.Called.{Short, bothLengths}
 
 -- what is refused has no length
 pub refused-short : (n : ℕ) → Short (outcome n 0)
 refused-short n = rw (lengthOf-none n) (omega arith)
 
-abbrev ShortStep : StepResult → Type 0
-ShortStep x = Short (x .answer .outcome)
+-- ---- any call
 
-requestStep-short : (m buffer : List ℕ) (s : State) → Short (requestStep m buffer s .answer .outcome)
-unfolding requestStep granted grantedNamed grantedCreate refused lengthOf
-requestStep-short m buffer s =
-    by-test ShortStep (eqb (requestNumber s m buffer) 0)
-    (λ e. by-test ShortStep (names (headerOf m .cmd))
-    (λ n. omega (arith, shown-short (headerOf m) s (rule-passed s m buffer (eqb-true _ 0 e) n)))
-    (λ n. by-test ShortStep (creates (headerOf m .cmd)) (λ c. omega arith) (λ c. omega arith)))
-    (λ e. refused-short (requestNumber s m buffer))
+-- the length that is told lies within the buffer
+abbrev Within : Answer → Type 0
+Within a = lengthOf (a .outcome) ≤ length (a .buffer)
 
-reportStep-short : (p kind reason : ℕ) (words buffer : List ℕ) (s : State) → length words ≡ 9 → Short (reportStep p kind reason words buffer s .answer .outcome)
-unfolding reportStep notified noticeTo lengthOf
-reportStep-short p kind reason words buffer s nine =
-    by-test ShortStep (eqb (reportNumber s p kind reason buffer) 0)
-    (λ e. by-test (λ (x : Answer). Short (x .outcome)) (told kind words (localOf s p))
-    (λ t. omega (arith, length-lowFirst words, nine))
-    (λ t. omega arith))
-    (λ e. refused-short (reportNumber s p kind reason buffer))
+abbrev WithinStep : StepResult → Type 0
+WithinStep x = Within (x .answer)
+
+laid-within : (xs buffer : List ℕ) → length xs ≤ length (overlay xs buffer)
+unfolding overlay
+laid-within xs buffer = omega (arith, length-append xs (drop (length xs) buffer))
+
+refused-within : (n : ℕ) (buffer : List ℕ) → lengthOf (outcome n 0) ≤ length buffer
+refused-within n buffer = rw (lengthOf-none n) (omega arith)
+
+reached-within : (place : Place) (b : Buffers) (s : State) → WithinStep (reached place b s)
+unfolding reached lengthOf
+reached-within (nowhere output) b s = laid-within (output .own) (b .own)
+reached-within (atProcess p a) b s =
+    by-test WithinStep (eqb (numberAt a (localOf s p)) 0) (λ e. laid-within (a .reply (localOf s p) .own) (b .own))
+    (λ e. refused-within (numberAt a (localOf s p)) (overlay (a .refusal (localOf s p) (numberAt a (localOf s p))) (b .own)))
+
+taken-within : (t : Turn) (b : Buffers) (s : State) → WithinStep (taken t b s)
+unfolding taken
+taken-within t b s =
+    by-test WithinStep (eqb (firstFailing (t .tests)) 0) (λ e. reached-within (t .place) b s)
+    (λ e. refused-within (firstFailing (t .tests)) (overlay (t .refusal (firstFailing (t .tests))) (b .own)))
+
+step-within : (s : State) (c : Call) → WithinStep (step s c)
+step-within s c = rw (lawful c .turn s) (taken-within (turnOf s c) (buffersOf c) s)
+
+pub call-within : (state memory : List ℕ) (c : Call) → lengthOf (callOn state memory c .outcome) ≤ length (callOn state memory c .buffer)
+unfolding callOn finished
+call-within state memory c =
+    by-test (λ (x : Called). lengthOf (x .outcome) ≤ length (x .buffer)) (stateFormed state) (λ f. step-within (lent (stateOf state) memory) c)
+    (λ f. refused-within (lentOn state (badlyLent memory c)) (buffersOf c .own))
+
+-- ---- a report
+
+-- its two lengths, which go into one number; a refused one has no line
+pub record Small (o : Outcome) (line : ℕ) : Type 0 where
+  pub own : lengthOf o < 256
+  pub line-short : line ≤ lineBytes
+  pub silent : isGranted o ≡ false → line ≡ 0
+
+-- so the one number is no greater than a signed one holds
+pub both-short : (o : Outcome) (line : ℕ) → Small o line → Short (bothLengths o line)
+unfolding bothLengths lengthOf
+both-short (Granted n) line f = let own = f .own in let short = f .line-short in omega arith
+both-short (Refused n) line f = omega arith
+
+small-refused : (n : ℕ) → Small (outcome n 0) 0
+small-refused n = record { own = rw (lengthOf-none n) (omega arith); line-short = omega arith; silent = λ e. refl }
+
+status-small : (kind : ℕ) → statusOf kind < 4294967296
+unfolding statusOf
+status-small kind = go (eqb kind HALT) (eqb kind TRAP)
+  where
+    go : (a b : Bool) → cond a 0 (127 + 256 * cond b 4 5) < 4294967296
+    go true b = omega arith
+    go false true = omega arith
+    go false false = omega arith
+
+owed-short : (p kind : ℕ) (owed : Owed) → p < 8 → length (owedLine p kind owed) ≤ lineBytes
+unfolding owedLine
+owed-short p kind owed low =
+    by-test (λ (xs : List ℕ). length xs ≤ lineBytes) (owes owed) (λ e. short-line _ (omega (arith, low)) (omega arith) (status-small kind)) (λ e. omega arith)
+
+-- an accepted report is about one of the eight processes
+report-low : (s : State) (p kind reason : ℕ) (notice line : List ℕ) → reportNumber s p kind reason notice line ≡ 0 → p < 8
+unfolding reportNumber
+report-low s p kind reason notice line e =
+    ltb-true p 8 (&&-left _ _ (not-false _ (first-passes 6 _ _ (rest-passes 13 _ _ (rest-passes 1 _ _ (rest-passes 0 _ _ e))))))
+
+pub reportStep-small : (p kind reason : ℕ) (words notice line : List ℕ) (s : State) → length words ≡ 9
+    → Small (reportStep p kind reason words notice line s .answer .outcome) (reportStep p kind reason words notice line s .answer .lineLength)
+unfolding reportStep notified noticeTo lengthOf isGranted
+reportStep-small p kind reason words notice line s nine =
+    by-test (λ (x : StepResult). Small (x .answer .outcome) (x .answer .lineLength)) (eqb (reportNumber s p kind reason notice line) 0)
+    (λ e. let short = owed-short p kind (answerOf kind words (localOf s p)) (report-low s p kind reason notice line (eqb-true _ 0 e)) in
+    by-test (λ (a : Answer). Small (a .outcome) (length (owedLine p kind (answerOf kind words (localOf s p))))) (told kind words (localOf s p))
+    (λ t. record { own = omega (arith, length-lowFirst words, nine); line-short = short; silent = λ g. absurd (true≢false g) })
+    (λ t. record { own = omega arith; line-short = short; silent = λ g. absurd (true≢false g) }))
+    (λ e. small-refused (reportNumber s p kind reason notice line))
+
+pub report-small : (state memory : List ℕ) (p kind reason : ℕ) (words notice line : List ℕ) → length words ≡ 9
+    → Small (callOn state memory (report p kind reason words notice line) .outcome) (callOn state memory (report p kind reason words notice line) .lineLength)
+unfolding callOn finished step
+report-small state memory p kind reason words notice line nine =
+    by-test (λ (x : Called). Small (x .outcome) (x .lineLength)) (stateFormed state)
+    (λ f. reportStep-small p kind reason words notice line (lent (stateOf state) memory) nine) (λ f. small-refused (lentOn state (badlyLent memory (report p kind reason words notice line))))
 
 -- words that are read are nine
 pub nine-words : (m : List ℕ) → length (vectorOf m) ≡ 9
 unfolding vectorOf
 nine-words m = refl
-
-abbrev ShortCall : Called → Type 0
-ShortCall x = Short (x .outcome)
-
-module _ (state memory : List ℕ) where
-  pub request-short : (m buffer : List ℕ) → Short (callOn state memory (request m buffer) .outcome)
-  unfolding callOn finished step bufferOf
-  request-short m buffer = by-test ShortCall (stateFormed state) (λ f. requestStep-short m buffer (lent (stateOf state) memory)) (λ f. refused-short (lentOn state memory buffer))
-
-  pub report-short : (p kind reason : ℕ) (words buffer : List ℕ) → length words ≡ 9 → Short (callOn state memory (report p kind reason words buffer) .outcome)
-  unfolding callOn finished step bufferOf
-  report-short p kind reason words buffer nine =
-      by-test ShortCall (stateFormed state) (λ f. reportStep-short p kind reason words buffer (lent (stateOf state) memory) nine) (λ f. refused-short (lentOn state memory buffer))

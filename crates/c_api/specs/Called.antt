@@ -2,12 +2,13 @@
 use mathlib.Core.Path.{_≡_}
 use mathlib.Core.Bool.{Bool, not, cond}
 use mathlib.Core.List.{List, [], _∷_}
-use Prim.Native.Nat.{ℕ, _<_, _/_, _%_}
+use Prim.Native.Nat.{ℕ, _+_, _*_, _<_, _/_, _%_}
 use lib.IntN.{ℤ, pos, _-ℤ_}
 use lib.ListN.{length}
 use lib.Dec.{eqb, ltb}
 use Rattle.lists.specs.Word.{vectorOf}
 use Rattle.format.specs.declared.outcome.Outcome.{Outcome}
+use Rattle.format.specs.declared.outcome.Outcome.the-variants.{Granted, Refused}
 use Rattle.format.specs.Outcome.{outcome, numberOf, lengthOf, isGranted, test, firstFailing}
 use Rattle.state.specs.Fresh.{freshStart, sizesRight}
 use Rattle.rules.specs.Step.{report}
@@ -23,9 +24,9 @@ minus n = pos 0 -ℤ pos n
 unfoldable pub signed : Outcome → ℤ
 signed o = cond (isGranted o) (pos (lengthOf o)) (minus (numberOf o))
 
--- a length that a signed number holds
+-- a length that a signed number of 64 bits holds
 abbrev pub Short : Outcome → Type 0
-Short o = lengthOf o < 65536
+Short o = lengthOf o < 9223372036854775808
 
 -- a call returned this number, and left these bytes in state, memory and output buffer
 pub record Returns (x : Called) (result : ℤ) (state memory buffer : List ℕ) : Type 0 where
@@ -33,6 +34,19 @@ pub record Returns (x : Called) (result : ℤ) (state memory buffer : List ℕ) 
   pub state-is : state ≡ x .state
   pub memory-is : memory ≡ x .memory
   pub buffer-is : buffer ≡ x .buffer
+
+-- of a report 'both lengths told', as one: that of the notice and 256 times that of the line
+unfoldable pub bothLengths : Outcome → ℕ → Outcome
+bothLengths (Granted n) line = Granted (n + 256 * line)
+bothLengths (Refused n) line = Refused n
+
+-- a report returned this number, and left these bytes in state, memory and its two buffers
+pub record Reports (x : Called) (result : ℤ) (state memory notice line : List ℕ) : Type 0 where
+  pub result-is : result ≡ signed (bothLengths (x .outcome) (x .lineLength))
+  pub state-is : state ≡ x .state
+  pub memory-is : memory ≡ x .memory
+  pub notice-is : notice ≡ x .buffer
+  pub line-is : line ≡ x .line
 
 -- a number as a byte; 255 stands for every number that a byte has no room for
 unfoldable pub byteOf : ℕ → ℕ
@@ -43,9 +57,10 @@ unfoldable pub kindOf : ℕ → ℕ → ℕ
 kindOf kind reason = cond (ltb reason 65536) kind 4
 
 -- a report of numbers of any size; its nine words are 18 bytes, low byte first, and words of another length a lent buffer of the wrong length, test 1
-unfoldable pub reportOn : List ℕ → List ℕ → ℕ → ℕ → ℕ → List ℕ → List ℕ → Called
-reportOn state memory pid kind reason words notice =
-    cond (eqb (length words) 18) (callOn state memory (report pid (kindOf kind reason) reason (vectorOf words) notice)) (refusedBy 1 state memory notice)
+unfoldable pub reportOn : List ℕ → List ℕ → ℕ → ℕ → ℕ → List ℕ → List ℕ → List ℕ → Called
+reportOn state memory pid kind reason words notice line =
+    cond (eqb (length words) 18) (callOn state memory (report pid (kindOf kind reason) reason (vectorOf words) notice line))
+    (refusedBy 1 state memory (record { own = notice; line = line }))
 
 -- process p is there where bit p is set
 unfoldable pub bitsOf : ℕ → List Bool

@@ -24,8 +24,8 @@ pub record Fits (h : Header) : Type 0 where
 -- a report is the rules' for any process and kind, where ARG1 has room for its reason; a fresh start of eight sizes the gateway's where no bit is above the eighth;
 -- and a request is written as the desk's writer writes it
 pub record InRange : Type 0 where
-  pub reports : (state memory : List ℕ) (pid kind reason : ℕ) (words notice : List ℕ) → length words ≡ 18 → reason < 65536
-      → reportOn state memory pid kind reason words notice ≡ callOn state memory (report pid kind reason (vectorOf words) notice)
+  pub reports : (state memory : List ℕ) (pid kind reason : ℕ) (words notice line : List ℕ) → length words ≡ 18 → reason < 65536
+      → reportOn state memory pid kind reason words notice line ≡ callOn state memory (report pid kind reason (vectorOf words) notice line)
   pub starts : (there : ℕ) (sizes state : List ℕ) → there < 256 → length sizes ≡ processCount
       → startWith there sizes state ≡ startOn (bitsOf there) sizes state
   pub writes-same : (h : Header) (string buffer : List ℕ) → Fits h → writeOn h string buffer ≡ writes requestForm h string buffer

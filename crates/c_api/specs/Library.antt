@@ -1,41 +1,44 @@
 -- Calls of the library, one after another on the bytes of a state, as the contracts of the exported functions promise them.
 use mathlib.Core.Path.{_≡_}
 use mathlib.Core.List.{List, [], _∷_, map}
-use Prim.Native.Nat.{ℕ, suc, _<_}
+use Prim.Native.Nat.{ℕ, suc, _<_, _/_, _%_}
 use lib.IntN.{ℤ, pos, negsuc}
 use lib.ListN.{length}
 use Rattle.lists.specs.Word.{vectorOf}
 use Rattle.format.specs.declared.outcome.Outcome.{Outcome}
 use Rattle.format.specs.Outcome.{outcome}
 use Rattle.state.specs.Layout.{capacity, extentAt}
-use Rattle.rules.specs.Step.{Call, request, report, store}
+use Rattle.rules.specs.Step.{Answer, plainAnswer, Call, request, report, store, textLine}
 use Rattle.rules.specs.Run.{TraceItem}
 use Rattle.state_bytes.specs.State.{stateOf}
 use Rattle.gateway.specs.Called.{callOn, machineStored}
 use Rattle.gateway.specs.Sequence.{Begins, readFrom}
 use Rattle.gateway.specs.Demands.{ListsOnBytes}
-use Rattle.c_api.specs.Called.{Returns, Starts, kindOf, reportOn, startWith}
+use Rattle.c_api.specs.Called.{Returns, Reports, Starts, kindOf, reportOn, startWith}
 
 -- a call of the library, or a store by the machine between two
 pub data LibraryCall : Type 0 where
   requested : (message reply : List ℕ) → LibraryCall
-  reported : (process kind reason : ℕ) (words notice : List ℕ) → LibraryCall
+  reported : (process kind reason : ℕ) (words notice line : List ℕ) → LibraryCall
   stored : (process address value : ℕ) → LibraryCall
+  lineSent : (text line : List ℕ) → LibraryCall
 
--- what it returned, and the bytes that it left
+-- what it returned, and the bytes that it left; a report also in its line buffer
 pub record Returned : Type 0 where
   pub result : ℤ
   pub state : List ℕ
   pub memory : List ℕ
   pub buffer : List ℕ
+  pub line : List ℕ
 
 -- by its contract, or by what the machine does: it 'stores only within a process's own bytes'
 unfoldable pub DidReturn : List ℕ → List ℕ → LibraryCall → Returned → Type 0
 DidReturn state memory (requested m reply) y = Returns (callOn state memory (request m reply)) (y .result) (y .state) (y .memory) (y .buffer)
-DidReturn state memory (reported p kind reason words notice) y =
-    Returns (reportOn state memory p kind reason words notice) (y .result) (y .state) (y .memory) (y .buffer)
+DidReturn state memory (reported p kind reason words notice line) y =
+    Reports (reportOn state memory p kind reason words notice line) (y .result) (y .state) (y .memory) (y .buffer) (y .line)
 DidReturn state memory (stored p a v) y =
     (a < extentAt (stateOf state) p) × Returns (machineStored p a v state memory) (y .result) (y .state) (y .memory) (y .buffer)
+DidReturn state memory (lineSent text line) y = Returns (callOn state memory (textLine text line)) (y .result) (y .state) (y .memory) (y .buffer)
 
 -- each on the bytes that the one before it left
 unfoldable pub DoneByLibrary : List ℕ → List ℕ → List LibraryCall → List Returned → Type 0
@@ -49,14 +52,16 @@ DoneByLibrary state memory (c ∷ cs) (y ∷ ys) = DidReturn state memory c y ×
 -- the call of the rules
 unfoldable pub callOf : LibraryCall → Call
 callOf (requested m reply) = request m reply
-callOf (reported p kind reason words notice) = report p (kindOf kind reason) reason (vectorOf words) notice
+callOf (reported p kind reason words notice line) = report p (kindOf kind reason) reason (vectorOf words) notice line
 callOf (stored p a v) = store p a v
+callOf (lineSent text line) = textLine text line
 
 -- the nine words of a report are 18 bytes; with others it is refused with 1, and no call of the rules
 unfoldable pub Whole : LibraryCall → Type 0
 Whole (requested m reply) = Unit {0}
-Whole (reported p kind reason words notice) = length words ≡ 18
+Whole (reported p kind reason words notice line) = length words ≡ 18
 Whole (stored p a v) = Unit {0}
+Whole (lineSent text line) = Unit {0}
 
 -- each of a list
 unfoldable pub AllWhole : List LibraryCall → Type 0
@@ -68,13 +73,31 @@ unfoldable pub outcomeOf : ℤ → Outcome
 outcomeOf (pos n) = outcome 0 n
 outcomeOf (negsuc n) = outcome (suc n) 0
 
+-- the outcome that the number of a report tells: under 256 is the length of the notice
+unfoldable pub noticeTold : ℤ → Outcome
+noticeTold (pos n) = outcome 0 (n % 256)
+noticeTold (negsuc n) = outcome (suc n) 0
+
+-- and the length of its line
+unfoldable pub lineTold : ℤ → ℕ
+lineTold (pos n) = n / 256
+lineTold (negsuc n) = 0
+
+-- the answer of a call but a report
+abbrev pub plainTold : Returned → Answer
+plainTold y = plainAnswer (outcomeOf (y .result)) (y .buffer)
+
+-- the answer that the returned number and the buffers tell
+unfoldable pub answerTold : LibraryCall → Returned → Answer
+answerTold (requested m reply) y = plainTold y
+answerTold (reported p kind reason words notice line) y =
+    record { outcome = noticeTold (y .result); buffer = y .buffer; lineLength = lineTold (y .result); line = y .line }
+answerTold (stored p a v) y = plainTold y
+answerTold (lineSent text line) y = plainTold y
+
 -- a call with what it returned, and the state that the bytes after it stand for
 abbrev pub returnedItem : LibraryCall → Returned → TraceItem
-returnedItem c y = record {
-  call = callOf c;
-  answer = record { outcome = outcomeOf (y .result); buffer = y .buffer };
-  after = readFrom (y .state) (y .memory);
-}
+returnedItem c y = record { call = callOf c; answer = answerTold c y; after = readFrom (y .state) (y .memory) }
 
 -- the same of a list
 unfoldable pub returnedItems : List LibraryCall → List Returned → List TraceItem

@@ -1,21 +1,23 @@
 // The exported functions of the gateway's end. Numbers come in as wide as C has them, so that none is cut on the way.
 use crate::narrow::byte_of;
 use crate::narrow::kind_of;
+use crate::result::both_lengths;
 use crate::result::minus;
 use crate::result::signed;
 use gateway::fresh_start;
 use gateway::report;
 use gateway::request;
 use gateway::sizes_right;
+use gateway::text_line;
 use state_bytes::STATE_BYTES;
 use words::vector_of;
 ghost use mathlib.Core.Path.{_≡_};
 ghost use Prim.Native.Nat.{_≤_};
 ghost use lib.ListN.{length};
 ghost use Rattle.lists.specs.Word.{vectorOf};
-ghost use Rattle.rules.specs.Step.{request};
+ghost use Rattle.rules.specs.Step.{request, textLine};
 ghost use Rattle.gateway.specs.Called.{callOn};
-ghost use Rattle.c_api.specs.Called.{Returns, Starts, startWith, startNumber, reportOn, bitsOf};
+ghost use Rattle.c_api.specs.Called.{Returns, Reports, Starts, startWith, startNumber, reportOn, bitsOf};
 
 fn bits(there: u64) -> [bool; 8]
     ensures { λ r. ⌜ r ≡ bitsOf there ⌝ }
@@ -104,7 +106,7 @@ fn words_of(words: &[u8]) -> [u16; 9]
     vector_of(vector)
 }
 
-// A machine report; the nine words are 18 bytes, low byte first.
+// A machine report; the nine words are 18 bytes, low byte first. Returns the length of the notice and 256 times that of the line that it answers.
 #[no_mangle]
 pub extern "C" fn palustrode_report(
     state: &mut [u8],
@@ -114,13 +116,14 @@ pub extern "C" fn palustrode_report(
     reason: u64,
     words: &[u8],
     notice: &mut [u8],
+    line: &mut [u8],
 ) -> i64
-    ensures { λ r. ⌜ Returns (reportOn (now (state .entry)) (now (memory .entry)) pid kind reason (now (words .entry)) (now (notice .entry))) r (now (state .exit)) (now (memory .exit)) (now (notice .exit)) ⌝ }
+    ensures { λ r. ⌜ Reports (reportOn (now (state .entry)) (now (memory .entry)) pid kind reason (now (words .entry)) (now (notice .entry)) (now (line .entry))) r (now (state .exit)) (now (memory .exit)) (now (notice .exit)) (now (line .exit)) ⌝ }
 {
     if words.len() != 18 {
         return minus(1);
     }
-    let outcome = report(
+    let told = report(
         state,
         memory,
         byte_of(pid),
@@ -128,6 +131,21 @@ pub extern "C" fn palustrode_report(
         (reason % 65536) as u16,
         words_of(words),
         notice,
+        line,
     );
+    signed(both_lengths(told))
+}
+
+// A text line.
+#[no_mangle]
+pub extern "C" fn palustrode_line(
+    state: &mut [u8],
+    memory: &mut [u8],
+    text: &[u8],
+    line: &mut [u8],
+) -> i64
+    ensures { λ r. ⌜ Returns (callOn (now (state .entry)) (now (memory .entry)) (textLine (now (text .entry)) (now (line .entry)))) r (now (state .exit)) (now (memory .exit)) (now (line .exit)) ⌝ }
+{
+    let outcome = text_line(state, memory, text, line);
     signed(outcome)
 }

@@ -2,3 +2,5 @@
 pub mod WordsLaws
 pub mod ListingLaws
 pub mod MeaningLaws
+pub mod TextLaws
+pub mod ShownLaws

@@ -10,7 +10,7 @@ use lib.ListN.{length, take, drop, set, replicate, length-take, length-drop, len
 use lib.Seq.{take-all}
 use lib.Dec.{leb}
 use Rattle.lists.specs.Buffer.{overlay}
-use Rattle.lists.proofs.Buffer.{overlay-snoc, overlay-all}
+use Rattle.lists.proofs.Buffer.{take-overlay, overlay-snoc, overlay-all}
 use Rattle.format.specs.declared.outcome.Outcome.{Outcome}
 use Rattle.format.specs.Outcome.{outcome, numberOf, firstFailing}
 use Rattle.format.specs.Refusal.{wrongLength}
@@ -18,8 +18,9 @@ use Rattle.state.specs.Layout.{slot}
 use Rattle.rules.specs.Tests.{State, lent, noRoom, unsound, requestNumber}
 use Rattle.rules.specs.Step.{answers, refused, requestStep, step}
 use Rattle.state_bytes.specs.State.{stateOf}
-use Rattle.gateway.specs.Called.{Called, called, callOn, started, startOn}
-use Rattle.rules.specs.Turn.{bufferOf}
+use Rattle.gateway.specs.Called.{Called, called, badlyLent, callOn, started, startOn}
+use Rattle.gateway.specs.Lengths.{replyLength}
+use Rattle.rules.specs.Turn.{buffersOf}
 use Rattle.lines.specs.declared.scan.Phase.{Phase}
 use Rattle.lines.specs.declared.scan.Phase.the-variants.{Open}
 use Rattle.lines.specs.declared.scan.Scan.{Scan}
@@ -30,7 +31,7 @@ use Rattle.display.specs.Answer.{answerLine}
 use Rattle.calls.specs.declared.listing.Listing.{Listing}
 use Rattle.calls.specs.Listing.{empty, listed}
 use Rattle.calls.specs.Effect.{Effect, Prints, Does}
-use Rattle.calls.specs.Meaning.{unknownEffect, ifRight, zeroBuffer, answered, requestMade, numberLine, startAnswered, startMade, startListing}
+use Rattle.calls.specs.Meaning.{unknownEffect, ifRight, zeroBuffer, requestAnswered, requestMade, numberLine, startAnswered, startMade, startListing}
 
 -- ---- a call by whether its line is right
 
@@ -77,6 +78,11 @@ drop-at-most n xs = go (leb n (length xs)) refl
         let right : length xs ≤ n = omega (arith, few) in
         drop-of-length-le xs left ∙ sym (drop-of-length-le xs right)
 
+-- what was put at the start of a buffer stands there
+pub printed : (text : List ℕ) (len n : ℕ) (before after : List ℕ) → Prints text len before after → n ≡ min len (length after) → take n after ≡ text
+printed text len n before after p N =
+    ap (λ (j : ℕ). take j after) N ∙ take-at-most len after ∙ ap (λ (j : ℕ). take j after) (p .size) ∙ ap (take (length text)) (p .laid) ∙ take-overlay text before
+
 -- so many bytes of memory from an index on, both cut at its end as the code cuts them
 pub part-slot : (from count start end : ℕ) (m : List ℕ) → start ≡ min from (length m) → end ≡ min (start + count) (length m)
     → take (end - start) (drop start m) ≡ slot from count m
@@ -104,12 +110,12 @@ zero-all m i e = overlay-all (zeros i) m (omega (arith, length-replicate {A = �
 -- ---- the answer of a call
 
 -- what is put is the line of the answer
-module _ (count : Outcome → ℕ) (o : Outcome) (s m buffer : List ℕ) (x : Called) (X : called o s m buffer ≡ x) (number k n len : ℕ) (before after : List ℕ) where
-  pub does-answer : number ≡ numberOf o → k ≡ count o → n ≡ min k (length buffer) → Prints (answerLine number (take n buffer)) len before after
-      → Does (answered count x) len s m before after
-  unfolding answered
+module _ (o : Outcome) (s m buffer : List ℕ) (x : Called) (X : called o s m buffer ≡ x) (number k n len : ℕ) (before after : List ℕ) where
+  pub does-answer : number ≡ numberOf o → k ≡ replyLength o → n ≡ min k (length buffer) → Prints (answerLine number (take n buffer)) len before after
+      → Does (requestAnswered x) len s m before after
+  unfolding requestAnswered
   does-answer N K E p =
-      let text : answerLine number (take n buffer) ≡ answerLine (numberOf o) (take (count o) buffer) =
+      let text : answerLine number (take n buffer) ≡ answerLine (numberOf o) (take (replyLength o) buffer) =
       ap (λ (j : ℕ). answerLine j (take n buffer)) N ∙ ap (answerLine (numberOf o)) (ap (λ (j : ℕ). take j buffer) E ∙ take-at-most k buffer ∙ ap (λ (j : ℕ). take j buffer) K) in
       rw (← X) (record { state = refl; memory = refl; text = prints-as _ _ len before after text p })
 
@@ -151,7 +157,7 @@ module _ (s : State) (buffer : List ℕ) where
 
 -- two messages over 266 bytes are answered alike
 pub made-long : (x y s m : List ℕ) → 266 < length x → 266 < length y → requestMade x s m ≡ requestMade y s m
-unfolding requestMade callOn bufferOf step
+unfolding requestMade callOn badlyLent buffersOf step
 made-long x y s m h k = rw (refused-long (lent (stateOf s) m) zeroBuffer x h, refused-long (lent (stateOf s) m) zeroBuffer y k)
 
 -- a message is answered like its first bytes, if these are more than 266 or all
@@ -166,16 +172,17 @@ made-front n x s m h = go (leb (length x) n) refl
 
 -- ---- a line's pairs, and a line's listing
 
--- pairs that were read into a buffer with more room than the longest message are a request of their bytes
-pub pairs-made : (new scan : Scan) (n : ℕ) (pairs buffer last s m : List ℕ) → new .phase ≡ Open → new .len ≡ 0
+-- pairs that were read into a buffer with room for the least that answers for all are answered like their bytes
+pub pairs-made : (least : ℕ) (made : List ℕ → Effect) → ((n : ℕ) (x : List ℕ) → least ≤ n → made (take n x) ≡ made x)
+    → (new scan : Scan) (n : ℕ) (pairs buffer last : List ℕ) → new .phase ≡ Open → new .len ≡ 0
     → scan .len ≡ filled (length buffer) (new .len) (bytesOf (new .phase) pairs) → last ≡ kept (new .len) (bytesOf (new .phase) pairs) buffer
-    → n ≡ min (scan .len) (length last) → 267 ≤ length buffer → requestMade (take n last) s m ≡ requestMade (bytesOf Open pairs) s m
-pairs-made new scan n pairs buffer last s m P Z L K N room =
+    → n ≡ min (scan .len) (length last) → least ≤ length buffer → made (take n last) ≡ made (bytesOf Open pairs)
+pairs-made least made front new scan n pairs buffer last P Z L K N room =
     let len : scan .len ≡ filled (length buffer) 0 (bytesOf Open pairs) = L ∙ ap (λ (j : ℕ). filled (length buffer) j (bytesOf (new .phase) pairs)) Z ∙ ap (λ (p : Phase). filled (length buffer) 0 (bytesOf p pairs)) P in
     let bytes : last ≡ kept 0 (bytesOf Open pairs) buffer = K ∙ ap (λ (j : ℕ). kept j (bytesOf (new .phase) pairs) buffer) Z ∙ ap (λ (p : Phase). kept 0 (bytesOf p pairs) buffer) P in
-    let front : take n last ≡ take (length buffer) (bytesOf Open pairs) =
+    let first : take n last ≡ take (length buffer) (bytesOf Open pairs) =
     ap (λ (j : ℕ). take j last) N ∙ take-at-most (scan .len) last ∙ ap (λ (j : ℕ). take j last) len ∙ ap (take (filled (length buffer) 0 (bytesOf Open pairs))) bytes ∙ reads-pairs .kept-start (bytesOf Open pairs) buffer in
-    ap (λ (l : List ℕ). requestMade l s m) front ∙ made-front (length buffer) (bytesOf Open pairs) s m room
+    ap made first ∙ front (length buffer) (bytesOf Open pairs) room
 
 -- what is listed after the word `start`
 pub start-listing : (new r : Listing) (word : ℕ) (line : List ℕ) → new ≡ empty → word ≡ min 5 (length line)

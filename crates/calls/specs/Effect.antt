@@ -6,6 +6,7 @@ use lib.ListN.{length}
 use Rattle.lists.specs.Buffer.{overlay}
 use Rattle.state.specs.Layout.{capacity}
 use Rattle.format.specs.Sizes.{messageBytes}
+use Rattle.fields.specs.Written.{lineBytes}
 
 -- the bytes of the lent memory
 abbrev pub memorySize : ℕ
@@ -14,6 +15,10 @@ memorySize = capacity
 -- the bytes of a buffer for a reply or a notice, and of the longest message
 abbrev pub messageSize : ℕ
 messageSize = messageBytes
+
+-- the bytes of a buffer for a text line, and of the longest text line
+abbrev pub lineSize : ℕ
+lineSize = lineBytes
 
 -- no line prints more bytes
 abbrev pub longestText : ℕ

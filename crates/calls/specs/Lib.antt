@@ -2,4 +2,5 @@
 pub mod Effect
 pub mod Words
 pub mod Listing
+pub mod Shown
 pub mod Meaning

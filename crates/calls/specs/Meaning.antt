@@ -8,10 +8,10 @@ use Rattle.format.specs.declared.outcome.Outcome.{Outcome}
 use Rattle.format.specs.Outcome.{numberOf}
 use Rattle.state.specs.Records.{processAt, startOf}
 use Rattle.state.specs.Layout.{capacity, extentAt, slot}
-use Rattle.rules.specs.Step.{request, report}
+use Rattle.rules.specs.Step.{request, report, textLine}
 use Rattle.state_bytes.specs.State.{stateOf}
 use Rattle.gateway.specs.Called.{Called, StartResult, callOn, machineStored, startOn}
-use Rattle.gateway.specs.Lengths.{replyLength, noticeLength}
+use Rattle.gateway.specs.Lengths.{replyLength, noticeLength, lineLength}
 use Rattle.lines.specs.declared.scan.Phase.{Phase}
 use Rattle.lines.specs.Hex.{pairsLine}
 use Rattle.lines.specs.Scan.{full}
@@ -21,9 +21,12 @@ use Rattle.decimal.specs.Read.{begun, behind, endsLine}
 use Rattle.display.specs.Answer.{answerLine}
 use Rattle.display.specs.Line.{processLine}
 use Rattle.calls.specs.declared.listing.Listing.{Listing}
+use Rattle.calls.specs.declared.text.Shown.{Shown}
+use Rattle.calls.specs.declared.text.Shown.the-variants.{Recorded}
 use Rattle.calls.specs.Listing.{empty, listed, complete}
 use Rattle.calls.specs.Words.{processIn, kindIn, reasonIn, wordsOf, reportIn}
-use Rattle.calls.specs.Effect.{Effect, effect, messageSize}
+use Rattle.calls.specs.Shown.{textShown, reportShown}
+use Rattle.calls.specs.Effect.{Effect, effect, messageSize, lineSize}
 use Rattle.process.specs.Sizes.{memoryBytes}
 
 -- any line that is no call prints a question mark and changes nothing
@@ -34,30 +37,58 @@ unknownEffect s m = effect s m (63 ∷ 10 ∷ [])
 unfoldable pub ifRight : Bool → Effect → List ℕ → List ℕ → Effect
 ifRight right e s m = cond right e (unknownEffect s m)
 
--- the buffer that is lent to each call: all zero
+-- the buffer that is lent to each call for a reply or a notice: all zero
 unfoldable pub zeroBuffer : List ℕ
 zeroBuffer = replicate messageSize 0
 
--- a call of the gateway prints its number and the bytes that it wrote, count of its outcome
-unfoldable pub answered : (Outcome → ℕ) → Called → Effect
-answered count x = effect (x .state) (x .memory) (answerLine (numberOf (x .outcome)) (take (count (x .outcome)) (x .buffer)))
+-- the buffer that is lent to each call for a text line: all zero
+unfoldable pub zeroLine : List ℕ
+zeroLine = replicate lineSize 0
+
+-- a request prints its number and its reply
+unfoldable pub requestAnswered : Called → Effect
+requestAnswered x = effect (x .state) (x .memory) (answerLine (numberOf (x .outcome)) (take (replyLength (x .outcome)) (x .buffer)))
 
 -- the call that requests by a message
 unfoldable pub requestMade : List ℕ → List ℕ → List ℕ → Effect
-requestMade message s m = answered replyLength (callOn s m (request message zeroBuffer))
+requestMade message s m = requestAnswered (callOn s m (request message zeroBuffer))
 
 -- request HEX HEX ..: the pairs led to this phase, and the message is their bytes
 unfoldable pub requestEffect : Phase → List ℕ → List ℕ → List ℕ → Effect
 requestEffect phase message s m = ifRight (full phase) (requestMade message s m) s m
 
+-- a report prints its number, its notice and the line that it answers
+unfoldable pub reportAnswered : Shown → Called → Effect
+reportAnswered shown x =
+    effect (x .state) (x .memory)
+    (reportShown shown (numberOf (x .outcome)) (take (noticeLength (x .outcome)) (x .buffer)) (take (x .lineLength) (x .line)))
+
 -- the call that reports an event of the machine
-unfoldable pub reportMade : ℕ → ℕ → ℕ → List ℕ → List ℕ → List ℕ → Effect
-reportMade p kind reason words s m = answered noticeLength (callOn s m (report p kind reason words zeroBuffer))
+unfoldable pub reportMade : Shown → ℕ → ℕ → ℕ → List ℕ → List ℕ → List ℕ → Effect
+reportMade shown p kind reason words s m = reportAnswered shown (callOn s m (report p kind reason words zeroBuffer zeroLine))
 
 -- report P KIND REASON W0 .. W8
-unfoldable pub reportEffect : List ℕ → List ℕ → List ℕ → Effect
-reportEffect line s m =
-    ifRight (reportIn line) (reportMade (processIn line .value) (kindIn line .value) (reasonIn line .value) (wordsOf 9 line (reasonIn line)) s m) s m
+unfoldable pub reportEffect : Shown → List ℕ → List ℕ → List ℕ → Effect
+reportEffect shown line s m =
+    ifRight (reportIn line)
+    (reportMade shown (processIn line .value) (kindIn line .value) (reasonIn line .value) (wordsOf 9 line (reasonIn line)) s m) s m
+
+-- a text line prints what answers it
+unfoldable pub textAnswered : Shown → Called → Effect
+textAnswered shown x =
+    effect (x .state) (x .memory) (textShown shown (numberOf (x .outcome)) (take (lineLength (x .outcome) (x .buffer)) (x .buffer)))
+
+-- the call that hands over a text line
+unfoldable pub textMade : Shown → List ℕ → List ℕ → List ℕ → Effect
+textMade shown text s m = textAnswered shown (callOn s m (textLine text zeroLine))
+
+-- line TEXT: 'all behind `line `, with a newline added, is the line'
+unfoldable pub textEffect : Shown → List ℕ → List ℕ → List ℕ → Effect
+textEffect shown text s m = textMade shown (text ++ (10 ∷ [])) s m
+
+-- raw HEX HEX ..: the pairs led to this phase, and 'these bytes are the line'
+unfoldable pub rawEffect : Phase → List ℕ → List ℕ → List ℕ → Effect
+rawEffect phase text s m = ifRight (full phase) (textMade Recorded text s m) s m
 
 -- a number as a line
 unfoldable pub numberLine : ℕ → List ℕ

@@ -8,6 +8,9 @@ use crate::number::read_report;
 use crate::show::answer_unknown;
 use crate::show::ends_within;
 use crate::show::place;
+use crate::text::Shown;
+use crate::text::put_beside;
+use crate::text::zero_line;
 use decimal::Number;
 use decimal::put_number;
 use display::put_answer;
@@ -29,7 +32,7 @@ ghost use Rattle.lines.specs.Scan.{bytesOf};
 ghost use Rattle.calls.specs.Effect.{longestText, Prints, Does};
 ghost use Rattle.calls.specs.Meaning.{zeroBuffer, requestMade, requestEffect, reportMade, reportEffect, numberLine, startMade, startEffect, storeEffect};
 
-// The buffer that is lent to a call.
+// The buffer that is lent to a call for a reply or a notice.
 fn zero_buffer() -> [u8; MESSAGE]
     ensures { λ r. ⌜ r ≡ zeroBuffer ⌝ }
 {
@@ -72,8 +75,9 @@ pub fn answer_request(
     make_request(state, memory, &message[..n], out)
 }
 
-// Makes a report of the machine, and puts its answer as a line.
+// Makes a report of the machine, and puts its answer as a line, with the text line that it answers in the place of the newline.
 fn make_report(
+    shown: Shown,
     state: &mut [u8; STATE],
     memory: &mut [u8; MEMORY],
     pid: u8,
@@ -83,23 +87,37 @@ fn make_report(
     out: &mut [u8],
 ) -> usize
     requires { ⌜ longestText ≤ length (now out) ⌝ }
-    ensures { λ r. ⌜ Does (reportMade pid kind reason words (now (state .entry)) (now (memory .entry))) r (now (state .exit)) (now (memory .exit)) (now (out .entry)) (now (out .exit)) ⌝ }
+    ensures { λ r. ⌜ Does (reportMade shown pid kind reason words (now (state .entry)) (now (memory .entry))) r (now (state .exit)) (now (memory .exit)) (now (out .entry)) (now (out .exit)) ⌝ }
 {
     let mut notice = zero_buffer();
-    let outcome = report(state, memory, pid, kind, reason, words, &mut notice);
+    let mut line = zero_line();
+    let told = report(
+        state,
+        memory,
+        pid,
+        kind,
+        reason,
+        words,
+        &mut notice,
+        &mut line,
+    );
+    let outcome = told.outcome;
     let n = at_most(notice_length(outcome), &notice);
-    put_answer(outcome.number(), &notice[..n], out)
+    let end = put_answer(outcome.number(), &notice[..n], out);
+    let k = at_most(told.line, &line);
+    put_beside(shown, &line[..k], end - 1, out)
 }
 
 // report P KIND REASON W0 .. W8
 pub fn answer_report(
+    shown: Shown,
     state: &mut [u8; STATE],
     memory: &mut [u8; MEMORY],
     line: &[u8],
     out: &mut [u8],
 ) -> usize
     requires { ⌜ longestText ≤ length (now out) ⌝ }
-    ensures { λ r. ⌜ Does (reportEffect (now (line .entry)) (now (state .entry)) (now (memory .entry))) r (now (state .exit)) (now (memory .exit)) (now (out .entry)) (now (out .exit)) ⌝ }
+    ensures { λ r. ⌜ Does (reportEffect shown (now (line .entry)) (now (state .entry)) (now (memory .entry))) r (now (state .exit)) (now (memory .exit)) (now (out .entry)) (now (out .exit)) ⌝ }
 {
     let read = read_report(line);
     let words = read.words;
@@ -107,6 +125,7 @@ pub fn answer_report(
         return answer_unknown(state, memory, out);
     }
     make_report(
+        shown,
         state,
         memory,
         read.process,

@@ -4,11 +4,13 @@ mod call;
 mod listing;
 mod number;
 mod show;
+mod text;
 
 pub use call::answer_report;
 pub use call::answer_request;
 pub use call::answer_start;
 pub use call::answer_store;
+use fields::LINE_BYTES;
 use format::MESSAGE_BYTES;
 pub use show::answer_memory;
 pub use show::answer_process;
@@ -16,6 +18,9 @@ pub use show::answer_unknown;
 pub use show::answer_whole;
 use state::CAPACITY;
 use state_bytes::STATE_BYTES;
+pub use text::Shown;
+pub use text::answer_raw;
+pub use text::answer_text;
 
 // The bytes of a state.
 pub const STATE: usize = STATE_BYTES;
@@ -25,5 +30,9 @@ pub const MEMORY: usize = CAPACITY;
 pub const MESSAGE: usize = MESSAGE_BYTES;
 // One byte more than the longest message: a longer one is answered like its first so many bytes.
 const KEPT: usize = 267;
+// The bytes of a buffer for a text line, and of the longest text line.
+const LINE: usize = LINE_BYTES;
+// One byte more than the longest text line: a longer one is answered like its first so many bytes.
+const LINE_KEPT: usize = 36;
 // No line prints more bytes.
 pub const LONGEST_TEXT: usize = 16384;

@@ -12,7 +12,7 @@ use Rattle.process.specs.Find.{find}
 use Rattle.process.specs.Planting.{plantedIn, liftedIn, removedFrom, replanted, liftedAt}
 use Rattle.process.specs.Record.{fresh}
 use Rattle.run_state.specs.RunState.{accepts, goesOn, runAfter}
-use Rattle.process.specs.Report.{storeVectorAndReplant, passes, verdictOf, passed, reported, recipientOf}
+use Rattle.process.specs.Report.{storeVectorAndReplant, passes, verdictOf, passed, reported, recipientOf, answerOf}
 use Rattle.process.specs.Request.{hasBreak, hasRoom, examined, deposited, vectorAfter, breakSet, breakRemoved, created, cleared}
 use Rattle.breakpoints.specs.Seen.{restored, seen, savedFrom, overlaySavedByte, overlaySavedWord}
 use Rattle.process.specs.Request.{sheltered}
@@ -27,10 +27,12 @@ use Rattle.state.specs.Layout.{used, usedBefore, startIsUnique, placed, laidOut
 use Rattle.rules.specs.Rule.{public, ruleOf, names, sizeAsked}
 use Rattle.rules.specs.Window.{putInPlace, putLast, takenOut}
 use Rattle.rules.specs.Run.{run}
+use Rattle.rules.specs.TextRule.{owedLine}
+use Rattle.session.specs.Session.{sessionSound}
 use Rattle.rules.specs.Step.{stored, put, grantedNamed, grantedCreate, granted, refused, requestStep, noticeTo, notified, reportStep, step}
 use Rattle.rules.specs.Tests.{askedTests, requestNumber, reportNumber}
 use Rattle.cases.specs.Cases.{CasesHold}
 
 pub cases-hold : CasesHold
-unfolding CasesHold overlay lowFirst vectorOf cantOf createdOf noticeOf written headerOf stringOf fixedRight firstFailing fieldsRight carriedLength wrongLength wrongHeader misfits rowOf requestForm matches find plantedIn liftedIn removedFrom replanted liftedAt fresh accepts goesOn storeVectorAndReplant passes verdictOf recipientOf passed runAfter reported hasBreak hasRoom examined deposited vectorAfter breakSet breakRemoved created cleared restored seen savedFrom sheltered overlaySavedByte overlaySavedWord validBreakAddress absentHasNoHost liftSound usedSound entrySound soundTest validSize keepsRules freshProcess freshProcesses freshStarts freshStart total used usedBefore startIsUnique placed laidOut recordsSound soundState slot withSlot closed startWithout startsWithout public ruleOf names sizeAsked run putInPlace putLast takenOut stored put grantedNamed grantedCreate granted refused requestStep noticeTo notified reportStep step lowestAbsent askedTests requestNumber reportNumber
+unfolding CasesHold overlay lowFirst vectorOf cantOf createdOf noticeOf written headerOf stringOf fixedRight firstFailing fieldsRight carriedLength wrongLength wrongHeader misfits rowOf requestForm matches find plantedIn liftedIn removedFrom replanted liftedAt fresh accepts goesOn storeVectorAndReplant passes verdictOf recipientOf answerOf owedLine passed runAfter reported hasBreak hasRoom examined deposited vectorAfter breakSet breakRemoved created cleared restored seen savedFrom sheltered overlaySavedByte overlaySavedWord validBreakAddress absentHasNoHost liftSound usedSound entrySound soundTest validSize keepsRules sessionSound freshProcess freshProcesses freshStarts freshStart total used usedBefore startIsUnique placed laidOut recordsSound soundState slot withSlot closed startWithout startsWithout public ruleOf names sizeAsked run putInPlace putLast takenOut stored put grantedNamed grantedCreate granted refused requestStep noticeTo notified reportStep step lowestAbsent askedTests requestNumber reportNumber
 cases-hold = refl

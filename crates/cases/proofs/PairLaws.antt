@@ -26,7 +26,7 @@ use Rattle.process.specs.Find.{find}
 use Rattle.process.specs.Planting.{plantedIn, liftedIn, removedFrom, replanted, liftedAt}
 use Rattle.process.specs.Record.{fresh}
 use Rattle.run_state.specs.RunState.{accepts, goesOn, runAfter}
-use Rattle.process.specs.Report.{storeVectorAndReplant, passes, verdictOf, recipientOf, passed, reported}
+use Rattle.process.specs.Report.{storeVectorAndReplant, passes, verdictOf, recipientOf, answerOf, passed, reported}
 use Rattle.process.specs.Request.{hasBreak, hasRoom, examined, deposited, vectorAfter, breakSet, breakRemoved, created, cleared}
 use Rattle.breakpoints.specs.Seen.{restored, seen, savedFrom, overlaySavedByte, overlaySavedWord}
 use Rattle.process.specs.Request.{sheltered}
@@ -36,12 +36,14 @@ use Rattle.state.specs.Layout.{used, usedBefore, startIsUnique, placed, laidOut
 use Rattle.rules.specs.Rule.{public, ruleOf, names, sizeAsked}
 use Rattle.rules.specs.Window.{putInPlace, putLast, takenOut}
 use Rattle.rules.specs.Run.{run}
+use Rattle.rules.specs.TextRule.{owedLine}
+use Rattle.session.specs.Session.{sessionSound}
 use Rattle.rules.specs.Step.{put, grantedNamed, grantedCreate, granted, refused, requestStep, noticeTo, notified, reportStep, step}
 use Rattle.rules.specs.Tests.{askedTests, requestNumber, reportNumber}
 use Rattle.rules.specs.Tests.{State}
 use Rattle.rules.specs.Step.{Answer, localOf, stored}
 use Rattle.rules.specs.Access.{insider}
-use Rattle.rules.specs.Isolation.{namesOne, asker, subject, event, passedOver, fieldsOf, isOne, isGranted, publicThen, toldOf, noticed, sentTo, part, heard, struck, withoutData, strike}
+use Rattle.rules.specs.Isolation.{namesOne, asker, subject, event, passedOver, fieldsOf, isOne, isGranted, publicThen, toldOf, noticed, lineSent, sentTo, part, heard, struck, withoutData, strike}
 use Rattle.rules.specs.Outsider.{Never}
 use Rattle.cases.specs.Pair.{one, other, PremisesMet}
 
@@ -69,7 +71,7 @@ each F a b c d e f g h (suc (suc (suc (suc (suc (suc (suc zero))))))) l = h
 each F a b c d e f g h (suc (suc (suc (suc (suc (suc (suc (suc p)))))))) l = absurd (omega arith)
 
 pub premises-met : PremisesMet
-unfolding namesOne asker subject event passedOver isOne struck withoutData strike fieldsOf insider isGranted publicThen toldOf Never stored heard part sentTo noticed lengthOf overlay lowFirst cantOf createdOf noticeOf written headerOf stringOf fixedRight numberOf firstFailing fieldsRight carriedLength wrongLength wrongHeader misfits rowOf requestForm matches find plantedIn liftedIn removedFrom replanted liftedAt fresh accepts goesOn storeVectorAndReplant passes verdictOf recipientOf passed runAfter reported hasBreak hasRoom examined deposited vectorAfter breakSet breakRemoved created cleared restored seen savedFrom sheltered overlaySavedByte overlaySavedWord validBreakAddress absentHasNoHost liftSound usedSound entrySound soundTest validSize keepsRules freshProcess freshProcesses freshStarts freshStart total used usedBefore startIsUnique placed laidOut recordsSound soundState slot withSlot closed startWithout startsWithout public ruleOf names sizeAsked run putInPlace putLast takenOut put grantedNamed grantedCreate granted refused requestStep noticeTo notified reportStep step lowestAbsent askedTests requestNumber reportNumber
+unfolding namesOne asker subject event passedOver isOne struck withoutData strike fieldsOf insider isGranted publicThen toldOf Never stored heard part sentTo noticed lineSent lengthOf overlay lowFirst cantOf createdOf noticeOf written headerOf stringOf fixedRight numberOf firstFailing fieldsRight carriedLength wrongLength wrongHeader misfits rowOf requestForm matches find plantedIn liftedIn removedFrom replanted liftedAt fresh accepts goesOn storeVectorAndReplant passes verdictOf recipientOf answerOf owedLine passed runAfter reported hasBreak hasRoom examined deposited vectorAfter breakSet breakRemoved created cleared restored seen savedFrom sheltered overlaySavedByte overlaySavedWord validBreakAddress absentHasNoHost liftSound usedSound entrySound soundTest validSize keepsRules sessionSound freshProcess freshProcesses freshStarts freshStart total used usedBefore startIsUnique placed laidOut recordsSound soundState slot withSlot closed startWithout startsWithout public ruleOf names sizeAsked run putInPlace putLast takenOut put grantedNamed grantedCreate granted refused requestStep noticeTo notified reportStep step lowestAbsent askedTests requestNumber reportNumber
 premises-met = record {
   one-ready = record { memory = refl; processes = refl; starts = refl; entries = eight one refl; sound = refl };
   other-ready = record { memory = refl; processes = refl; starts = refl; entries = eight other refl; sound = refl };

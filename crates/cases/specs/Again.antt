@@ -14,14 +14,15 @@ use Rattle.process.specs.Record.{fresh}
 use Rattle.state.specs.Records.{Records, withProcess}
 use Rattle.state.specs.Fresh.{freshStart}
 use Rattle.rules.specs.Tests.{State}
-use Rattle.rules.specs.Access.{grants, refuses}
+use Rattle.rules.specs.Access.{alone, grants, refuses}
 use Rattle.rules.specs.Step.{Answer, Call, report, store}
+use Rattle.rules.specs.Turn.{single}
 use Rattle.rules.specs.Run.{run}
 use Rattle.rules.specs.Total.{oneOf}
 use Rattle.rules.specs.Isolation.{Hosts, Processes, heard}
 use Rattle.rules.specs.Outsider.{only}
 use Rattle.rules.specs.Together.{withoutTheirs, callsOf, TwoRuns}
-use Rattle.cases.specs.Case.{buffer, asked}
+use Rattle.cases.specs.Case.{buffer, lineBuffer, asked}
 use Rattle.cases.specs.Cases.{zeros}
 
 -- the two laptops
@@ -67,7 +68,7 @@ deposit host p string = asked host DEPOSIT p 0 2 string
 
 -- a report of a kind about a process
 abbrev pub reportOf : ℕ → ℕ → Call
-reportOf p kind = report p kind 0 (1 ∷ 2 ∷ 3 ∷ 4 ∷ 5 ∷ 6 ∷ 7 ∷ 8 ∷ 9 ∷ []) buffer
+reportOf p kind = report p kind 0 (1 ∷ 2 ∷ 3 ∷ 4 ∷ 5 ∷ 6 ∷ 7 ∷ 8 ∷ 9 ∷ []) buffer lineBuffer
 
 -- process 2 is created again for host 5: it looks into it, deposits, lets it run until it traps; the machine stores; both look into it
 abbrev pub again : List Call
@@ -121,13 +122,18 @@ oneRest = (examine 9 2 ∷ oneFirst) ++ (destroy ∷ examine 6 3 ∷ store 2 1 8
 
 -- ---- what the laptops receive
 
--- a reply or notice with these fields
+-- a reply with these fields
 abbrev pub answered : ℕ → ℕ → ℕ → ℕ → List ℕ → Answer
-answered host cmd pid arg2 string = grants (written (record { host = host; cmd = cmd; pid = pid; arg1 = 0; arg2 = arg2 }) string) buffer
+answered host cmd pid arg2 string = grants (alone (written (record { host = host; cmd = cmd; pid = pid; arg1 = 0; arg2 = arg2 }) string)) (single buffer)
+
+-- the notice of a TRAP, with this vector; no line is answered beside it
+abbrev pub trapped : ℕ → ℕ → List ℕ → Answer
+trapped host pid string =
+    grants (alone (written (record { host = host; cmd = NOTICE; pid = pid; arg1 = 0; arg2 = 0 }) string)) (record { own = buffer; line = lineBuffer })
 
 -- a CAN'T with this number
 abbrev pub cannot : ℕ → ℕ → ℕ → ℕ → ℕ → Answer
-cannot number host cmd pid arg2 = refuses number (written (record { host = host; cmd = CANT + cmd; pid = pid; arg1 = 0; arg2 = arg2 }) []) buffer
+cannot number host cmd pid arg2 = refuses number (written (record { host = host; cmd = CANT + cmd; pid = pid; arg1 = 0; arg2 = arg2 }) []) (single buffer)
 
 -- together, in their order: what was in process 3 before it moved, zeros after CREATE whatever was there, the notice, what was deposited and
 -- stored
@@ -140,7 +146,7 @@ received =
     ∷ answered 5 EXAMINE 2 2 (0 ∷ 0 ∷ [])
     ∷ answered 5 DEPOSIT 2 2 []
     ∷ answered 5 RESUME 2 0 []
-    ∷ answered 5 NOTICE 2 0 (1 ∷ 0 ∷ 2 ∷ 0 ∷ 3 ∷ 0 ∷ 4 ∷ 0 ∷ 5 ∷ 0 ∷ 6 ∷ 0 ∷ 7 ∷ 0 ∷ 8 ∷ 0 ∷ 9 ∷ 0 ∷ [])
+    ∷ trapped 5 2 (1 ∷ 0 ∷ 2 ∷ 0 ∷ 3 ∷ 0 ∷ 4 ∷ 0 ∷ 5 ∷ 0 ∷ 6 ∷ 0 ∷ 7 ∷ 0 ∷ 8 ∷ 0 ∷ 9 ∷ 0 ∷ [])
     ∷ answered 5 EXAMINE 2 2 (1 ∷ 3 ∷ [])
     ∷ cannot 8 6 EXAMINE 2 2
     ∷ cannot 8 6 DEBUG 4 0

@@ -16,11 +16,14 @@ use Rattle.state.specs.Fresh.{freshStart}
 use Rattle.rules.specs.Step.{Call, request}
 use Rattle.rules.specs.Run.{TraceItem, run}
 use Rattle.format.specs.Sizes.{messageBytes}
+use Rattle.fields.specs.Written.{lineBytes}
 
--- what is seen of a call: its outcome, its whole buffer after it, and what is looked at in memory and in the records after it
+-- what is seen of a call: its outcome, its whole buffers after it, and what is looked at in memory and in the records after it
 pub record Seen : Type 0 where
   pub outcome : Outcome
   pub buffer : List ℕ
+  pub lineLength : ℕ
+  pub line : List ℕ
   pub memory : List ℕ
   pub records : List ℕ
 
@@ -42,6 +45,8 @@ abbrev pub seenOf : List ℕ → (Records → List ℕ) → TraceItem → Seen
 seenOf places looks e = record {
   outcome = e .answer .outcome;
   buffer = e .answer .buffer;
+  lineLength = e .answer .lineLength;
+  line = e .answer .line;
   memory = map (λ (a : ℕ). getD (e .after .memory) a 0) places;
   records = looks (e .after .records);
 }
@@ -91,6 +96,10 @@ progress g =
 abbrev pub buffer : List ℕ
 buffer = replicate messageBytes 170
 
+-- and every line buffer with these
+abbrev pub lineBuffer : List ℕ
+lineBuffer = replicate lineBytes 170
+
 -- a request with this message
 abbrev pub sent : List ℕ → Call
 sent m = request m buffer
@@ -101,12 +110,30 @@ asked host cmd pid arg1 arg2 string = sent (written (record { host = host; cmd =
 
 -- what is to be seen: granted or refused with this number, these bytes laid over the buffer, and what is looked at
 abbrev pub answer : ℕ → List ℕ → List ℕ → List ℕ → Seen
-answer number bytes memory records = record { outcome = outcome number (length bytes); buffer = overlay bytes buffer; memory = memory; records = records }
+answer number bytes memory records = record {
+  outcome = outcome number (length bytes);
+  buffer = overlay bytes buffer;
+  lineLength = 0;
+  line = [];
+  memory = memory;
+  records = records;
+}
 
--- the same where the call is granted and its buffer untouched
+-- the same of a report that is granted, and answers no line
+abbrev pub noticed : List ℕ → List ℕ → List ℕ → Seen
+noticed bytes memory records = record {
+  outcome = outcome 0 (length bytes);
+  buffer = overlay bytes buffer;
+  lineLength = 0;
+  line = lineBuffer;
+  memory = memory;
+  records = records;
+}
+
+-- the same of a report whose buffers are untouched
 abbrev pub silent : List ℕ → List ℕ → Seen
-silent memory records = record { outcome = outcome 0 0; buffer = buffer; memory = memory; records = records }
+silent memory records = noticed [] memory records
 
 -- the same of a store, which has no buffer
 abbrev pub stored : List ℕ → List ℕ → Seen
-stored memory records = record { outcome = outcome 0 0; buffer = []; memory = memory; records = records }
+stored memory records = record { outcome = outcome 0 0; buffer = []; lineLength = 0; line = []; memory = memory; records = records }

@@ -6,7 +6,7 @@ use Prim.Native.Nat.{ℕ}
 use lib.ListN.{replicate, set}
 use Rattle.run_state.specs.ReportKind.{BPT, TTRAP}
 use Rattle.rules.specs.Step.{Call, report, store}
-use Rattle.cases.specs.Case.{Case, Seen, outcomes, nothing, debuggers, vector, counts, saved, begins, moves, progress, buffer, sent, asked, answer, silent, stored}
+use Rattle.cases.specs.Case.{Case, Seen, outcomes, nothing, debuggers, vector, counts, saved, begins, moves, progress, buffer, lineBuffer, sent, asked, answer, noticed, silent, stored}
 use Rattle.state.specs.Layout.{capacity}
 
 -- process 2 alone
@@ -124,7 +124,7 @@ words = 1 ∷ 2 ∷ 3 ∷ 4 ∷ 5 ∷ 6 ∷ 7 ∷ 256 ∷ 513 ∷ []
 
 -- a BPT report of process 2 with that vector
 abbrev pub reached : Call
-reached = report 2 BPT 0 words buffer
+reached = report 2 BPT 0 words buffer lineBuffer
 
 -- the vector after the instruction at 256, of two bytes
 abbrev pub wordsThen : List ℕ
@@ -132,7 +132,7 @@ wordsThen = 1 ∷ 2 ∷ 3 ∷ 4 ∷ 5 ∷ 6 ∷ 7 ∷ 258 ∷ 513 ∷ []
 
 -- a TTRAP report of process 2 with that vector
 abbrev pub executed : Call
-executed = report 2 TTRAP 0 wordsThen buffer
+executed = report 2 TTRAP 0 wordsThen buffer lineBuffer
 
 -- P10: 'Count 2, running: the first two BPT reports there send nothing, the third sends ..', and 'Case P10 becomes BPT, TTRAP, BPT, TTRAP,
 -- BPT'. After each of the first two BPT reports it is passing with the word put back, after each TTRAP it runs with the breakpoint planted
@@ -151,7 +151,7 @@ countCase = record {
       ∷ silent (3 ∷ 0 ∷ []) (0 ∷ 1 ∷ 0 ∷ wordsThen)
       ∷ silent (18 ∷ 52 ∷ []) (5 ∷ 0 ∷ 1 ∷ words)
       ∷ silent (3 ∷ 0 ∷ []) (0 ∷ 0 ∷ 0 ∷ wordsThen)
-      ∷ answer 0 (0 ∷ 5 ∷ 255 ∷ 0 ∷ 66 ∷ 2 ∷ 0 ∷ 0 ∷ 0 ∷ 0 ∷ 1 ∷ 0 ∷ 2 ∷ 0 ∷ 3 ∷ 0 ∷ 4 ∷ 0 ∷ 5 ∷ 0 ∷ 6 ∷ 0 ∷ 7 ∷ 0 ∷ 0 ∷ 1 ∷ 1 ∷ 2 ∷ []) (3 ∷ 0 ∷ []) (3 ∷ 0 ∷ 0 ∷ words)
+      ∷ noticed (0 ∷ 5 ∷ 255 ∷ 0 ∷ 66 ∷ 2 ∷ 0 ∷ 0 ∷ 0 ∷ 0 ∷ 1 ∷ 0 ∷ 2 ∷ 0 ∷ 3 ∷ 0 ∷ 4 ∷ 0 ∷ 5 ∷ 0 ∷ 6 ∷ 0 ∷ 7 ∷ 0 ∷ 0 ∷ 1 ∷ 1 ∷ 2 ∷ []) (3 ∷ 0 ∷ []) (3 ∷ 0 ∷ 0 ∷ words)
       ∷ [];
 }
 

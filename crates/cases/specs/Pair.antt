@@ -15,7 +15,7 @@ use Rattle.rules.specs.Ready.{Ready}
 use Rattle.rules.specs.Run.{run}
 use Rattle.rules.specs.Isolation.{Alike, heard}
 use Rattle.rules.specs.Outsider.{only, Differ, Outside}
-use Rattle.cases.specs.Case.{buffer, asked}
+use Rattle.cases.specs.Case.{buffer, lineBuffer, asked}
 use Rattle.cases.specs.Cases.{whole, zeros}
 
 -- processes 2 and 3, which begin at 0 and at 4,096
@@ -36,7 +36,7 @@ closing = asked 5 6 2 0 1 [] ∷ asked 5 1 2 0 0 [] ∷ asked 5 6 3 0 2 [] ∷ [
 
 -- a HALT report of process 2
 abbrev pub halt : Call
-halt = report 2 1 0 (1 ∷ 2 ∷ 3 ∷ 4 ∷ 5 ∷ 6 ∷ 7 ∷ 8 ∷ 9 ∷ []) buffer
+halt = report 2 1 0 (1 ∷ 2 ∷ 3 ∷ 4 ∷ 5 ∷ 6 ∷ 7 ∷ 8 ∷ 9 ∷ []) buffer lineBuffer
 
 -- a DEPOSIT of two bytes into process 2 by host 6, with any string
 abbrev pub deposit : List ℕ → Call

@@ -1,5 +1,6 @@
 // The tests 8 to 12 of a request that names a process, by its op code.
 use crate::decision::Decision;
+use crate::rights::debugs;
 use breakpoints::EntryQuery;
 use breakpoints::valid_break_address;
 use format::Header;
@@ -30,7 +31,7 @@ fn right(cmd: u8, process: Process, asker: u8) -> bool
     ensures { λ r. ⌜ r ≡ ruleOf cmd .right (public process) asker ⌝ }
 {
     if cmd != DEBUG {
-        return process.host == asker;
+        return debugs(process, asker);
     }
     process.host == 0 || process.host == asker
 }

@@ -102,3 +102,8 @@ pub fn bench() {
 pub fn replay() {
     run(Language::Recording);
 }
+
+// Each line is a text line, or a call of a recording.
+pub fn text_door() {
+    run(Language::TextDoor);
+}

@@ -9,6 +9,9 @@ use Rattle.run_state.specs.declared.Run.{Run}
 use Rattle.breakpoints.specs.declared.entry.Breakpoint.{Breakpoint}
 use Rattle.process.specs.declared.record.Process.{Process}
 use Rattle.run_state.specs.RunState.{runNumber}
+use Rattle.session.specs.declared.Owed.{Owed}
+use Rattle.session.specs.declared.Session.{Session}
+use Rattle.session.specs.Session.{owedLetter, owes}
 use Rattle.decimal.specs.Numeral.{numeral, field}
 
 -- a word after a blank
@@ -31,17 +34,31 @@ named name n = name ++ field 32 n
 abbrev pub sizeName : List ℕ
 sizeName = 32 ∷ 115 ∷ 105 ∷ 122 ∷ 101 ∷ []
 
+-- ' owed '
+abbrev pub owedName : List ℕ
+owedName = 32 ∷ 111 ∷ 119 ∷ 101 ∷ 100 ∷ 32 ∷ []
+
 -- ' begin'
 abbrev pub beginName : List ℕ
 beginName = 32 ∷ 98 ∷ 101 ∷ 103 ∷ 105 ∷ 110 ∷ []
+
+-- '`-`, or the letter `c` or `s` of the request whose answer is owed'
+unfoldable pub owedShown : Owed → ℕ
+owedShown o = cond (owes o) (owedLetter o) 45
+
+-- what belongs to the debugging session: the owed answer after its name
+unfoldable pub sessionText : Session → List ℕ
+sessionText s = owedName ++ (owedShown (s .owed) ∷ [])
 
 -- 'where its bytes begin; 0 where it is absent'
 abbrev pub beginShown : Bool → ℕ → ℕ
 beginShown there start = cond there start 0
 
--- then the nine words, then the eight entries, then the size
+-- then the nine words, then the eight entries, then the size, then the session
 unfoldable pub recordText : Process → List ℕ
-recordText p = ((headText (p .there) (p .host) (p .run) ++ joined wordText (p .vector)) ++ joined entryText (p .breaks)) ++ named sizeName (p .size)
+recordText p =
+    (((headText (p .there) (p .host) (p .run) ++ joined wordText (p .vector)) ++ joined entryText (p .breaks)) ++ named sizeName (p .size))
+    ++ sessionText (p .session)
 
 -- the record of a process, then where its bytes begin, as a line with its newline
 unfoldable pub processLine : Process → ℕ → List ℕ

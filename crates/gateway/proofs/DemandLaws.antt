@@ -8,9 +8,10 @@ use Rattle.format.specs.declared.outcome.Outcome.{Outcome}
 use Rattle.format.specs.declared.outcome.Outcome.the-variants.{Granted, Refused}
 use Rattle.format.specs.Outcome.{numberOf}
 use Rattle.format.proofs.OutcomeLaws.{numberOf-outcome, outcome-other}
-use Rattle.rules.specs.Tests.{State, noRoom}
-use Rattle.rules.specs.Step.{Call, request, report, store, step, localOf}
-use Rattle.rules.specs.Turn.{bufferOf}
+use Rattle.rules.specs.Tests.{State, noRoom, noReportRoom, noLineRoom}
+use Rattle.rules.specs.Window.{Buffers}
+use Rattle.rules.specs.Step.{Call, request, report, store, textLine, step, localOf}
+use Rattle.rules.specs.Turn.{single, buffersOf}
 use Rattle.rules.specs.Run.{TraceItem, run, leave}
 use Rattle.rules.specs.Total.{oneOf, numbersOf}
 use Rattle.rules.specs.Isolation.{isGranted, heard, theirs}
@@ -24,12 +25,14 @@ use Rattle.rules.proofs.CreateLaws.{create-rule}
 use Rattle.rules.proofs.DestroyLaws.{destroy-rule, nothing-is-left}
 use Rattle.rules.proofs.LedgerLaws.{ledger}
 use Rattle.rules.proofs.LoopLaws.{loops}
+use Rattle.rules.proofs.OwedLaws.{owed-answers}
 use Rattle.state_bytes.specs.State.{stateFormed, stateSound}
-use Rattle.gateway.specs.Called.{Called, called, finished, lentOn, refusedBy, callOn, machineStored, Did}
+use Rattle.gateway.specs.Called.{Called, reportCalled, finished, badlyLent, lentOn, refusedBy, callOn, machineStored, Did}
 use Rattle.gateway.specs.Sequence.{Begins, Made, readFrom}
 use Rattle.gateway.specs.Demands.{TotalOnBytes, ListsOnBytes, Demands}
-use Rattle.gateway.proofs.LentLaws.{request-unfit, report-unfit}
-use Rattle.gateway.proofs.SequenceLaws.{did-begins, done-run, fresh-begins, passed-begins}
+use Rattle.gateway.proofs.LentLaws.{request-unfit, report-unfit, line-unfit}
+use Rattle.gateway.proofs.ReportLaws.{both}
+use Rattle.gateway.proofs.SequenceLaws.{did-begins, done-run, fresh-begins, passed-begins, passed-line-begins}
 
 -- ---- demand 1 on any bytes
 
@@ -39,10 +42,10 @@ record Answered (state memory : List ℕ) (numbers : List ℕ) (x : Called) : Ty
   refused : (numberOf (x .outcome) ≡ 0 → ⊥) → (x .state ≡ state) × (x .memory ≡ memory)
 
 -- bytes that are no state's are refused with 1 or 2
-unformed : (state memory buffer numbers : List ℕ) → oneOf numbers 1 ≡ true → oneOf numbers 2 ≡ true → stateFormed state ≡ false
-    → Answered state memory numbers (refusedBy (lentOn state memory buffer) state memory buffer)
+unformed : (state memory : List ℕ) (short : Bool) (b : Buffers) (numbers : List ℕ) → oneOf numbers 1 ≡ true → oneOf numbers 2 ≡ true → stateFormed state ≡ false
+    → Answered state memory numbers (refusedBy (lentOn state short) state memory b)
 unfolding lentOn stateSound
-unformed state memory buffer numbers one two f = record { listed = rw (numberOf-outcome (lentOn state memory buffer) 0, f) (go (noRoom memory buffer)); refused = λ n. (refl, refl) }
+unformed state memory short b numbers one two f = record { listed = rw (numberOf-outcome (lentOn state short) 0, f) (go short); refused = λ n. (refl, refl) }
   where
     go : (t : Bool) → oneOf numbers (cond t 1 2) ≡ true
     go true = one
@@ -73,26 +76,32 @@ module _ (state memory : List ℕ) (c : Call) where
     where
       go : (t : Bool) → stateFormed state ≡ t → Answered state memory (numbersOf c) (callOn state memory c)
       go true f = rw f formed
-      go false f = rw f (unformed state memory (bufferOf c) (numbersOf c) one two f)
+      go false f = rw f (unformed state memory (badlyLent memory c) (buffersOf c) (numbersOf c) one two f)
 
 answered : (state memory : List ℕ) (c : Call) (x : Called) → Did state memory c x → Answered state memory (numbersOf c) x
 unfolding Did numbersOf machineStored numberOf
 answered state memory (request m buffer) x d = call-answered state memory (request m buffer) refl refl x d
-answered state memory (report p kind reason words buffer) x d = call-answered state memory (report p kind reason words buffer) refl refl x d
+answered state memory (report p kind reason words buffer line) x d = call-answered state memory (report p kind reason words buffer line) refl refl x d
 answered state memory (store p a v) x d = rw (d .1) (record { listed = refl; refused = λ n. absurd (n refl) })
+answered state memory (textLine text buffer) x d = call-answered state memory (textLine text buffer) refl refl x d
 
-refused-by : (state memory buffer : List ℕ) → (lentOn state memory buffer ≡ 0 → ⊥)
-    → called (Refused (lentOn state memory buffer)) state memory buffer ≡ refusedBy (lentOn state memory buffer) state memory buffer
-refused-by state memory buffer n = ap (λ (o : Outcome). called o state memory buffer) (outcome-other (lentOn state memory buffer) 0 n)
+refused-by : (state memory : List ℕ) (b : Buffers) (n : ℕ) → (n ≡ 0 → ⊥) → reportCalled (Refused n) 0 state memory (b .own) (b .line) ≡ refusedBy n state memory b
+refused-by state memory b n z = ap (λ (o : Outcome). reportCalled o 0 state memory (b .own) (b .line)) (outcome-other n 0 z)
 
 total-on-bytes : TotalOnBytes
-unfolding Did
+unfolding Did buffersOf
 total-on-bytes = record {
   listed = λ state memory c x d. answered state memory c x d .listed;
   refused = λ state memory c x d. answered state memory c x d .refused;
-  unfit-request = λ state memory m buffer x d n. d ∙ sym (request-unfit state memory buffer m (lentOn state memory buffer) refl n) ∙ refused-by state memory buffer n;
-  unfit-report = λ state memory p kind reason words buffer x d n.
-      d ∙ sym (report-unfit state memory buffer p kind reason words (lentOn state memory buffer) refl n) ∙ refused-by state memory buffer n;
+  unfit-request = λ state memory m buffer x d n.
+      let k = lentOn state (noRoom memory buffer) in
+      d ∙ sym (request-unfit state memory m buffer k refl n) ∙ refused-by state memory (single buffer) k n;
+  unfit-report = λ state memory p kind reason words buffer line x d n.
+      let k = lentOn state (noReportRoom memory buffer line) in
+      d ∙ sym (report-unfit state memory p kind reason words buffer line k refl n) ∙ refused-by state memory (both buffer line) k n;
+  unfit-line = λ state memory text buffer x d n.
+      let k = lentOn state (noLineRoom memory buffer) in
+      d ∙ sym (line-unfit state memory text buffer k refl n) ∙ refused-by state memory (single buffer) k n;
 }
 
 -- ---- lists
@@ -143,7 +152,7 @@ made-runs state memory b l es m = m .trace ∙ done-run state memory b l (m .typ
 
 pub demands : Demands
 demands = record {
-  starts = record { fresh = λ there sizes state memory long right. fresh-begins there sizes long right state memory; passed = passed-begins; after = did-begins };
+  starts = record { fresh = λ there sizes state memory long right. fresh-begins there sizes long right state memory; passed = passed-begins; passed-line = passed-line-begins; after = did-begins };
   total-on-bytes = total-on-bytes;
   lists = lists-on-bytes Made made-runs;
   total = total;
@@ -152,4 +161,5 @@ demands = record {
   one-memory = record { free-bytes = free-bytes; create = create-rule; destroy = destroy-rule; nothing-is-left = nothing-is-left };
   ledger = ledger;
   loops = loops;
+  owed-answers = owed-answers;
 }

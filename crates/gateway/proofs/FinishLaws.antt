@@ -6,7 +6,6 @@ use mathlib.Core.List.{List, []}
 use Prim.Native.Nat.{ℕ, _<_}
 use lib.ListN.{set, length-set}
 use Rattle.lists.specs.Buffer.{Bytes}
-use Rattle.format.specs.declared.outcome.Outcome.{Outcome}
 use Rattle.process.specs.declared.record.Process.{Process}
 use Rattle.process.specs.Local.{Local, local}
 use Rattle.state.specs.Records.{Records, startOf, withProcess, withStart}
@@ -17,14 +16,18 @@ use Rattle.rules.specs.Window.{putInPlace, putLast, takenOut}
 use Rattle.rules.specs.Step.{Answer, StepResult, localOf, put}
 use Rattle.rules.proofs.StateLaws.{put-is, put-stays, put-same}
 use Rattle.rules.specs.Isolation.{isGranted}
-use Rattle.service.specs.At.{ProcessResult, answer, served}
+use Rattle.service.specs.At.{ProcessResult, leaving}
 use Rattle.state_bytes.specs.State.{stateBytes, stateOf, stateFormed, withProcessBytes, withStartBytes, withStartsBytes}
 use Rattle.state_bytes.specs.Theorems.{Sized}
 use Rattle.state_bytes.proofs.StartLaws.{eight-starts}
 use Rattle.state_bytes.proofs.StateLaws.{inverse}
-use Rattle.gateway.specs.Called.{called, finished}
+use Rattle.gateway.specs.Called.{Called, reportCalled, finished}
 use Rattle.gateway.proofs.AskedLaws.{stepped, unmoved}
 use Rattle.gateway.proofs.ReadyLaws.{read-sized}
+
+-- what a call answered, with the bytes of state and memory that it left
+abbrev pub leaves : Answer → List ℕ → List ℕ → Called
+leaves a state memory = reportCalled (a .outcome) (a .lineLength) state memory (a .buffer) (a .line)
 
 -- ---- a record put into the bytes of a state whose starts were written before it
 
@@ -67,61 +70,62 @@ module _ (state memory : List ℕ) (bytes : Bytes state) (formed : stateFormed s
   kept-bytes true = inverse .read-is-written state bytes formed
   kept-bytes false = refl
 
-  pub finished-unmoved : (o : Outcome) (buffer : List ℕ) (a : Answer) → answer o buffer ≡ a → (y : StepResult) → y ≡ unmoved a s
-      → called o state memory buffer ≡ finished state y
+  pub finished-unmoved : (a b : Answer) → a ≡ b → (y : StepResult) → y ≡ unmoved b s → leaves a state memory ≡ finished state y
   unfolding finished
-  finished-unmoved o buffer a e y i = rw (i, ← e, kept-bytes (isGranted o))
+  finished-unmoved a b e y i = rw (i, ← e, kept-bytes (isGranted (a .outcome)))
 
   -- ---- a call at process p
 
-  module _ (p : ℕ) (o : Outcome) (q : Process) (part buffer : List ℕ) (x : ProcessResult) (e : served o q part buffer ≡ x) (y : StepResult) (i : y ≡ stepped p x s) where
+  module _ (p : ℕ) (a : Answer) (q : Process) (part : List ℕ) (x : ProcessResult) (e : leaving a (local q part) ≡ x) (y : StepResult) (i : y ≡ stepped p x s) where
+    abbrev granted : Bool
+    granted = isGranted (a .outcome)
+
     -- where the call is granted, the rules put this state
-    finished-put : (t : State) → put p (local q part) s ≡ t
-        → called o (cond (isGranted o) (stateBytes (t .records)) state) (t .memory) buffer ≡ finished state y
+    finished-put : (t : State) → put p (local q part) s ≡ t → leaves a (cond granted (stateBytes (t .records)) state) (t .memory) ≡ finished state y
     unfolding finished
     finished-put t k = rw (i, ← e, k)
 
     -- the process stays where it lies
     pub finished-served : p < 8 → q .there ≡ recordOf s p .there
-        → called o (cond (isGranted o) (withProcessBytes p q state) state) (withSlot (startOf (stateOf state) p) part memory) buffer ≡ finished state y
+        → leaves a (cond granted (withProcessBytes p q state) state) (withSlot (startOf (stateOf state) p) part memory) ≡ finished state y
     unfolding putInPlace
     finished-served low stays =
         rw (← inverse .put-is-with state bytes formed p q low) (finished-put (putInPlace p (local q part) s) (put-stays p (local q part) s stays))
 
     -- it goes
-    finished-gone : recordOf s p .there ≡ true → q .there ≡ false → isGranted o ≡ true
-        → called o (stateBytes (takenOut p (local q []) s .records)) (takenOut p (local q []) s .memory) buffer ≡ finished state y
+    finished-gone : recordOf s p .there ≡ true → q .there ≡ false → granted ≡ true
+        → leaves a (stateBytes (takenOut p (local q []) s .records)) (takenOut p (local q []) s .memory) ≡ finished state y
     unfolding takenOut
-    finished-gone there absent granted =
-        rw granted at (finished-put (takenOut p (local q part) s) (put-is p (local q part) s true false there absent))
+    finished-gone there absent g =
+        rw g at (finished-put (takenOut p (local q part) s) (put-is p (local q part) s true false there absent))
 
     -- it comes
-    pub finished-last : recordOf s p .there ≡ false → q .there ≡ true → isGranted o ≡ true
-        → called o (stateBytes (putLast p (local q part) s .records)) (withSlot (used (stateOf state)) part memory) buffer ≡ finished state y
+    pub finished-last : recordOf s p .there ≡ false → q .there ≡ true → granted ≡ true
+        → leaves a (stateBytes (putLast p (local q part) s .records)) (withSlot (used (stateOf state)) part memory) ≡ finished state y
     unfolding putLast
-    finished-last absent there granted =
-        rw granted at (finished-put (putLast p (local q part) s) (put-is p (local q part) s false true absent there))
+    finished-last absent there g =
+        rw g at (finished-put (putLast p (local q part) s) (put-is p (local q part) s false true absent there))
 
     -- it is left as it was
-    pub finished-kept : x .left ≡ localOf s p → called o state (withSlot (startOf (stateOf state) p) part memory) buffer ≡ finished state y
+    pub finished-kept : x .left ≡ localOf s p → leaves a state (withSlot (startOf (stateOf state) p) part memory) ≡ finished state y
     finished-kept l =
         let same : part ≡ localOf s p .bytes = ap (λ (z : ProcessResult). z .left .bytes) e ∙ ap (λ (z : Local). z .bytes) l in
         let still : stepped p x s ≡ unmoved (x .answer) s = rw (l, put-same p s) in
         rw (same, withSlot-slot (startOf (stateOf state) p) (extentAt (stateOf state) p) memory)
-        (finished-unmoved o buffer (x .answer) (ap (λ (z : ProcessResult). z .answer) e) y (i ∙ still))
+        (finished-unmoved a (x .answer) (ap (λ (z : ProcessResult). z .answer) e) y (i ∙ still))
 
     -- it goes where the call is granted, from a memory that holds these bytes of it, and is left as it was where it is refused
     pub finished-removed : (back : List ℕ) → back ≡ withSlot (startOf (stateOf state) p) part memory
-        → (isGranted o ≡ true → (recordOf s p .there ≡ true) × (q .there ≡ false) × (takenOut p (local q []) (lent (stateOf state) back) ≡ takenOut p (local q []) s))
-        → (isGranted o ≡ false → x .left ≡ localOf s p)
-        → called o (cond (isGranted o) (stateBytes (takenOut p (local q []) (lent (stateOf state) back) .records)) state)
-        (cond (isGranted o) (takenOut p (local q []) (lent (stateOf state) back) .memory) back) buffer
+        → (granted ≡ true → (recordOf s p .there ≡ true) × (q .there ≡ false) × (takenOut p (local q []) (lent (stateOf state) back) ≡ takenOut p (local q []) s))
+        → (granted ≡ false → x .left ≡ localOf s p)
+        → leaves a (cond granted (stateBytes (takenOut p (local q []) (lent (stateOf state) back) .records)) state)
+        (cond granted (takenOut p (local q []) (lent (stateOf state) back) .memory) back)
         ≡ finished state y
-    finished-removed back is gone stays = go (isGranted o) refl
+    finished-removed back is gone stays = go granted refl
       where
-        go : (t : Bool) → isGranted o ≡ t
-            → called o (cond t (stateBytes (takenOut p (local q []) (lent (stateOf state) back) .records)) state)
-            (cond t (takenOut p (local q []) (lent (stateOf state) back) .memory) back) buffer
+        go : (t : Bool) → granted ≡ t
+            → leaves a (cond t (stateBytes (takenOut p (local q []) (lent (stateOf state) back) .records)) state)
+            (cond t (takenOut p (local q []) (lent (stateOf state) back) .memory) back)
             ≡ finished state y
         go true g = rw (gone g .2) (finished-gone (gone g .0) (gone g .1) g)
         go false g = rw is (finished-kept (stays g))

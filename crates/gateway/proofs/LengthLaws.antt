@@ -3,6 +3,8 @@ use mathlib.Core.Path.{_≡_, refl, sym, ap, _∙_}
 use mathlib.Core.Bool.{Bool, true, false, not, cond, true≢false}
 use mathlib.Core.List.{List, []}
 use Prim.Native.Nat.{ℕ, zero, suc}
+use native.Mathlib.Omega.{arith}
+use borrow.Author.Tests.{ne-eqb}
 use lib.ListN.{length, take, drop}
 use lib.Dec.{eqb, ltb}
 use Rattle.lists.specs.Buffer.{overlay}
@@ -11,19 +13,26 @@ use Rattle.lists.proofs.Buffer.{take-overlay, drop-overlay}
 use Rattle.format.specs.declared.header.Header.{Header}
 use Rattle.format.specs.declared.outcome.Outcome.{Outcome}
 use Rattle.format.specs.declared.outcome.Outcome.the-variants.{Granted, Refused}
-use Rattle.format.specs.Outcome.{outcome, numberOf, lengthOf, isGranted}
+use Rattle.format.specs.Outcome.{outcome, firstFailing, numberOf, lengthOf, isGranted}
 use Rattle.format.specs.Layout.{written, headerOf, stringOf}
 use Rattle.format.specs.Answer.{cantOf, createdOf, noticeOf}
 use Rattle.format.proofs.LayoutLaws.{length-written}
 use Rattle.format.proofs.OutcomeLaws.{numberOf-outcome, lengthOf-none}
 use Rattle.rules.specs.Rule.{ruleOf, names, creates}
 use Rattle.state.specs.Records.{lowestAbsent}
-use Rattle.rules.specs.Tests.{State, requestNumber, reportNumber}
-use Rattle.rules.specs.Step.{localOf, put, replied, replyOf, answers, grantedNamed, grantedCreate, granted, refused, requestStep, noticeTo, notified, reportStep, Call, request, report, step}
+use Rattle.fields.specs.declared.read.Line.{Line}
+use Rattle.fields.specs.Read.{lineOf}
+use Rattle.fields.proofs.LineLaws.{reads-heads}
+use Rattle.rules.specs.TextRule.{textRuleOf, failure, owedLine}
+use Rattle.rules.specs.Tests.{State, noLineRoom, unsound, requestNumber, reportNumber, textNumber}
+use Rattle.rules.specs.Step.{Answer, StepResult, plainAnswer, localOf, replied, replyOf, grantedNamed, grantedCreate, granted, refused, requestStep, noticeTo, beside, notified, reportStep, textStep, Call, request, report, step}
+use Rattle.rules.specs.Turn.{buffersOf}
 use Rattle.rules.specs.Total.{cantOver}
+use Rattle.rules.proofs.NumberLaws.{by-test}
 use Rattle.rules.proofs.TotalLaws.{total}
-use Rattle.process.specs.Report.{reported, recipientOf}
-use Rattle.gateway.specs.Lengths.{replyLength, noticeLength, front, Lengths}
+use Rattle.process.specs.Report.{recipientOf, answerOf}
+use Rattle.gateway.specs.Lengths.{replyLength, noticeLength, afterNewline, lineLength, front, textLength, Lengths}
+use Rattle.gateway.proofs.NewlineLaws.{after-written}
 
 -- ---- after what was written
 
@@ -46,13 +55,18 @@ module _ (s : State) (m buffer : List ℕ) where
   request-behind (Refused zero) e = absurd (never-zero s (request m buffer) e)
   request-behind (Refused (suc n)) e = rw (total .request-silent s m buffer n e) (refusal-behind (ltb (suc n) 7))
 
-module _ (s : State) (p kind reason : ℕ) (words buffer : List ℕ) where
-  report-behind : (o : Outcome) → reportStep p kind reason words buffer s .answer .outcome ≡ o
-      → drop (noticeLength o) (reportStep p kind reason words buffer s .answer .buffer) ≡ drop (noticeLength o) buffer
+module _ (s : State) (p kind reason : ℕ) (words buffer line : List ℕ) where
+  report-behind : (o : Outcome) → reportStep p kind reason words buffer line s .answer .outcome ≡ o
+      → drop (noticeLength o) (reportStep p kind reason words buffer line s .answer .buffer) ≡ drop (noticeLength o) buffer
   unfolding noticeLength lengthOf step
-  report-behind (Granted n) e = total .report-past s p kind reason words buffer n e
-  report-behind (Refused zero) e = absurd (never-zero s (report p kind reason words buffer) e)
-  report-behind (Refused (suc n)) e = rw (total .report-silent s p kind reason words buffer n e)
+  report-behind (Granted n) e = total .report-past s p kind reason words buffer line n e
+  report-behind (Refused zero) e = absurd (never-zero s (report p kind reason words buffer line) e)
+  report-behind (Refused (suc n)) e = rw (total .report-silent s p kind reason words buffer line n e)
+
+  report-line-behind : drop (reportStep p kind reason words buffer line s .answer .lineLength) (reportStep p kind reason words buffer line s .answer .line)
+      ≡ drop (reportStep p kind reason words buffer line s .answer .lineLength) line
+  unfolding step buffersOf
+  report-line-behind = total .line-past s (report p kind reason words buffer line)
 
 -- ---- what was written, over any buffer
 
@@ -110,29 +124,139 @@ noticed-front : (host p kind reason : ℕ) (words b c : List ℕ)
 unfolding noticeTo noticeLength lengthOf
 noticed-front host p kind reason words b c = go (not (eqb host 0))
   where
-    go : (t : Bool) → front noticeLength (cond t (replyOf (noticeOf host kind p reason) (lowFirst words) b) (record { outcome = outcome 0 0; buffer = b }))
-        ≡ front noticeLength (cond t (replyOf (noticeOf host kind p reason) (lowFirst words) c) (record { outcome = outcome 0 0; buffer = c }))
+    go : (t : Bool) → front noticeLength (cond t (replyOf (noticeOf host kind p reason) (lowFirst words) b) (plainAnswer (outcome 0 0) b))
+        ≡ front noticeLength (cond t (replyOf (noticeOf host kind p reason) (lowFirst words) c) (plainAnswer (outcome 0 0) c))
     go true = notice-front (noticeOf host kind p reason) (lowFirst words) b ∙ sym (notice-front (noticeOf host kind p reason) (lowFirst words) c)
     go false = refl
 
-same-report : (s : State) (p kind reason : ℕ) (b c : List ℕ) → length b ≡ length c → reportNumber s p kind reason b ≡ reportNumber s p kind reason c
+same-report : (s : State) (p kind reason : ℕ) (b c line other : List ℕ) → length b ≡ length c → length line ≡ length other
+    → reportNumber s p kind reason b line ≡ reportNumber s p kind reason c other
 unfolding reportNumber
-same-report s p kind reason b c e = rw e
+same-report s p kind reason b c line other e i = rw (e, i)
 
-report-front : (s : State) (p kind reason : ℕ) (words b c : List ℕ) → length b ≡ length c
-    → front noticeLength (reportStep p kind reason words b s .answer) ≡ front noticeLength (reportStep p kind reason words c s .answer)
-unfolding reportStep notified noticeLength
-report-front s p kind reason words b c e = rw (same-report s p kind reason b c e) (go (eqb (reportNumber s p kind reason c) 0))
-  where
-    go : (t : Bool) → front noticeLength (cond t (notified p kind reason words b (localOf s p) (put p (reported kind words (localOf s p)) s)) (answers (outcome (reportNumber s p kind reason c) 0) b s) .answer)
-        ≡ front noticeLength (cond t (notified p kind reason words c (localOf s p) (put p (reported kind words (localOf s p)) s)) (answers (outcome (reportNumber s p kind reason c) 0) c s) .answer)
-    go true = noticed-front (recipientOf kind words (localOf s p)) p kind reason words b c
-    go false = rw (lengthOf-none (reportNumber s p kind reason c))
+module _ (s : State) (p kind reason : ℕ) (words : List ℕ) where
+  -- a report, by its number
+  reported-by : ℕ → List ℕ → List ℕ → Answer
+  reported-by n buffer line =
+      cond (eqb n 0) (notified p kind reason words buffer line (localOf s p)) (beside [] line (plainAnswer (outcome n 0) buffer))
+
+  answer-by : (buffer line : List ℕ) → reportStep p kind reason words buffer line s .answer ≡ reported-by (reportNumber s p kind reason buffer line) buffer line
+  unfolding reportStep reported-by
+  answer-by buffer line = by-test (λ (x : StepResult). x .answer ≡ reported-by (reportNumber s p kind reason buffer line) buffer line) (eqb (reportNumber s p kind reason buffer line) 0)
+      (λ e. rw e) (λ e. rw e)
+
+  front-by : (n : ℕ) (b c line : List ℕ) → front noticeLength (reported-by n b line) ≡ front noticeLength (reported-by n c line)
+  unfolding reported-by notified noticeLength
+  front-by n b c line = go (eqb n 0)
+    where
+      go : (t : Bool) → front noticeLength (cond t (notified p kind reason words b line (localOf s p)) (beside [] line (plainAnswer (outcome n 0) b)))
+          ≡ front noticeLength (cond t (notified p kind reason words c line (localOf s p)) (beside [] line (plainAnswer (outcome n 0) c)))
+      go true = noticed-front (recipientOf kind words (localOf s p)) p kind reason words b c
+      go false = rw (lengthOf-none n)
+
+  report-front : (b c line : List ℕ) → length b ≡ length c
+      → front noticeLength (reportStep p kind reason words b line s .answer) ≡ front noticeLength (reportStep p kind reason words c line s .answer)
+  report-front b c line e =
+      ap (front noticeLength) (answer-by b line) ∙ rw (same-report s p kind reason b c line line e refl) (front-by (reportNumber s p kind reason c line) b c line)
+      ∙ ap (front noticeLength) (sym (answer-by c line))
+
+  -- the line that it sends, over any line buffer
+  line-by : ℕ → List ℕ
+  line-by n = cond (eqb n 0) (owedLine p kind (answerOf kind words (localOf s p))) []
+
+  lines-by : (n : ℕ) (buffer line : List ℕ) → take (reported-by n buffer line .lineLength) (reported-by n buffer line .line) ≡ line-by n
+  unfolding reported-by notified line-by
+  lines-by n buffer line = go (eqb n 0)
+    where
+      go : (t : Bool)
+          → take (cond t (notified p kind reason words buffer line (localOf s p)) (beside [] line (plainAnswer (outcome n 0) buffer)) .lineLength)
+          (cond t (notified p kind reason words buffer line (localOf s p)) (beside [] line (plainAnswer (outcome n 0) buffer)) .line)
+          ≡ cond t (owedLine p kind (answerOf kind words (localOf s p))) []
+      go true = take-overlay (owedLine p kind (answerOf kind words (localOf s p))) line
+      go false = refl
+
+  report-line : (buffer line : List ℕ)
+      → take (reportStep p kind reason words buffer line s .answer .lineLength) (reportStep p kind reason words buffer line s .answer .line)
+      ≡ line-by (reportNumber s p kind reason buffer line)
+  report-line buffer line =
+      ap (λ (a : Answer). take (a .lineLength) (a .line)) (answer-by buffer line) ∙ lines-by (reportNumber s p kind reason buffer line) buffer line
+
+  report-line-front : (buffer b c : List ℕ) → length b ≡ length c
+      → take (reportStep p kind reason words buffer b s .answer .lineLength) (reportStep p kind reason words buffer b s .answer .line)
+      ≡ take (reportStep p kind reason words buffer c s .answer .lineLength) (reportStep p kind reason words buffer c s .answer .line)
+  report-line-front buffer b c e =
+      report-line buffer b ∙ ap line-by (same-report s p kind reason buffer buffer b c refl e) ∙ sym (report-line buffer c)
+
+-- ---- the answer to a text line
+
+module _ (s : State) (text : List ℕ) where
+  abbrev x : Line
+  x = lineOf text
+
+  -- what is written, by the number
+  line-bytes : ℕ → List ℕ
+  line-bytes n = cond (eqb n 0) (textRuleOf (x .letter) .reply x (localOf s (x .pid))) (failure x n)
+
+  answer-is : (buffer : List ℕ) (n : ℕ) → textNumber s text buffer ≡ n
+      → textStep text buffer s .answer ≡ plainAnswer (outcome n (length (line-bytes 0))) (overlay (line-bytes n) buffer)
+  unfolding textStep line-bytes
+  answer-is buffer zero e = rw e
+  answer-is buffer (suc n) e = rw (e, ne-eqb (suc n) 0 (λ z. omega (arith, z)))
+
+  -- from 100 on the line could be read so far that it has a letter
+  headed-high : (buffer : List ℕ) → ltb (textNumber s text buffer) 100 ≡ false → x .headed ≡ true
+  unfolding textNumber firstFailing
+  headed-high buffer h = go (noLineRoom (s .memory) buffer) (unsound s) (x .headed) _ h
+    where
+      go : (a b t : Bool) (n : ℕ) → ltb (cond a 1 (cond b 2 (cond (not t) 6 n))) 100 ≡ false → t ≡ true
+      go true b t n e = absurd (true≢false e)
+      go false true t n e = absurd (true≢false e)
+      go false false true n e = refl
+      go false false false n e = absurd (true≢false e)
+
+  failure-counted : (n : ℕ) (buffer : List ℕ) → (ltb n 100 ≡ false → x .headed ≡ true) → (t : Bool) → ltb n 100 ≡ t
+      → cond t 0 (afterNewline (overlay (failure x n) buffer)) ≡ length (failure x n)
+  unfolding failure overlay
+  failure-counted n buffer h true e = rw e
+  failure-counted n buffer h false e = rw e (after-written _ (reads-heads .read-is-head text (h e) .2) _)
+
+  bytes-counted : (n : ℕ) (buffer : List ℕ) → (ltb n 100 ≡ false → x .headed ≡ true)
+      → lineLength (outcome n (length (line-bytes 0))) (overlay (line-bytes n) buffer) ≡ length (line-bytes n)
+  unfolding lineLength numberOf lengthOf line-bytes
+  bytes-counted zero buffer h = refl
+  bytes-counted (suc n) buffer h = rw (ne-eqb (suc n) 0 (λ z. omega (arith, z))) (failure-counted (suc n) buffer h (ltb (suc n) 100) refl)
+
+  -- that many bytes are counted
+  counted : (buffer : List ℕ) → textLength (textStep text buffer s .answer) ≡ length (line-bytes (textNumber s text buffer))
+  counted buffer = rw (answer-is buffer (textNumber s text buffer) refl) (bytes-counted (textNumber s text buffer) buffer (headed-high buffer))
+
+  laid : (buffer : List ℕ) → textStep text buffer s .answer .buffer ≡ overlay (line-bytes (textNumber s text buffer)) buffer
+  laid buffer = ap (λ (a : Answer). a .buffer) (answer-is buffer (textNumber s text buffer) refl)
+
+  line-behind : (buffer : List ℕ)
+      → drop (textLength (textStep text buffer s .answer)) (textStep text buffer s .answer .buffer) ≡ drop (textLength (textStep text buffer s .answer)) buffer
+  line-behind buffer = rw (counted buffer, laid buffer) (drop-overlay (line-bytes (textNumber s text buffer)) buffer)
+
+  same-line : (b c : List ℕ) → length b ≡ length c → textNumber s text b ≡ textNumber s text c
+  unfolding textNumber
+  same-line b c e = rw e
+
+  line-written : (buffer : List ℕ) → take (textLength (textStep text buffer s .answer)) (textStep text buffer s .answer .buffer) ≡ line-bytes (textNumber s text buffer)
+  line-written buffer = rw (counted buffer, laid buffer) (take-overlay (line-bytes (textNumber s text buffer)) buffer)
+
+  line-front : (b c : List ℕ) → length b ≡ length c
+      → take (textLength (textStep text b s .answer)) (textStep text b s .answer .buffer)
+      ≡ take (textLength (textStep text c s .answer)) (textStep text c s .answer .buffer)
+  line-front b c e = line-written b ∙ ap line-bytes (same-line b c e) ∙ sym (line-written c)
 
 pub lengths : Lengths
 lengths = record {
   request-behind = λ s m buffer. request-behind s m buffer (requestStep m buffer s .answer .outcome) refl;
-  report-behind = λ s p kind reason words buffer. report-behind s p kind reason words buffer (reportStep p kind reason words buffer s .answer .outcome) refl;
+  report-behind = λ s p kind reason words buffer line. report-behind s p kind reason words buffer line (reportStep p kind reason words buffer line s .answer .outcome) refl;
+  line-behind = line-behind;
   request-front = request-front;
   report-front = report-front;
+  line-front = line-front;
+  report-line-behind = report-line-behind;
+  report-line-front = report-line-front;
 }

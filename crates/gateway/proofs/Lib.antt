@@ -3,9 +3,11 @@ pub mod PartLaws
 pub mod StageLaws
 pub mod AskedLaws
 pub mod ReportLaws
+pub mod TextLaws
 pub mod ReadyLaws
 pub mod LentLaws
 pub mod FinishLaws
+pub mod NewlineLaws
 pub mod LengthLaws
 pub mod SequenceLaws
 pub mod DemandLaws

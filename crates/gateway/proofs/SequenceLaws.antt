@@ -21,9 +21,9 @@ use Rattle.state.specs.Theorems.{FreshIsSound}
 use Rattle.state.proofs.MemoryLaws.{set-slot}
 use Rattle.state.proofs.SoundLaws.{state-passes}
 use Rattle.state.proofs.FreshLaws.{fresh-is-sound, length-freshProcesses, getD-freshProcesses, length-freshStarts}
-use Rattle.rules.specs.Tests.{State, lent, recordOf}
+use Rattle.rules.specs.Tests.{State, lent, recordOf, noRoom, noLineRoom}
 use Rattle.rules.specs.Window.{putInPlace}
-use Rattle.rules.specs.Step.{Answer, StepResult, Call, request, report, store, stored, localOf, step}
+use Rattle.rules.specs.Step.{Answer, StepResult, Call, request, report, store, textLine, stored, localOf, step}
 use Rattle.rules.specs.Ready.{Ready, Worded, Typed}
 use Rattle.rules.specs.Run.{TraceItem, traceItem, run}
 use Rattle.rules.specs.Isolation.{isGranted}
@@ -37,7 +37,7 @@ use Rattle.state_bytes.proofs.StateLaws.{inverse, eight-at}
 use Rattle.gateway.specs.Called.{Called, finished, callOn, machineStored, lentOn, startOn, Did}
 use Rattle.gateway.specs.Sequence.{Begins, Done, AllTyped, item, items, readFrom}
 use Rattle.gateway.proofs.ReadyLaws.{read-worded}
-use Rattle.gateway.proofs.LentLaws.{lent-formed, lent-ready}
+use Rattle.gateway.proofs.LentLaws.{request-fits, line-fits}
 
 sized-of : (s : State) → Ready s → Worded s → Sized (s .records)
 sized-of s r w = record { processes = r .processes; vectors = w; entries = r .entries; starts = r .starts }
@@ -126,8 +126,9 @@ store-follows state memory b p a v x h e = rw e (record {
 pub did-follows : (state memory : List ℕ) → Begins state memory → (c : Call) → Typed c → (x : Called) → Did state memory c x → Follows state memory c x
 unfolding Did
 did-follows state memory b (request m buffer) t x d = call-follows state memory b (request m buffer) t x d
-did-follows state memory b (report p kind reason words buffer) t x d = call-follows state memory b (report p kind reason words buffer) t x d
+did-follows state memory b (report p kind reason words buffer line) t x d = call-follows state memory b (report p kind reason words buffer line) t x d
 did-follows state memory b (store p a v) t x d = store-follows state memory b p a v x (d .0) (d .1)
+did-follows state memory b (textLine text buffer) t x d = call-follows state memory b (textLine text buffer) t x d
 
 -- ---- whole lists
 
@@ -188,5 +189,8 @@ module _ (ts : List Bool) (ns : List ℕ) (long : length ts ≡ 8) (right : size
     ready = subst (λ (g : Records). Ready (lent g memory)) (sym (inverse .written-is-read (freshStart ts ns) fresh-sized)) (fresh-ready memory size);
   })
 
-pub passed-begins : (state memory buffer : List ℕ) → lentOn state memory buffer ≡ 0 → Begins state memory
-passed-begins state memory buffer e = record { formed = lent-formed state memory buffer e; ready = lent-ready state memory buffer e }
+pub passed-begins : (state memory buffer : List ℕ) → lentOn state (noRoom memory buffer) ≡ 0 → Begins state memory
+passed-begins state memory buffer e = let fit = request-fits state memory buffer e in record { formed = fit .formed; ready = fit .ready }
+
+pub passed-line-begins : (state memory buffer : List ℕ) → lentOn state (noLineRoom memory buffer) ≡ 0 → Begins state memory
+passed-line-begins state memory buffer e = let fit = line-fits state memory buffer e in record { formed = fit .formed; ready = fit .ready }

@@ -1,13 +1,12 @@
 -- A request stage by stage: refused by what is lent, by its layout, or asked of the state. Assumes nothing.
 use mathlib.Core.Path.{_≡_, refl, sym, _∙_, subst}
-use mathlib.Core.Bool.{Bool, true, false, not, cond}
+use mathlib.Core.Bool.{Bool, true, false, cond}
 use mathlib.Core.List.{List}
-use Prim.Native.Nat.{ℕ, zero, suc, _≤_}
+use Prim.Native.Nat.{ℕ, zero, suc}
 use native.Mathlib.Omega.{arith}
-use borrow.Author.Tests.{ne-eqb, eqb-true, ltb-false, not-false}
+use borrow.Author.Tests.{ne-eqb}
 use lib.ListN.{length}
-use lib.Dec.{eqb, ltb}
-use Rattle.lists.proofs.Bool.{||-left, ||-right}
+use lib.Dec.{ltb}
 use Rattle.format.specs.declared.header.Header.{Header}
 use Rattle.format.specs.declared.outcome.Reading.{Reading}
 use Rattle.format.specs.declared.outcome.Reading.the-variants.{Message}
@@ -18,14 +17,17 @@ use Rattle.format.specs.Refusal.{wrongLength, wrongHeader, unknown, malformed}
 use Rattle.message.specs.Exchange.{readNumber, reads}
 use Rattle.format.specs.declared.outcome.Outcome.the-variants.{Refused as OutcomeRefused}
 use Rattle.format.specs.declared.outcome.Reading.the-variants.{Refused as ReadingRefused}
-use Rattle.format.proofs.OutcomeLaws.{outcome-other, message-header, first-passes, rest-passes}
-use Rattle.state.specs.Records.{Records}
-use Rattle.state.specs.Layout.{capacity}
-use Rattle.state.specs.Sound.{soundTest}
-use Rattle.rules.specs.Tests.{State, lent, noRoom, unsound, askedTests, requestNumber}
-use Rattle.rules.specs.Step.{answers, refused, requestStep}
+use Rattle.format.proofs.OutcomeLaws.{outcome-other, message-header}
+use Rattle.rules.specs.Tests.{State, noRoom, unsound, askedTests, requestNumber}
+use Rattle.rules.specs.Window.{Buffers}
+use Rattle.rules.specs.Step.{StepResult, refused, requestStep}
+use Rattle.rules.specs.Turn.{single}
 use Rattle.rules.proofs.NumberLaws.{orElse}
 use Rattle.gateway.specs.Stage.{lentNumber, asked}
+
+-- refused with this number, and nothing is written
+abbrev pub silent : ℕ → Buffers → State → StepResult
+silent n b s = record { answer = record { outcome = OutcomeRefused n; buffer = b .own; lineLength = 0; line = b .line }; after = s }
 
 -- ---- the number
 
@@ -44,7 +46,7 @@ module _ (s : State) (m buffer : List ℕ) where
   layout : ℕ
   layout = readNumber (requestForm (headerOf m .cmd)) m
 
-  number-stages : requestNumber s m buffer ≡ orElse (lentNumber s buffer) (orElse layout (firstFailing (askedTests (headerOf m) s)))
+  number-stages : requestNumber s m buffer ≡ orElse (lentNumber s (noRoom (s .memory) buffer)) (orElse layout (firstFailing (askedTests (headerOf m) s)))
   unfolding requestNumber lentNumber layout readNumber firstFailing
   number-stages =
       staged (noRoom (s .memory) buffer) (unsound s) (wrongLength (length m)) (wrongHeader (fixedRight m) (headerOf m .host))
@@ -64,14 +66,14 @@ module _ (s : State) (m buffer : List ℕ) where
   low-layout false false false true = refl
   low-layout false false false false = refl
 
-  silent : (n : ℕ) → requestNumber s m buffer ≡ n → (n ≡ 0 → ⊥) → ltb n 7 ≡ true → requestStep m buffer s ≡ answers (OutcomeRefused n) buffer s
+  refused-by : (n : ℕ) → requestNumber s m buffer ≡ n → (n ≡ 0 → ⊥) → ltb n 7 ≡ true → requestStep m buffer s ≡ silent n (single buffer) s
   unfolding requestStep refused
-  silent n e z low = rw (e, ne-eqb n 0 z, low, outcome-other n 0 z)
+  refused-by n e z low = rw (e, ne-eqb n 0 z, low, outcome-other n 0 z)
 
-  pub request-lent : (n : ℕ) → n ≡ lentNumber s buffer → (n ≡ 0 → ⊥) → requestStep m buffer s ≡ answers (OutcomeRefused n) buffer s
+  pub request-lent : (n : ℕ) → n ≡ lentNumber s (noRoom (s .memory) buffer) → (n ≡ 0 → ⊥) → requestStep m buffer s ≡ silent n (single buffer) s
   unfolding lentNumber firstFailing
   request-lent n e z =
-      silent n (number-stages ∙ rw (← e, ne-eqb n 0 z)) z (rw e (low-lent (noRoom (s .memory) buffer) (unsound s)))
+      refused-by n (number-stages ∙ rw (← e, ne-eqb n 0 z)) z (rw e (low-lent (noRoom (s .memory) buffer) (unsound s)))
 
   -- what a reading says of its number
   Read : Reading → Type 0
@@ -87,36 +89,19 @@ module _ (s : State) (m buffer : List ℕ) where
   unfolding reads layout
   read-says r e = subst Read (sym e) (reading-says (readNumber (requestForm (headerOf m .cmd)) m) refl)
 
-  pub request-read : (n : ℕ) → lentNumber s buffer ≡ 0 → ReadingRefused n ≡ reads requestForm m → requestStep m buffer s ≡ answers (OutcomeRefused n) buffer s
+  pub request-read : (n : ℕ) → lentNumber s (noRoom (s .memory) buffer) ≡ 0 → ReadingRefused n ≡ reads requestForm m → requestStep m buffer s ≡ silent n (single buffer) s
   unfolding Read layout readNumber firstFailing
   request-read n z e =
       let r = read-says (ReadingRefused n) e in
-      silent n (number-stages ∙ rw (z, ← r .0, ne-eqb n 0 (r .1))) (r .1)
+      refused-by n (number-stages ∙ rw (z, ← r .0, ne-eqb n 0 (r .1))) (r .1)
       (rw (r .0) (low-layout (wrongLength (length m)) (wrongHeader (fixedRight m) (headerOf m .host))
       (unknown (requestForm (headerOf m .cmd))) (malformed (requestForm (headerOf m .cmd)) (headerOf m) (length m))))
 
   -- ---- a request that was read
 
-  pub request-asked : (h : Header) → lentNumber s buffer ≡ 0 → Message h ≡ reads requestForm m → requestStep m buffer s ≡ asked h (stringOf m) buffer s
+  pub request-asked : (h : Header) → lentNumber s (noRoom (s .memory) buffer) ≡ 0 → Message h ≡ reads requestForm m → requestStep m buffer s ≡ asked h (stringOf m) buffer s
   unfolding requestStep asked Read layout reads
   request-asked h z e =
       let r = read-says (Message h) e in
       let number : requestNumber s m buffer ≡ firstFailing (askedTests (headerOf m) s) = number-stages ∙ rw (z, r) in
       rw (number, message-header (readNumber (requestForm (headerOf m .cmd)) m) (headerOf m) h (sym e))
-
--- ---- what is lent, where the tests 1 and 2 pass
-
-pub record Fit (g : Records) (m buffer : List ℕ) : Type 0 where
-  pub memory : length m ≡ capacity
-  pub room : 266 ≤ length buffer
-  pub sound : soundTest g ≡ true
-
-pub lent-fit : (g : Records) (memory buffer : List ℕ) → lentNumber (lent g memory) buffer ≡ 0 → Fit g memory buffer
-unfolding lentNumber
-lent-fit g memory buffer e =
-    let one = first-passes 0 _ _ e in
-    record {
-      memory = eqb-true (length memory) capacity (not-false _ (||-left _ _ one));
-      room = ltb-false (length buffer) 266 (||-right (not (eqb (length memory) capacity)) _ one);
-      sound = not-false _ (first-passes 1 _ _ (rest-passes 0 _ _ e));
-    }

@@ -1,6 +1,6 @@
 -- A call on a state that is kept as bytes: what it answers, and state, memory and output buffer after it.
 use mathlib.Core.Path.{_≡_}
-use mathlib.Core.Bool.{Bool, cond}
+use mathlib.Core.Bool.{Bool, false, cond}
 use mathlib.Core.List.{List, []}
 use Prim.Native.Nat.{ℕ, _+_, _<_}
 use lib.ListN.{length, set}
@@ -10,42 +10,57 @@ use Rattle.format.specs.Outcome.{outcome}
 use Rattle.state.specs.Records.{startOf}
 use Rattle.state.specs.Layout.{extentAt}
 use Rattle.state.specs.Fresh.{freshStart, sizesRight}
-use Rattle.rules.specs.Tests.{lent, noRoom}
-use Rattle.rules.specs.Step.{StepResult, Call, request, report, store, step}
-use Rattle.rules.specs.Turn.{bufferOf}
+use Rattle.rules.specs.Tests.{lent, noRoom, noReportRoom, noLineRoom}
+use Rattle.rules.specs.Window.{Buffers}
+use Rattle.rules.specs.Step.{StepResult, Call, request, report, store, textLine, step}
+use Rattle.rules.specs.Turn.{buffersOf}
 use Rattle.rules.specs.Isolation.{isGranted}
 use Rattle.state_bytes.specs.Widths.{stateWidth}
 use Rattle.state_bytes.specs.State.{stateBytes, stateOf, stateFormed, stateSound}
 
--- what a call answered, and the bytes that it left in state, memory and output buffer
+-- what a call answered, and the bytes that it left in state, memory and output buffers; of a report also the length of its line
 pub record Called : Type 0 where
   pub outcome : Outcome
   pub state : List ℕ
   pub memory : List ℕ
   pub buffer : List ℕ
+  pub lineLength : ℕ
+  pub line : List ℕ
 
--- the four together
+-- of a call that has no line buffer
 abbrev pub called : Outcome → List ℕ → List ℕ → List ℕ → Called
-called o state memory buffer = record { outcome = o; state = state; memory = memory; buffer = buffer }
+called o state memory buffer = record { outcome = o; state = state; memory = memory; buffer = buffer; lineLength = 0; line = [] }
+
+-- of a report
+abbrev pub reportCalled : Outcome → ℕ → List ℕ → List ℕ → List ℕ → List ℕ → Called
+reportCalled o n state memory buffer line = record { outcome = o; state = state; memory = memory; buffer = buffer; lineLength = n; line = line }
 
 -- refused with this number, and nothing is written
-abbrev pub refusedBy : ℕ → List ℕ → List ℕ → List ℕ → Called
-refusedBy number state memory buffer = called (outcome number 0) state memory buffer
+abbrev pub refusedBy : ℕ → List ℕ → List ℕ → Buffers → Called
+refusedBy number state memory b = reportCalled (outcome number 0) 0 state memory (b .own) (b .line)
 
 -- a step of the rules, on the record that the bytes are the form of; a refused one leaves the bytes
 unfoldable pub finished : List ℕ → StepResult → Called
 finished state x =
-    called (x .answer .outcome) (cond (isGranted (x .answer .outcome)) (stateBytes (x .after .records)) state) (x .after .memory) (x .answer .buffer)
+    reportCalled (x .answer .outcome) (x .answer .lineLength) (cond (isGranted (x .answer .outcome)) (stateBytes (x .after .records)) state)
+    (x .after .memory) (x .answer .buffer) (x .answer .line)
+
+-- the test 1 of a call: what it is lent has a wrong length; a store is lent nothing
+unfoldable pub badlyLent : List ℕ → Call → Bool
+badlyLent memory (request m buffer) = noRoom memory buffer
+badlyLent memory (report p kind reason words buffer line) = noReportRoom memory buffer line
+badlyLent memory (store p a v) = false
+badlyLent memory (textLine text buffer) = noLineRoom memory buffer
 
 -- the tests 1 and 2, which every call makes first
-unfoldable pub lentOn : List ℕ → List ℕ → List ℕ → ℕ
-lentOn state memory buffer = cond (noRoom memory buffer) 1 (cond (stateSound state) 0 2)
+unfoldable pub lentOn : List ℕ → Bool → ℕ
+lentOn state short = cond short 1 (cond (stateSound state) 0 2)
 
 -- a call: the step of the rules on the record that the bytes are the form of; where they are no state's, it is refused by the tests 1 and 2
 unfoldable pub callOn : List ℕ → List ℕ → Call → Called
 callOn state memory c =
     cond (stateFormed state) (finished state (step (lent (stateOf state) memory) c))
-    (refusedBy (lentOn state memory (bufferOf c)) state memory (bufferOf c))
+    (refusedBy (lentOn state (badlyLent memory c)) state memory (buffersOf c))
 
 -- what the machine leaves when it stores a byte at an address of process p, whose bytes begin where the state says: it changes memory alone
 -- and is told nothing
@@ -56,8 +71,9 @@ machineStored p a v state memory = called (outcome 0 0) state (set memory (start
 -- own bytes'
 unfoldable pub Did : List ℕ → List ℕ → Call → Called → Type 0
 Did state memory (request m buffer) x = x ≡ callOn state memory (request m buffer)
-Did state memory (report p kind reason words buffer) x = x ≡ callOn state memory (report p kind reason words buffer)
+Did state memory (report p kind reason words buffer line) x = x ≡ callOn state memory (report p kind reason words buffer line)
 Did state memory (store p a v) x = (a < extentAt (stateOf state) p) × (x ≡ machineStored p a v state memory)
+Did state memory (textLine text buffer) x = x ≡ callOn state memory (textLine text buffer)
 
 -- what a fresh start answers, and the bytes of the state after it
 pub record StartResult : Type 0 where

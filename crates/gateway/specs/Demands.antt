@@ -7,7 +7,9 @@ use lib.ListN.{length}
 use Rattle.format.specs.Outcome.{numberOf}
 use Rattle.state.specs.Layout.{capacity}
 use Rattle.state.specs.Fresh.{sizesRight}
-use Rattle.rules.specs.Step.{Call, request, report, localOf}
+use Rattle.rules.specs.Tests.{noRoom, noReportRoom, noLineRoom}
+use Rattle.rules.specs.Step.{Call, request, report, textLine, localOf}
+use Rattle.rules.specs.Turn.{buffersOf}
 use Rattle.rules.specs.Ready.{Typed}
 use Rattle.rules.specs.Run.{TraceItem, run, leave}
 use Rattle.rules.specs.Total.{Total, oneOf, numbersOf}
@@ -18,6 +20,7 @@ use Rattle.rules.specs.Together.{Away, AlikeRuns, withoutTheirs, callsOf, Isola
 use Rattle.rules.specs.OneMemory.{OneMemory}
 use Rattle.rules.specs.Ledger.{Ledger}
 use Rattle.rules.specs.Loops.{Loops}
+use Rattle.rules.specs.Owed.{OwedAnswers}
 use Rattle.state_bytes.specs.Widths.{stateWidth}
 use Rattle.gateway.specs.Called.{Called, Did, lentOn, refusedBy, startOn}
 use Rattle.gateway.specs.Sequence.{Begins, Made, readFrom}
@@ -27,8 +30,9 @@ pub record Starts : Type 0 where
   -- after a fresh start with right sizes, with a memory of its length
   pub fresh : (there : List Bool) (sizes state memory : List ℕ) → length there ≡ 8 → sizesRight there sizes ≡ true → length state ≡ stateWidth
       → length memory ≡ capacity → Begins (startOn there sizes state .state) memory
-  -- wherever the tests 1 and 2 pass
-  pub passed : (state memory buffer : List ℕ) → lentOn state memory buffer ≡ 0 → Begins state memory
+  -- wherever the tests 1 and 2 pass, of a message or of a text line
+  pub passed : (state memory buffer : List ℕ) → lentOn state (noRoom memory buffer) ≡ 0 → Begins state memory
+  pub passed-line : (state memory buffer : List ℕ) → lentOn state (noLineRoom memory buffer) ≡ 0 → Begins state memory
   -- and after each call of a list
   pub after : (state memory : List ℕ) → Begins state memory → (c : Call) → Typed c → (x : Called) → Did state memory c x → Begins (x .state) (x .memory)
 
@@ -40,11 +44,14 @@ pub record TotalOnBytes : Type 0 where
   pub refused : (state memory : List ℕ) (c : Call) (x : Called) → Did state memory c x → (numberOf (x .outcome) ≡ 0 → ⊥)
       → (x .state ≡ state) × (x .memory ≡ memory)
   -- tests 1 and 2: 'nothing' is written where one fails, and no call does more
-  pub unfit-request : (state memory m buffer : List ℕ) (x : Called) → Did state memory (request m buffer) x → (lentOn state memory buffer ≡ 0 → ⊥)
-      → x ≡ refusedBy (lentOn state memory buffer) state memory buffer
-  pub unfit-report : (state memory : List ℕ) (p kind reason : ℕ) (words buffer : List ℕ) (x : Called)
-      → Did state memory (report p kind reason words buffer) x → (lentOn state memory buffer ≡ 0 → ⊥)
-      → x ≡ refusedBy (lentOn state memory buffer) state memory buffer
+  pub unfit-request : (state memory m buffer : List ℕ) (x : Called) → Did state memory (request m buffer) x → (lentOn state (noRoom memory buffer) ≡ 0 → ⊥)
+      → x ≡ refusedBy (lentOn state (noRoom memory buffer)) state memory (buffersOf (request m buffer))
+  pub unfit-report : (state memory : List ℕ) (p kind reason : ℕ) (words buffer line : List ℕ) (x : Called)
+      → Did state memory (report p kind reason words buffer line) x → (lentOn state (noReportRoom memory buffer line) ≡ 0 → ⊥)
+      → x ≡ refusedBy (lentOn state (noReportRoom memory buffer line)) state memory (buffersOf (report p kind reason words buffer line))
+  pub unfit-line : (state memory text buffer : List ℕ) (x : Called) → Did state memory (textLine text buffer) x
+      → (lentOn state (noLineRoom memory buffer) ≡ 0 → ⊥)
+      → x ≡ refusedBy (lentOn state (noLineRoom memory buffer)) state memory (buffersOf (textLine text buffer))
 
 -- what holds of lists of calls on bytes, however they are made: `made state memory calls trace` says that they were, and what came of it
 pub record ListsOnBytes (made : List ℕ → List ℕ → List Call → List TraceItem → Type 0) : Type 0 where
@@ -90,3 +97,5 @@ pub record Demands : Type 0 where
   pub ledger : Ledger
   -- a breakpoint in a loop comes back
   pub loops : Loops
+  -- a granted `c` or `s` is answered at most once, by the first report that stops or ends the process, unless it is cancelled
+  pub owed-answers : OwedAnswers

@@ -33,7 +33,11 @@ AllTyped (c ∷ cs) = Typed c × AllTyped cs
 
 -- a call with what it answered, and the state that the bytes after it stand for
 abbrev pub item : Call → Called → TraceItem
-item c x = record { call = c; answer = record { outcome = x .outcome; buffer = x .buffer }; after = readFrom (x .state) (x .memory) }
+item c x = record {
+  call = c;
+  answer = record { outcome = x .outcome; buffer = x .buffer; lineLength = x .lineLength; line = x .line };
+  after = readFrom (x .state) (x .memory);
+}
 
 -- the same of a list
 unfoldable pub items : List Call → List Called → List TraceItem

@@ -1,18 +1,27 @@
--- A request stage by stage: what is lent, what the message says, and what is asked of the state.
-use mathlib.Core.Bool.{cond}
+-- A call stage by stage: what is lent, what the message or the line says, and what is asked of the state.
+use mathlib.Core.Bool.{Bool, cond}
 use mathlib.Core.List.{List, [], _∷_}
 use Prim.Native.Nat.{ℕ}
 use lib.Dec.{eqb}
 use Rattle.format.specs.declared.header.Header.{Header}
 use Rattle.format.specs.Outcome.{test, firstFailing}
-use Rattle.rules.specs.Tests.{State, noRoom, unsound, askedTests}
-use Rattle.rules.specs.Step.{StepResult, granted, refused}
+use Rattle.fields.specs.declared.read.Line.{Line}
+use Rattle.rules.specs.Tests.{State, unsound, askedTests}
+use Rattle.rules.specs.Step.{StepResult, localOf, put, granted, refused}
+use Rattle.text_door.specs.At.{textAt}
 
--- the tests 1 and 2, which every call makes first
-unfoldable pub lentNumber : State → List ℕ → ℕ
-lentNumber s buffer = firstFailing (test 1 (noRoom (s .memory) buffer) ∷ test 2 (unsound s) ∷ [])
+-- the tests 1 and 2, which every call makes first; the first fails where what is lent has a wrong length
+unfoldable pub lentNumber : State → Bool → ℕ
+lentNumber s short = firstFailing (test 1 short ∷ test 2 (unsound s) ∷ [])
 
 -- a request whose layout passed: the tests 7 to 13, and what is then granted or refused
 unfoldable pub asked : Header → List ℕ → List ℕ → State → StepResult
 asked h string buffer s =
     cond (eqb (firstFailing (askedTests h s)) 0) (granted h string buffer s) (refused (firstFailing (askedTests h s)) h buffer s)
+
+-- a text line that can be read, to a process with a number under 8: what is answered there, and the process that is left is put back
+unfoldable pub lineStep : Line → List ℕ → State → StepResult
+lineStep x buffer s = record {
+  answer = textAt x buffer (localOf s (x .pid)) .answer;
+  after = put (x .pid) (textAt x buffer (localOf s (x .pid)) .left) s;
+}

@@ -1,22 +1,56 @@
 // The tests 1 and 2, which every call makes first.
+use fields::LINE_BYTES;
 use format::MESSAGE_BYTES;
 use state::CAPACITY;
 use state_bytes::state_sound;
 ghost use mathlib.Core.Path.{_≡_};
+ghost use Rattle.rules.specs.Tests.{noRoom, noReportRoom, noLineRoom};
 ghost use Rattle.gateway.specs.Called.{lentOn};
 
-// Returns 1 where memory or output buffer has the wrong length, 2 where the bytes are not those of a sound state, else 0.
-pub(crate) fn check_buffers_and_state(state: &[u8], memory: &[u8], buffer: &[u8]) -> u8
-    ensures { λ r. ⌜ r ≡ lentOn (now (state .entry)) (now (memory .entry)) (now (buffer .entry)) ⌝ }
+// Returns 1 where what is lent is too short, 2 where the bytes are not those of a sound state, else 0.
+fn check_state(state: &[u8], short: bool) -> u8
+    ensures { λ r. ⌜ r ≡ lentOn (now (state .entry)) short ⌝ }
 {
-    if memory.len() != CAPACITY {
-        return 1;
-    }
-    if buffer.len() < MESSAGE_BYTES {
+    if short {
         return 1;
     }
     if !state_sound(state) {
         return 2;
     }
     0
+}
+
+// The tests of a request: memory has its length, and the buffer room for a message.
+pub(crate) fn check_buffers_and_state(state: &[u8], memory: &[u8], buffer: &[u8]) -> u8
+    ensures { λ r. ⌜ r ≡ lentOn (now (state .entry)) (noRoom (now (memory .entry)) (now (buffer .entry))) ⌝ }
+{
+    if memory.len() != CAPACITY {
+        return 1;
+    }
+    check_state(state, buffer.len() < MESSAGE_BYTES)
+}
+
+// The same of a report, which is lent a line buffer too.
+pub(crate) fn check_report_buffers_and_state(
+    state: &[u8],
+    memory: &[u8],
+    buffer: &[u8],
+    line: &[u8],
+) -> u8
+    ensures { λ r. ⌜ r ≡ lentOn (now (state .entry)) (noReportRoom (now (memory .entry)) (now (buffer .entry)) (now (line .entry))) ⌝ }
+{
+    if line.len() < LINE_BYTES {
+        return 1;
+    }
+    check_buffers_and_state(state, memory, buffer)
+}
+
+// The same of a text line, whose buffer is a line buffer.
+pub(crate) fn check_line_buffer_and_state(state: &[u8], memory: &[u8], out: &[u8]) -> u8
+    ensures { λ r. ⌜ r ≡ lentOn (now (state .entry)) (noLineRoom (now (memory .entry)) (now (out .entry))) ⌝ }
+{
+    if out.len() < LINE_BYTES {
+        return 1;
+    }
+    check_state(state, memory.len() != CAPACITY)
 }

@@ -36,7 +36,7 @@ ghost use Rattle.process.specs.Sizes.{memoryBytes};
 ghost use Rattle.state.specs.Records.{lowestAbsent};
 ghost use Rattle.state.specs.Layout.{capacity, used};
 ghost use Rattle.rules.specs.Rule.{names, creates, sizeAsked};
-ghost use Rattle.rules.specs.Tests.{lent};
+ghost use Rattle.rules.specs.Tests.{lent, noRoom};
 ghost use Rattle.rules.specs.Step.{request};
 ghost use Rattle.state_bytes.specs.State.{stateOf};
 ghost use Rattle.gateway.specs.Stage.{asked};
@@ -52,7 +52,7 @@ fn answer_named(
     reply: &mut [u8],
 ) -> Outcome
     requires { ⌜ (names (h .cmd) ≡ true) × (pid ≡ h .pid) × (pid < 8) ⌝ }
-    requires { ⌜ lentOn (now state) (now memory) (now reply) ≡ 0 ⌝ }
+    requires { ⌜ lentOn (now state) (noRoom (now memory) (now reply)) ≡ 0 ⌝ }
     requires { ⌜ length (now string) ≤ h .arg2 ⌝ }
     ensures { λ r. ⌜ called r (now (state .exit)) (now (memory .exit)) (now (reply .exit)) ≡ finished (now (state .entry)) (asked h (now (string .entry)) (now (reply .entry)) (lent (stateOf (now (state .entry))) (now (memory .entry)))) ⌝ }
 {
@@ -95,7 +95,7 @@ fn create_last(
     reply: &mut [u8],
 ) -> Outcome
     requires { ⌜ (names (h .cmd) ≡ false) × (creates (h .cmd) ≡ true) ⌝ }
-    requires { ⌜ lentOn (now state) (now memory) (now reply) ≡ 0 ⌝ }
+    requires { ⌜ lentOn (now state) (noRoom (now memory) (now reply)) ≡ 0 ⌝ }
     requires { ⌜ (pid ≡ lowestAbsent (stateOf (now state))) × (size ≡ sizeAsked h) × (start ≡ used (stateOf (now state))) ⌝ }
     requires { ⌜ (pid < 8) × (size ≤ memoryBytes) × (start + size ≤ capacity) ⌝ }
     ensures { λ r. ⌜ ((string : List ℕ) → called r (now (state .exit)) (now (memory .exit)) (now (reply .exit)) ≡ finished (now (state .entry)) (asked h string (now (reply .entry)) (lent (stateOf (now (state .entry))) (now (memory .entry))))) ⌝ }
@@ -113,7 +113,7 @@ fn create_last(
 // CREATE: the lowest absent process comes, after the last one, or it is refused with 13. A CREATE carries no string.
 fn answer_new(h: Header, state: &mut [u8], memory: &mut [u8], reply: &mut [u8]) -> Outcome
     requires { ⌜ (names (h .cmd) ≡ false) × (creates (h .cmd) ≡ true) × (sizeAsked h ≤ memoryBytes) ⌝ }
-    requires { ⌜ lentOn (now state) (now memory) (now reply) ≡ 0 ⌝ }
+    requires { ⌜ lentOn (now state) (noRoom (now memory) (now reply)) ≡ 0 ⌝ }
     ensures { λ r. ⌜ ((string : List ℕ) → called r (now (state .exit)) (now (memory .exit)) (now (reply .exit)) ≡ finished (now (state .entry)) (asked h string (now (reply .entry)) (lent (stateOf (now (state .entry))) (now (memory .entry))))) ⌝ }
 {
     let pid = lowest_absent(state);
@@ -135,7 +135,7 @@ fn answer(
     reply: &mut [u8],
 ) -> Outcome
     requires { ⌜ incoming 0 h form ≡ received (now message) ⌝ }
-    requires { ⌜ lentOn (now state) (now memory) (now reply) ≡ 0 ⌝ }
+    requires { ⌜ lentOn (now state) (noRoom (now memory) (now reply)) ≡ 0 ⌝ }
     ensures { λ r. ⌜ called r (now (state .exit)) (now (memory .exit)) (now (reply .exit)) ≡ finished (now (state .entry)) (asked h (stringOf (now (message .entry))) (now (reply .entry)) (lent (stateOf (now (state .entry))) (now (memory .entry)))) ⌝ }
 {
     let target = target_of(form, h);

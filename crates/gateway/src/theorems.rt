@@ -4,14 +4,15 @@ ghost use Rattle.gateway.specs.Demands.{Demands};
 ghost use Rattle.gateway.specs.Lengths.{Lengths};
 
 // Calls of this crate on bytes, one after another with stores by the machine between them, are a run of the rules, from a fresh start or
-// wherever the tests 1 and 2 pass; so demand 1, the rights, demand 3, what CREATE and DESTROY do to the one memory, the ledger of its bytes
-// and that breakpoints in loops come back hold of them. What one call answers and leaves is `Did`, which the contracts of `request` and
-// `report` ensure.
+// wherever the tests 1 and 2 pass; so demand 1, the rights, demand 3, what CREATE and DESTROY do to the one memory, the ledger of its bytes,
+// that breakpoints in loops come back and that a granted `c` or `s` is answered at most once hold of them. What one call answers and leaves is `Did`,
+// which the contracts of `request`, `report` and `text_line` ensure.
 pub fn demands()
     ensures { λ _. ⌜ Demands ⌝ }
 {}
 
-// `reply_length` and `notice_length` count what a call wrote: no byte after it, and every byte before.
+// `reply_length`, `notice_length` and `line_length` count what a call wrote, and so does the length of its line that a report returns: no byte
+// after it, and every byte before.
 pub fn lengths()
     ensures { λ _. ⌜ Lengths ⌝ }
 {}

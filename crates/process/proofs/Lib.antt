@@ -7,6 +7,9 @@ pub mod DepositLaws
 pub mod TestedLaws
 pub mod PlantingLaws
 pub mod ReportLaws
+pub mod KeptLaws
+pub mod AnswerLaws
 pub mod SeenKept
 pub mod SoundKept
 pub mod TheoremLaws
+pub mod ProperLaws

@@ -81,6 +81,24 @@ extent-liftedAt pc l = go (ltb (find (At pc) (l .process)) 8)
     go true = refl
     go false = refl
 
+-- ---- it runs and owes as before
+
+pub run-replanted : (l : Local) → replanted l .process .run ≡ l .process .run
+unfolding replanted plantedIn
+run-replanted l = go (ltb (find Lifted (l .process)) 8)
+  where
+    go : (t : Bool) → cond t (plantedIn (find Lifted (l .process)) (entry (l .process) (find Lifted (l .process))) l) l .process .run ≡ l .process .run
+    go true = refl
+    go false = refl
+
+pub session-replanted : (l : Local) → replanted l .process .session ≡ l .process .session
+unfolding replanted plantedIn
+session-replanted l = go (ltb (find Lifted (l .process)) 8)
+  where
+    go : (t : Bool) → cond t (plantedIn (find Lifted (l .process)) (entry (l .process) (find Lifted (l .process))) l) l .process .session ≡ l .process .session
+    go true = refl
+    go false = refl
+
 -- ---- breakpoints within the bytes
 
 -- another breakpoint in an entry, whose word is within them

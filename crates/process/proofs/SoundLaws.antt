@@ -2,6 +2,7 @@
 use mathlib.Core.Path.{_≡_, refl, sym, ap, _∙_}
 use mathlib.Core.Bool.{Bool, true, false, true≢false}
 use mathlib.Core.List.{List}
+use mathlib.Core.Logic.{_⊎_, inl, inr}
 use Prim.Native.Nat.{ℕ, _+_, _≤_, _<_, _%_}
 use native.Mathlib.Nat.{lt-irrefl}
 use native.Mathlib.Omega.{arith}
@@ -10,10 +11,12 @@ use lib.ListN.{length, getD, getD-replicate}
 use lib.Seq.{getD-set-same, getD-set-other}
 use lib.Dec.{eqb, ltb}
 use Rattle.run_state.specs.declared.Run.{Run}
+use Rattle.session.specs.declared.Owed.{Owed}
+use Rattle.session.specs.Session.{textHost, owes}
 use Rattle.breakpoints.specs.declared.entry.Breakpoint.{Breakpoint}
 use Rattle.process.specs.declared.record.Process.{Process}
 use Rattle.breakpoints.specs.Entry.{free}
-use Rattle.process.specs.Record.{noBreaks, entry, withHost, withRun, withVector, withBreaks, withEntry}
+use Rattle.process.specs.Record.{noBreaks, entry, withHost, withRun, withVector, withBreaks, withEntry, owing}
 use Rattle.process.specs.Sound.{Sound, SizeRight, NoBreakpoints}
 use Rattle.run_state.specs.RunState.{steppingOrPassing}
 
@@ -29,6 +32,7 @@ sound-vector v p s = record {
   within = s .within;
   one-lifted = s .one-lifted;
   lifted-while = s .lifted-while;
+  owed = s .owed;
 }
 
 -- a run state in which what is lifted may be
@@ -42,11 +46,31 @@ sound-run r p m s = record {
   within = s .within;
   one-lifted = s .one-lifted;
   lifted-while = m;
+  owed = s .owed;
 }
 
--- a host for a process that is there
-pub sound-host : (h : ℕ) (p : Process) → p .there ≡ true → (h ≡ 0 → ⊥) → Sound p → Sound (withHost h p)
-sound-host h p t n s = record {
+-- an owed answer that may be owed to the host
+pub sound-owing : (o : Owed) (p : Process) → (owes o ≡ true → p .host ≡ textHost) → Sound p → Sound (owing o p)
+sound-owing o p e s = record {
+  sized = s .sized;
+  absent = s .absent;
+  unhosted = s .unhosted;
+  different = s .different;
+  even = s .even;
+  within = s .within;
+  one-lifted = s .one-lifted;
+  lifted-while = s .lifted-while;
+  owed = e;
+}
+
+-- what is owed to nobody, or to the same host as before, may be owed to the host
+owed-to : (h : ℕ) (p : Process) → (p .host ≡ 0) ⊎ (p .host ≡ h) → Sound p → owes (p .session .owed) ≡ true → h ≡ textHost
+owed-to h p (inl z) s o = let e = s .owed o in absurd (omega (arith, z, e))
+owed-to h p (inr q) s o = sym q ∙ s .owed o
+
+-- a host for a process that is there, which nobody or the same host debugged before
+pub sound-host : (h : ℕ) (p : Process) → p .there ≡ true → (h ≡ 0 → ⊥) → (p .host ≡ 0) ⊎ (p .host ≡ h) → Sound p → Sound (withHost h p)
+sound-host h p t n b s = record {
   sized = s .sized;
   absent = λ e. absurd (true≢false (sym t ∙ e));
   unhosted = λ e. absurd (n e);
@@ -55,6 +79,7 @@ sound-host h p t n s = record {
   within = s .within;
   one-lifted = s .one-lifted;
   lifted-while = s .lifted-while;
+  owed = owed-to h p b s;
 }
 
 -- ---- no breakpoints at all
@@ -62,9 +87,9 @@ sound-host h p t n s = record {
 no-entry : (k : ℕ) → k < 8 → getD noBreaks k free .used ≡ false
 no-entry k h = ap (λ (b : Breakpoint). b .used) (getD-replicate 8 k free free h)
 
--- a record with free entries is sound, if an absent one has no host
-pub sound-free : (p : Process) → SizeRight (p .size) → p .breaks ≡ noBreaks → (p .there ≡ false → p .host ≡ 0) → Sound p
-sound-free p n e a =
+-- a record with free entries and nothing owed is sound, if an absent one has no host
+pub sound-free : (p : Process) → SizeRight (p .size) → p .breaks ≡ noBreaks → owes (p .session .owed) ≡ false → (p .there ≡ false → p .host ≡ 0) → Sound p
+sound-free p n e o a =
     let none : NoBreakpoints p = λ k h. rw e (no-entry k h) in
     let never : (k : ℕ) → k < 8 → entry p k .used ≡ true → ⊥ = λ k h u. true≢false (sym u ∙ none k h) in
     record {
@@ -76,6 +101,7 @@ sound-free p n e a =
       within = λ k h u. absurd (never k h u);
       one-lifted = λ j k l h v u x y. never k h u;
       lifted-while = λ k h u x. absurd (never k h u);
+      owed = λ i. absurd (true≢false (sym i ∙ o));
     }
 
 -- ---- entries that are alike
@@ -103,6 +129,7 @@ sound-alike bs p a s = record {
       let c = a k h in
       s .one-lifted j k l h (sym (b .used) ∙ v) (sym (c .used) ∙ u) (sym (b .lifted) ∙ x) (sym (c .lifted) ∙ y);
   lifted-while = λ k h u x. s .lifted-while k h (sym (a k h .used) ∙ u) (sym (a k h .lifted) ∙ x);
+  owed = s .owed;
 }
 
 -- ---- another breakpoint in one entry
@@ -200,4 +227,5 @@ module _ (p : Process) (s : Sound p) (eight : length (p .breaks) ≡ 8) (k : ℕ
     within = λ j l u. kept-at j l u .within;
     one-lifted = λ i j l m u v. apart-at i j l m u v .one-lifted;
     lifted-while = λ j l u. kept-at j l u .lifted-while;
+    owed = s .owed;
   }

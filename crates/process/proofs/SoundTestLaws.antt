@@ -9,6 +9,8 @@ use lib.Dec.{eqb, leb}
 use Rattle.lists.specs.Every.{below}
 use Rattle.lists.proofs.Bool.{&&-left, &&-right, &&-both}
 use Rattle.lists.proofs.Every.{below-at, below-all}
+use Rattle.session.specs.Session.{sessionSound}
+use Rattle.session.proofs.SessionLaws.{owed-host, host-owed}
 use Rattle.process.specs.declared.record.Process.{Process}
 use Rattle.breakpoints.specs.declared.entry_query.EntryQuery.the-variants.{Lifted, At}
 use Rattle.process.specs.Sizes.{validSize}
@@ -32,14 +34,17 @@ module _ (p : Process) (s : soundTest p ≡ true) where
       let both = &&-right (eqb (n % 2) 0) (leb 2 n && leb n 4096) whole in
       record { even = eqb-true _ _ (&&-left (eqb (n % 2) 0) _ whole); least = leb-true _ _ (&&-left (leb 2 n) _ both); most = leb-true _ _ (&&-right (leb 2 n) (leb n 4096) both) }
 
-  others : absentHasNoHost p && below (entrySound p) 8 ≡ true
+  others : absentHasNoHost p && (sessionSound (p .host) (p .session) && below (entrySound p) 8) ≡ true
   unfolding soundTest keepsRules
   others = &&-right (validSize (p .size)) _ s
+
+  owed-and-entries : sessionSound (p .host) (p .session) && below (entrySound p) 8 ≡ true
+  owed-and-entries = &&-right (absentHasNoHost p) _ others
 
   module _ (k : ℕ) (h : k < 8) (u : entry p k .used ≡ true) where
     kept : usedSound p k ≡ true
     unfolding soundTest entrySound
-    kept = rw u at (below-at (entrySound p) 8 k h (&&-right (absentHasNoHost p) (below (entrySound p) 8) others))
+    kept = rw u at (below-at (entrySound p) 8 k h (&&-right (sessionSound (p .host) (p .session)) (below (entrySound p) 8) owed-and-entries))
 
     there-is-host : p .host ≡ 0 → ⊥
     unfolding usedSound
@@ -95,6 +100,7 @@ module _ (p : Process) (s : soundTest p ≡ true) where
     within = within;
     one-lifted = λ j k l h v u a b. find-before Lifted p j (rw (first-lifted k h u b) l) (lifted-matches (entry p j) v a);
     lifted-while = lifted-while;
+    owed = owed-host (p .host) (p .session) (&&-left (sessionSound (p .host) (p .session)) _ owed-and-entries);
   }
 
 -- ---- from the rule to the test
@@ -156,7 +162,7 @@ module _ (p : Process) (eight : length (p .breaks) ≡ 8) (s : Sound p) where
   unfolding soundTest keepsRules absentHasNoHost validSize
   sound-passes =
       let n = s .sized in
-      rw (eq-eqb _ _ (n .even), le-leb _ _ (n .least), le-leb _ _ (n .most), below-all (entrySound p) 8 entry-sound) (go (p .there) refl)
+      rw (eq-eqb _ _ (n .even), le-leb _ _ (n .least), le-leb _ _ (n .most), host-owed (p .host) (p .session) (s .owed), below-all (entrySound p) 8 entry-sound) (go (p .there) refl)
     where
       go : (t : Bool) → p .there ≡ t → (t || eqb (p .host) 0) && true ≡ true
       go true e = refl

@@ -6,8 +6,9 @@ use Prim.Native.Nat.{ℕ, _+_, _<_}
 use native.Mathlib.Omega.{arith}
 use lib.ListN.{length, length-map}
 use Rattle.process.specs.declared.record.Process.{Process}
-use Rattle.process.specs.Record.{entry, withBreaks}
-use Rattle.process.specs.Sound.{Sound}
+use Rattle.process.specs.Record.{entry, withVector, withBreaks}
+use Rattle.process.specs.Find.{find}
+use Rattle.process.specs.Sound.{Sound, absentHasNoHost, liftSound, usedSound, entrySound, keepsRules, soundTest}
 use Rattle.breakpoints.specs.Seen.{savedFrom}
 use Rattle.process.specs.Local.{Tested}
 use Rattle.process.proofs.SoundTestLaws.{passes-sound, sound-passes}
@@ -44,6 +45,11 @@ module _ (p : Process) (bytes : List ℕ) (t : Tested p bytes) where
         even = tested-sound .even j (omega arith) v;
         even-too = tested-sound .even k (omega arith) u;
       }
+
+-- the tests do not ask of the vector
+pub tested-vector : (v : List ℕ) (p : Process) (m : List ℕ) → Tested p m → Tested (withVector v p) m
+unfolding soundTest keepsRules absentHasNoHost entrySound usedSound liftSound find
+tested-vector v p m t = record { sound = t .sound; size = t .size }
 
 -- after the exchange of saved words and memory the tests still hold, for any bytes of the same number
 pub tested-exchanged : (p : Process) (m s : List ℕ) → Tested p m → length (p .breaks) ≡ 8 → length s ≡ length m → Tested (withBreaks (map (savedFrom m) (p .breaks)) p) s

@@ -15,26 +15,29 @@ use Rattle.breakpoints.specs.declared.entry.Breakpoint.{Breakpoint}
 use Rattle.process.specs.declared.record.Process.{Process}
 use Rattle.run_state.specs.declared.Run.{Run}
 use Rattle.run_state.specs.declared.Run.the-variants.{Running, Stepping, Stopped, Passing}
+use Rattle.session.specs.declared.Owed.the-variants.{Nothing, Continue, Step}
+use Rattle.session.specs.Session.{textHost, noSession}
 use Rattle.process.specs.declared.report.Verdict.{Verdict}
 use Rattle.process.specs.declared.report.Verdict.the-variants.{Stops, CountsDown, GoesOn}
-use Rattle.breakpoints.specs.declared.entry_query.EntryQuery.the-variants.{Free, Lifted, At}
+use Rattle.breakpoints.specs.declared.entry_query.EntryQuery.the-variants.{Free, At}
 use Rattle.breakpoints.specs.Entry.{free, breakpointAt, withCount}
-use Rattle.process.specs.Record.{noBreaks, entry, fresh, withHost, withRun, withVector, withBreaks, withEntry}
+use Rattle.process.specs.Record.{noBreaks, entry, fresh, withHost, withRun, withVector, withBreaks, withSession, withEntry}
 use Rattle.process.specs.Find.{find}
 use Rattle.process.specs.Sound.{Sound, SizeRight}
 use Rattle.run_state.specs.RunState.{moving, steppingOrPassing, stoppedOrAtBreak, atBreak, released, afterPass, accepts, runAfter}
 use Rattle.breakpoints.specs.Seen.{putWord, isPlanted, restored, seen, savedFrom}
 use Rattle.process.specs.Local.{Local, local, extent, Proper}
 use Rattle.process.specs.Planting.{plantedIn, liftedIn, removedFrom, replanted, liftedAt}
-use Rattle.process.specs.Request.{pc, onRecord, hasBreak, hasRoom, endDebugged, stopped, stepped, proceeded, examined, toBeSeen, deposited, breakSet, breakRemoved, created, cleared}
+use Rattle.process.specs.Request.{pc, onRecord, hasBreak, hasRoom, endDebugged, broughtToStop, stopped, resumed, stepped, proceeded, goingTo, wentOn, continued, steppedFrom, examined, toBeSeen, deposited, breakSet, breakRemoved, created, cleared}
 use Rattle.process.specs.Report.{storeVectorAndReplant, verdictOf, passed, carriedOut, reported}
 use Rattle.process.specs.Theorems.{seenOf, DepositIsSeen, SeenStays, EndDebugRestores, StoreIsUnseen, RunningIsPlanted, SoundStays}
 use Rattle.run_state.proofs.RunLaws.{stoppedOrAtBreak-still, atBreak-stopped, after-pass-lifts, accepts-moves}
 use Rattle.process.proofs.FindLaws.{matches-at, find-matches, find-before, at-matches}
 use Rattle.breakpoints.proofs.SeenLaws.{length-seen, restored-planted}
 use Rattle.process.proofs.DepositLaws.{sheltered-seen, map-alike}
-use Rattle.process.proofs.SoundLaws.{sound-vector, sound-run, sound-host, sound-free, sound-alike}
-use Rattle.process.proofs.PlantingLaws.{length-entry}
+use Rattle.process.proofs.SoundLaws.{sound-vector, sound-run, sound-owing, sound-host, sound-free, sound-alike}
+use Rattle.process.proofs.PlantingLaws.{length-entry, run-replanted}
+use Rattle.process.proofs.KeptLaws.{same-host, shape-stepped, shape-wentOn}
 use Rattle.process.proofs.SoundTestLaws.{sound-passes}
 use Rattle.process.proofs.TestedLaws.{tested-sound, tested-spaced}
 use Rattle.process.proofs.ReportLaws.{counts-low, counts-used}
@@ -43,6 +46,10 @@ use Rattle.process.proofs.SoundKept.{NoneLifted, still-none, sound-remo
 
 sound-of : (l : Local) → Proper l → Sound (l .process)
 sound-of l g = tested-sound (l .process) (l .bytes) (g .tested)
+
+-- a process whose parts are as they should be
+proper : (p : Process) (m : List ℕ) → Sound p → length (p .breaks) ≡ 8 → length m ≡ extent p → Proper (local p m)
+proper p m s eight size = record { tested = record { sound = sound-passes p eight s; size = size }; eight = eight }
 
 -- ---- what is deposited is seen
 
@@ -84,7 +91,7 @@ unfolding breakRemoved
 unbreak-seen a l g e = seen-removed l g a e
 
 stop-seen : (l : Local) → Proper l → seenOf (stopped l) ≡ seenOf l
-unfolding stopped
+unfolding stopped broughtToStop
 stop-seen l g = go (moving (l .process .run))
   where
     go : (t : Bool) → seenOf (cond t (onRecord (withRun Stopped) (replanted l)) l) ≡ seenOf l
@@ -103,21 +110,33 @@ proceed-seen : (l : Local) → Proper l → seenOf (proceeded l) ≡ seenOf l
 unfolding proceeded
 proceed-seen l g = seen-liftedAt l g (pc (l .process))
 
+-- a process with another vector
+vector-set-proper : (words : List ℕ) (l : Local) → Proper l → Proper (onRecord (withVector words) l)
+vector-set-proper words l g =
+    proper (withVector words (l .process)) (l .bytes) (sound-vector words (l .process) (sound-of l g)) (g .eight) (g .tested .size)
+
+continue-seen : (a : ℕ) (l : Local) → Proper l → seenOf (continued a l) ≡ seenOf l
+unfolding continued wentOn
+continue-seen a l g = go (atBreak (l .process .run))
+  where
+    go : (t : Bool) → seenOf (cond t (proceeded (goingTo a l)) (resumed (goingTo a l))) ≡ seenOf l
+    go true = proceed-seen (goingTo a l) (vector-set-proper _ l g)
+    go false = refl
+
+step-from-seen : (a : ℕ) (l : Local) → Proper l → seenOf (steppedFrom a l) ≡ seenOf l
+unfolding steppedFrom
+step-from-seen a l g = step-seen (goingTo a l) (vector-set-proper _ l g)
+
 -- a process after its vector is stored and a lifted breakpoint planted again
 vector-proper : (words : List ℕ) (l : Local) → Proper l → Proper (storeVectorAndReplant words l)
 unfolding storeVectorAndReplant
 vector-proper words l g =
     proper-replanted (onRecord (withVector words) l) (sound-vector words (l .process) (sound-of l g)) (g .eight) (g .tested .size)
 
--- a process whose parts are as they should be
-proper : (p : Process) (m : List ℕ) → Sound p → length (p .breaks) ≡ 8 → length m ≡ extent p → Proper (local p m)
-proper p m s eight size = record { tested = record { sound = sound-passes p eight s; size = size }; eight = eight }
-
 stored-seen : (words : List ℕ) (l : Local) → Proper l → seenOf (storeVectorAndReplant words l) ≡ seenOf l
 unfolding storeVectorAndReplant
 stored-seen words l g =
-    seen-replanted (onRecord (withVector words) l)
-    (proper (withVector words (l .process)) (l .bytes) (sound-vector words (l .process) (sound-of l g)) (g .eight) (g .tested .size))
+    seen-replanted (onRecord (withVector words) l) (vector-set-proper words l g)
 
 -- a process with another count in an entry
 counted-proper : (k n : ℕ) (l : Local) → k < 8 → Proper l → Proper (onRecord (withEntry k (withCount n (entry (l .process) k))) l)
@@ -143,7 +162,7 @@ report-seen kind words l g = go (verdictOf kind (storeVectorAndReplant words l .
     go GoesOn e = refl
 
 pub seen-stays : SeenStays
-seen-stays = record { break = break-seen; unbreak = unbreak-seen; stop = stop-seen; step = step-seen; proceed = proceed-seen; report = report-seen }
+seen-stays = record { break = break-seen; unbreak = unbreak-seen; stop = stop-seen; step = step-seen; proceed = proceed-seen; continue = continue-seen; step-from = step-from-seen; report = report-seen }
 
 -- ---- END DEBUG
 
@@ -218,11 +237,11 @@ running-is-planted p s r k h u = go (entry p k .lifted) refl
 end-debug-sound : (l : Local) → Proper l → Sound (endDebugged l .process)
 unfolding endDebugged
 end-debug-sound l g =
-    sound-free (withRun (released (l .process .run)) (withHost 0 (withBreaks noBreaks (l .process)))) (sound-of l g .sized) refl (λ t. refl)
+    sound-free (withRun (released (l .process .run)) (withHost 0 (withSession noSession (withBreaks noBreaks (l .process))))) (sound-of l g .sized) refl refl (λ t. refl)
 
-stop-sound : (l : Local) → Proper l → Sound (stopped l .process)
-unfolding stopped
-stop-sound l g = go (moving (l .process .run))
+halt-sound : (l : Local) → Proper l → Sound (broughtToStop l .process)
+unfolding broughtToStop
+halt-sound l g = go (moving (l .process .run))
   where
     go : (t : Bool) → Sound (cond t (onRecord (withRun Stopped) (replanted l)) l .process)
     go true =
@@ -230,6 +249,10 @@ stop-sound l g = go (moving (l .process .run))
         (λ k h u x. absurd (none-replanted (l .process) (sound-of l g) (g .eight) (l .bytes) k h u x))
         (sound-replanted (l .process) (sound-of l g) (g .eight) (l .bytes))
     go false = sound-of l g
+
+stop-sound : (l : Local) → Proper l → Sound (stopped l .process)
+unfolding stopped
+stop-sound l g = sound-owing Nothing (broughtToStop l .process) (λ i. absurd (true≢false (sym i))) (halt-sound l g)
 
 -- the breakpoint in an entry is lifted as a process that had none lifted starts to step or to pass
 module _ (l : Local) (g : Proper l) (none : NoneLifted (l .process)) where
@@ -276,6 +299,24 @@ proceed-sound l g e =
     let still = stoppedOrAtBreak-still (l .process .run) (atBreak-stopped (l .process .run) e) in
     lifted-at-sound l g (still-none (l .process) (sound-of l g) (g .eight) still) Passing Running (pc (l .process)) refl
 
+go-on-sound : (l : Local) → Proper l → stoppedOrAtBreak (l .process .run) ≡ true → Sound (wentOn l .process)
+unfolding wentOn
+go-on-sound l g e = go (atBreak (l .process .run)) refl
+  where
+    go : (t : Bool) → atBreak (l .process .run) ≡ t → Sound (cond t (proceeded l) (resumed l) .process)
+    go true at = proceed-sound l g at
+    go false at = resume-sound (l .process) (sound-of l g) e
+
+continue-sound : (a : ℕ) (l : Local) → Proper l → stoppedOrAtBreak (l .process .run) ≡ true → l .process .host ≡ textHost → Sound (continued a l .process)
+unfolding continued
+continue-sound a l g e h =
+    sound-owing Continue (wentOn (goingTo a l) .process) (λ i. same-host (shape-wentOn (goingTo a l)) ∙ h) (go-on-sound (goingTo a l) (vector-set-proper _ l g) e)
+
+step-from-sound : (a : ℕ) (l : Local) → Proper l → stoppedOrAtBreak (l .process .run) ≡ true → l .process .host ≡ textHost → Sound (steppedFrom a l .process)
+unfolding steppedFrom
+step-from-sound a l g e h =
+    sound-owing Step (stepped (goingTo a l) .process) (λ i. same-host (shape-stepped (goingTo a l)) ∙ h) (step-sound (goingTo a l) (vector-set-proper _ l g) e)
+
 deposit-sound : (at : ℕ) (string : List ℕ) (l : Local) → Proper l → Sound (deposited at string l .process)
 unfolding deposited
 deposit-sound at string l g =
@@ -308,21 +349,13 @@ whole-size = record { even = refl; least = omega arith; most = omega arith }
 
 create-sound : (host size : ℕ) → SizeRight size → Sound (created host size .process)
 unfolding created fresh
-create-sound host size right = sound-free (fresh true host Stopped size) right refl (λ t. absurd (true≢false t))
+create-sound host size right = sound-free (fresh true host Stopped size) right refl refl (λ t. absurd (true≢false t))
 
 destroy-sound : Sound cleared
 unfolding cleared fresh
-destroy-sound = sound-free (fresh false 0 Running 4096) whole-size refl (λ t. refl)
+destroy-sound = sound-free (fresh false 0 Running 4096) whole-size refl refl (λ t. refl)
 
 -- ---- a report
-
-run-replanted : (l : Local) → replanted l .process .run ≡ l .process .run
-unfolding replanted plantedIn
-run-replanted l = go (ltb (find Lifted (l .process)) 8)
-  where
-    go : (t : Bool) → cond t (plantedIn (find Lifted (l .process)) (entry (l .process) (find Lifted (l .process))) l) l .process .run ≡ l .process .run
-    go true = refl
-    go false = refl
 
 none-stored : (words : List ℕ) (l : Local) → Proper l → NoneLifted (storeVectorAndReplant words l .process)
 unfolding storeVectorAndReplant
@@ -368,7 +401,7 @@ report-sound kind words l g a = go (verdictOf kind (storeVectorAndReplant words 
         sound-run r (storeVectorAndReplant words l .process) (λ k h u x. absurd (none-stored words l g k h u x)) (sound-of (storeVectorAndReplant words l) (vector-proper words l g))
 
     go : (v : Verdict) → verdictOf kind (storeVectorAndReplant words l .process) ≡ v → Sound (carriedOut v kind (storeVectorAndReplant words l) .process)
-    go Stops e = stored-run (runAfter kind)
+    go Stops e = sound-owing Nothing _ (λ i. absurd (true≢false (sym i))) (stored-run (runAfter kind))
     go GoesOn e = stored-run Running
     go (CountsDown k) e =
         let proper′ = vector-proper words l g in
@@ -377,12 +410,14 @@ report-sound kind words l g a = go (verdictOf kind (storeVectorAndReplant words 
 
 pub sound-stays : SoundStays
 sound-stays = record {
-  debug = λ host p s t n. sound-host host p t n s;
+  debug = λ host p s t n b. sound-host host p t n b s;
   end-debug = end-debug-sound;
   stop = stop-sound;
   resume = resume-sound;
   step = step-sound;
   proceed = proceed-sound;
+  continue = continue-sound;
+  step-from = step-from-sound;
   deposit = deposit-sound;
   deposit-vector = sound-vector;
   break = break-sound;

@@ -4,6 +4,9 @@ use mathlib.Core.List.{List}
 use Prim.Native.Nat.{ℕ}
 use lib.ListN.{getD, set, replicate}
 use Rattle.run_state.specs.declared.Run.{Run}
+use Rattle.session.specs.declared.Owed.{Owed}
+use Rattle.session.specs.declared.Session.{Session}
+use Rattle.session.specs.Session.{noSession, withOwed}
 use Rattle.breakpoints.specs.declared.entry.Breakpoint.{Breakpoint}
 use Rattle.breakpoints.specs.Entry.{free}
 use Rattle.process.specs.declared.record.Process.{Process}
@@ -13,25 +16,33 @@ use Rattle.process.specs.Sizes.{entryCount, vectorWords}
 abbrev pub noBreaks : List Breakpoint
 noBreaks = replicate entryCount free
 
--- a record with a zero vector and no breakpoints
+-- a record with a zero vector, no breakpoints and nothing of a debugging session
 unfoldable pub fresh : Bool → ℕ → Run → ℕ → Process
-fresh t h r n = record { there = t; host = h; run = r; size = n; vector = replicate vectorWords 0; breaks = noBreaks }
+fresh t h r n = record { there = t; host = h; run = r; size = n; vector = replicate vectorWords 0; breaks = noBreaks; session = noSession }
 
 -- debugged by another host
 abbrev pub withHost : ℕ → Process → Process
-withHost h p = record { there = p .there; host = h; run = p .run; size = p .size; vector = p .vector; breaks = p .breaks }
+withHost h p = record { there = p .there; host = h; run = p .run; size = p .size; vector = p .vector; breaks = p .breaks; session = p .session }
 
 -- in another run state
 abbrev pub withRun : Run → Process → Process
-withRun r p = record { there = p .there; host = p .host; run = r; size = p .size; vector = p .vector; breaks = p .breaks }
+withRun r p = record { there = p .there; host = p .host; run = r; size = p .size; vector = p .vector; breaks = p .breaks; session = p .session }
 
 -- with another vector
 abbrev pub withVector : List ℕ → Process → Process
-withVector v p = record { there = p .there; host = p .host; run = p .run; size = p .size; vector = v; breaks = p .breaks }
+withVector v p = record { there = p .there; host = p .host; run = p .run; size = p .size; vector = v; breaks = p .breaks; session = p .session }
 
 -- with other entries
 abbrev pub withBreaks : List Breakpoint → Process → Process
-withBreaks bs p = record { there = p .there; host = p .host; run = p .run; size = p .size; vector = p .vector; breaks = bs }
+withBreaks bs p = record { there = p .there; host = p .host; run = p .run; size = p .size; vector = p .vector; breaks = bs; session = p .session }
+
+-- with another session
+abbrev pub withSession : Session → Process → Process
+withSession s p = record { there = p .there; host = p .host; run = p .run; size = p .size; vector = p .vector; breaks = p .breaks; session = s }
+
+-- with another owed answer
+abbrev pub owing : Owed → Process → Process
+owing o p = withSession (withOwed o (p .session)) p
 
 -- entry k of a process
 abbrev pub entry : Process → ℕ → Breakpoint

@@ -6,12 +6,14 @@ use lib.Dec.{ltb, eqb}
 use Rattle.run_state.specs.ReportKind.{BPT}
 use Rattle.run_state.specs.declared.Run.the-variants.{Running}
 use Rattle.run_state.specs.RunState.{runAfter, afterPass, goesOn}
+use Rattle.session.specs.declared.Owed.{Owed}
+use Rattle.session.specs.declared.Owed.the-variants.{Nothing}
 use Rattle.process.specs.declared.record.Process.{Process}
 use Rattle.process.specs.declared.report.Verdict.{Verdict}
 use Rattle.process.specs.declared.report.Verdict.the-variants.{Stops, CountsDown, GoesOn}
 use Rattle.breakpoints.specs.declared.entry_query.EntryQuery.the-variants.{At}
 use Rattle.breakpoints.specs.Entry.{withCount}
-use Rattle.process.specs.Record.{entry, withRun, withVector, withEntry}
+use Rattle.process.specs.Record.{entry, withRun, withVector, withEntry, owing}
 use Rattle.process.specs.Find.{find}
 use Rattle.process.specs.Local.{Local}
 use Rattle.process.specs.Planting.{liftedIn, replanted}
@@ -35,9 +37,9 @@ passed k l =
     onRecord (withRun (afterPass (l .process .run)))
     (liftedIn k (onRecord (withEntry k (withCount (entry (l .process) k .count - 1) (entry (l .process) k))) l))
 
--- what each verdict does; of one that goes on: 'the stub replants the word and the process runs'
+-- what each verdict does; of one that goes on: 'the stub replants the word and the process runs'; one that stops answers what is owed
 abbrev pub carriedOut : Verdict → ℕ → Local → Local
-carriedOut Stops kind l = onRecord (withRun (runAfter kind)) l
+carriedOut Stops kind l = onRecord (owing Nothing) (onRecord (withRun (runAfter kind)) l)
 carriedOut (CountsDown k) kind l = passed k l
 carriedOut GoesOn kind l = onRecord (withRun Running) l
 
@@ -55,3 +57,13 @@ toldBy GoesOn host = 0
 -- the host that a report about a process tells; 0 is nobody
 unfoldable pub recipientOf : ℕ → List ℕ → Local → ℕ
 recipientOf kind words l = toldBy (verdictOf kind (storeVectorAndReplant words l .process)) (l .process .host)
+
+-- 'answered when a report next stops or ends the process', and by no other verdict
+abbrev pub answeredBy : Verdict → Owed → Owed
+answeredBy Stops owed = owed
+answeredBy (CountsDown k) owed = Nothing
+answeredBy GoesOn owed = Nothing
+
+-- the owed answer that a report about a process gives, if one is owed
+unfoldable pub answerOf : ℕ → List ℕ → Local → Owed
+answerOf kind words l = answeredBy (verdictOf kind (storeVectorAndReplant words l .process)) (l .process .session .owed)

@@ -2,9 +2,9 @@
 use mathlib.Core.Bool.{Bool, true, false, cond}
 use mathlib.Core.List.{List, [], map}
 use Prim.Native.Nat.{ℕ}
-use lib.ListN.{length, take, drop, getD, replicate}
+use lib.ListN.{length, take, drop, getD, set, replicate}
 use lib.Seq.{paste}
-use lib.Dec.{ltb}
+use lib.Dec.{ltb, eqb}
 use Rattle.lists.specs.Word.{lowFirst, vectorOf}
 use Rattle.run_state.specs.declared.Run.the-variants.{Running, Stepping, Stopped, Passing}
 use Rattle.process.specs.declared.record.Process.{Process}
@@ -12,9 +12,11 @@ use Rattle.breakpoints.specs.declared.entry.Breakpoint.{Breakpoint}
 use Rattle.breakpoints.specs.declared.entry_query.EntryQuery.the-variants.{Free, At}
 use Rattle.breakpoints.specs.Entry.{breakpointAt, withCount}
 use Rattle.process.specs.Sizes.{entryCount, memoryBytes}
-use Rattle.process.specs.Record.{noBreaks, fresh, entry, withHost, withRun, withVector, withBreaks, withEntry}
+use Rattle.process.specs.Record.{noBreaks, fresh, entry, withHost, withRun, withVector, withBreaks, withSession, withEntry, owing}
 use Rattle.process.specs.Find.{find}
 use Rattle.run_state.specs.RunState.{moving, atBreak, released}
+use Rattle.session.specs.declared.Owed.the-variants.{Nothing, Continue, Step}
+use Rattle.session.specs.Session.{noSession}
 use Rattle.breakpoints.specs.Seen.{seen, savedFrom}
 use Rattle.process.specs.Local.{Local, local}
 use Rattle.process.specs.Planting.{plantedIn, removedFrom, replanted, liftedAt}
@@ -47,18 +49,22 @@ entryFor a p = cond (hasBreak a p) (find (At a) p) (find Free p)
 abbrev pub debugged : ℕ → Local → Local
 debugged host = onRecord (withHost host)
 
--- 'all breakpoints go, planted words put back; nobody debugs it'
+-- 'all breakpoints go, planted words put back; nobody debugs it'; 'STOP, END DEBUG and DESTROY cancel an owed answer'
 unfoldable pub endDebugged : Local → Local
 endDebugged l =
     local
-    (withRun (released (l .process .run)) (withHost 0 (withBreaks noBreaks (l .process))))
+    (withRun (released (l .process .run)) (withHost 0 (withSession noSession (withBreaks noBreaks (l .process)))))
     (seen (l .process .breaks) (l .bytes))
 
 -- ---- STOP, RESUME, SINGLE STEP, PROCEED BPT
 
 -- 'running or stepping becomes stopped, and a lifted breakpoint is planted again. Other states stay.'; of passing: 'STOP makes it stopped'
+unfoldable pub broughtToStop : Local → Local
+broughtToStop l = cond (moving (l .process .run)) (onRecord (withRun Stopped) (replanted l)) l
+
+-- STOP: and it cancels 'an owed answer', in every run state
 unfoldable pub stopped : Local → Local
-stopped l = cond (moving (l .process .run)) (onRecord (withRun Stopped) (replanted l)) l
+stopped l = onRecord (owing Nothing) (broughtToStop l)
 
 -- 'to running'
 abbrev pub resumed : Local → Local
@@ -73,6 +79,28 @@ stepped l =
 unfoldable pub proceeded : Local → Local
 proceeded l =
     onRecord (withRun (cond (hasBreak (pc (l .process)) (l .process)) Passing Running)) (liftedAt (pc (l .process)) l)
+
+-- ---- `c` and `s` of the text lines
+
+-- 'an address other than 1 becomes the PC first': the vector with it
+unfoldable pub vectorFrom : ℕ → List ℕ → List ℕ
+vectorFrom a vector = cond (eqb a 1) vector (set vector 7 a)
+
+-- and the record
+abbrev pub goingTo : ℕ → Local → Local
+goingTo a l = onRecord (withVector (vectorFrom a (l .process .vector))) l
+
+-- 'as RESUME, or as PROCEED BPT at a breakpoint'
+unfoldable pub wentOn : Local → Local
+wentOn l = cond (atBreak (l .process .run)) (proceeded l) (resumed l)
+
+-- `c`, and its answer is owed
+unfoldable pub continued : ℕ → Local → Local
+continued a l = onRecord (owing Continue) (wentOn (goingTo a l))
+
+-- `s`: 'as SINGLE STEP', and its answer is owed
+unfoldable pub steppedFrom : ℕ → Local → Local
+steppedFrom a l = onRecord (owing Step) (stepped (goingTo a l))
 
 -- ---- DEPOSIT and EXAMINE
 

@@ -5,6 +5,7 @@ use Prim.Native.Nat.{ℕ, _+_, _≤_, _<_, _%_}
 use lib.Dec.{eqb}
 use Rattle.lists.specs.Every.{below}
 use Rattle.run_state.specs.RunState.{steppingOrPassing}
+use Rattle.session.specs.Session.{textHost, owes, sessionSound}
 use Rattle.process.specs.declared.record.Process.{Process}
 use Rattle.breakpoints.specs.declared.entry_query.EntryQuery.the-variants.{Lifted, At}
 use Rattle.breakpoints.specs.Entry.{validBreakAddress}
@@ -38,6 +39,8 @@ pub record Sound (p : Process) : Type 0 where
   pub one-lifted : (j k : ℕ) → j < k → k < entryCount → entry p j .used ≡ true → entry p k .used ≡ true → entry p j .lifted ≡ true → entry p k .lifted ≡ true → ⊥
   -- 'Sound now allows a lifted one only while stepping or passing.'
   pub lifted-while : (k : ℕ) → k < entryCount → entry p k .used ≡ true → entry p k .lifted ≡ true → steppingOrPassing (p .run) ≡ true
+  -- 'none is owed unless host 253 debugs it'
+  pub owed : owes (p .session .owed) ≡ true → p .host ≡ textHost
 
 -- an absent process has no host
 unfoldable pub absentHasNoHost : Process → Bool
@@ -63,9 +66,9 @@ usedSound p k =
 unfoldable pub entrySound : Process → ℕ → Bool
 entrySound p k = not (entry p k .used) || usedSound p k
 
--- an absent process has no host, and every entry keeps the rules
+-- an absent process has no host, an answer is owed to host 253 alone, and every entry keeps the rules
 unfoldable pub keepsRules : Process → Bool
-keepsRules p = absentHasNoHost p && below (entrySound p) entryCount
+keepsRules p = absentHasNoHost p && (sessionSound (p .host) (p .session) && below (entrySound p) entryCount)
 
 -- the test of soundness
 unfoldable pub soundTest : Process → Bool

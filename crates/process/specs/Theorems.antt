@@ -14,7 +14,8 @@ use Rattle.process.specs.Sound.{Sound, SizeRight, NoBreakpoints, soundTe
 use Rattle.breakpoints.specs.Seen.{isPlanted, seen}
 use Rattle.process.specs.Local.{Local, Proper}
 use Rattle.run_state.specs.RunState.{stoppedOrAtBreak, atBreak, accepts}
-use Rattle.process.specs.Request.{hasBreak, hasRoom, endDebugged, stopped, stepped, proceeded, examined, deposited, breakSet, breakRemoved, created, cleared}
+use Rattle.session.specs.Session.{textHost}
+use Rattle.process.specs.Request.{hasBreak, hasRoom, endDebugged, stopped, stepped, proceeded, continued, steppedFrom, examined, deposited, breakSet, breakRemoved, created, cleared}
 use Rattle.process.specs.Report.{reported}
 
 -- the test passes exactly the sound records
@@ -41,6 +42,8 @@ pub record SeenStays : Type 0 where
   pub stop : (l : Local) → Proper l → seenOf (stopped l) ≡ seenOf l
   pub step : (l : Local) → Proper l → seenOf (stepped l) ≡ seenOf l
   pub proceed : (l : Local) → Proper l → seenOf (proceeded l) ≡ seenOf l
+  pub continue : (a : ℕ) (l : Local) → Proper l → seenOf (continued a l) ≡ seenOf l
+  pub step-from : (a : ℕ) (l : Local) → Proper l → seenOf (steppedFrom a l) ≡ seenOf l
   pub report : (kind : ℕ) (words : List ℕ) (l : Local) → Proper l → seenOf (reported kind words l) ≡ seenOf l
 
 -- after END DEBUG memory is what was seen, and no breakpoint is left
@@ -61,12 +64,14 @@ RunningIsPlanted =
 
 -- a sound record stays sound, whatever a request or a report does to it
 pub record SoundStays : Type 0 where
-  pub debug : (host : ℕ) (p : Process) → Sound p → p .there ≡ true → (host ≡ 0 → ⊥) → Sound (withHost host p)
+  pub debug : (host : ℕ) (p : Process) → Sound p → p .there ≡ true → (host ≡ 0 → ⊥) → (p .host ≡ 0) ⊎ (p .host ≡ host) → Sound (withHost host p)
   pub end-debug : (l : Local) → Proper l → Sound (endDebugged l .process)
   pub stop : (l : Local) → Proper l → Sound (stopped l .process)
   pub resume : (p : Process) → Sound p → stoppedOrAtBreak (p .run) ≡ true → Sound (withRun Running p)
   pub step : (l : Local) → Proper l → stoppedOrAtBreak (l .process .run) ≡ true → Sound (stepped l .process)
   pub proceed : (l : Local) → Proper l → atBreak (l .process .run) ≡ true → Sound (proceeded l .process)
+  pub continue : (a : ℕ) (l : Local) → Proper l → stoppedOrAtBreak (l .process .run) ≡ true → l .process .host ≡ textHost → Sound (continued a l .process)
+  pub step-from : (a : ℕ) (l : Local) → Proper l → stoppedOrAtBreak (l .process .run) ≡ true → l .process .host ≡ textHost → Sound (steppedFrom a l .process)
   pub deposit : (at : ℕ) (string : List ℕ) (l : Local) → Proper l → Sound (deposited at string l .process)
   pub deposit-vector : (v : List ℕ) (p : Process) → Sound p → Sound (withVector v p)
   pub break : (a n : ℕ) (l : Local) → Proper l → (l .process .host ≡ 0 → ⊥) → a % 2 ≡ 0 → a + 2 ≤ l .process .size

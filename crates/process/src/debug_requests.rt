@@ -20,6 +20,9 @@ impl Process {
         let run = self.run;
         let next = run.released();
         let p = self.exchange(bytes);
-        p.without_breaks().with_host(0).with_run(next)
+        p.without_breaks()
+            .without_session()
+            .with_host(0)
+            .with_run(next)
     }
 }

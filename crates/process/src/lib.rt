@@ -10,6 +10,7 @@ mod report;
 mod run_requests;
 mod saved_words;
 mod sound;
+mod text_requests;
 pub mod theorems;
 
 pub use find::FoundEntry;

@@ -1,10 +1,13 @@
 // The process record. Whatever makes a record or writes one anew stands in this file, so that a new field changes it alone.
 use breakpoints::Breakpoint;
 use run_state::Run;
+use session::Owed;
+use session::Session;
 ghost use mathlib.Core.Path.{_≡_};
 ghost use Prim.Native.Nat.{_<_};
 ghost use Rattle.process.specs.Sizes.{entryCount};
-ghost use Rattle.process.specs.Record.{fresh, withRun, withHost, withVector, withEntry, withBreaks, noBreaks};
+ghost use Rattle.process.specs.Record.{fresh, withRun, withHost, withVector, withEntry, withBreaks, noBreaks, withSession, owing};
+ghost use Rattle.session.specs.Session.{noSession};
 ghost use Rattle.process.specs.Request.{pc};
 
 // The number of entries of a process, of its bytes at the most, and of its vector's bytes.
@@ -22,10 +25,11 @@ pub struct Process {
     pub vector: [u16; 9],
     pub breaks: [Breakpoint; ENTRIES],
     pub size: u16,
+    pub session: Session,
 }
 
 impl Process {
-    // A record with a zero vector and no breakpoints.
+    // A record with a zero vector, no breakpoints and nothing of a debugging session.
     pub fn fresh(there: bool, host: u8, run: Run, size: u16) -> Self
         ensures { λ r. ⌜ r ≡ fresh there host run size ⌝ }
     {
@@ -39,6 +43,7 @@ impl Process {
             vector: vector,
             breaks: breaks,
             size: size,
+            session: Session::none(),
         }
     }
 
@@ -60,6 +65,7 @@ impl Process {
     {
         let vector = self.vector;
         let breaks = self.breaks;
+        let session = self.session;
         Process {
             there: self.there,
             host: self.host,
@@ -67,6 +73,7 @@ impl Process {
             vector: vector,
             breaks: breaks,
             size: self.size,
+            session: session,
         }
     }
 
@@ -83,6 +90,22 @@ impl Process {
         ensures { λ r. ⌜ r ≡ withEntry k b self ⌝ }
     {
         self.breaks[k] = b;
+        self
+    }
+
+    pub(crate) fn without_session(mut self) -> Self
+        ensures { λ r. ⌜ r ≡ withSession noSession self ⌝ }
+    {
+        self.session = Session::none();
+        self
+    }
+
+    // With another owed answer.
+    pub(crate) fn owing(mut self, owed: Owed) -> Self
+        ensures { λ r. ⌜ r ≡ owing owed self ⌝ }
+    {
+        let session = self.session;
+        self.session = session.with_owed(owed);
         self
     }
 

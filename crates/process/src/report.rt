@@ -4,12 +4,15 @@ use crate::record::Process;
 use breakpoints::EntryQuery;
 use run_state::BPT;
 use run_state::Run;
+use session::Owed;
 ghost use mathlib.Core.Path.{_≡_};
 ghost use Prim.Native.Nat.{_<_};
 ghost use Rattle.process.specs.Sizes.{entryCount};
-ghost use Rattle.process.specs.Record.{entry};
+ghost use Rattle.session.specs.declared.Owed.the-variants.{Nothing};
+ghost use Rattle.run_state.specs.RunState.{runAfter};
+ghost use Rattle.process.specs.Record.{entry, withRun, owing};
 ghost use Rattle.process.specs.Local.{local, Inside, Tested};
-ghost use Rattle.process.specs.Report.{storeVectorAndReplant, verdictOf, recipientOf, passed, reported};
+ghost use Rattle.process.specs.Report.{storeVectorAndReplant, verdictOf, recipientOf, answerOf, passed, reported};
 
 // What a report comes to.
 pub enum Verdict {
@@ -21,10 +24,11 @@ pub enum Verdict {
     GoesOn,
 }
 
-// A process after a report, and the host that is told of it; 0 is nobody.
+// A process after a report, the host that is told of it, 0 being nobody, and the owed answer that it gives.
 pub struct ReportResult {
     pub process: Process,
     pub told: u8,
+    pub answered: Owed,
 }
 
 impl Process {
@@ -73,14 +77,32 @@ impl Process {
         p.with_run(run.after_pass())
     }
 
-    // This process after a report, and whom it tells.
-    fn telling(self, host: u8) -> ReportResult
-        ensures { λ r. ⌜ (r .process ≡ self) × (r .told ≡ host) ⌝ }
+    // This process after a report, whom it tells, and the owed answer that it gives.
+    fn telling(self, host: u8, answered: Owed) -> ReportResult
+        ensures { λ r. ⌜ (r .process ≡ self) × (r .told ≡ host) × (r .answered ≡ answered) ⌝ }
     {
         ReportResult {
             process: self,
             told: host,
+            answered: answered,
         }
+    }
+
+    // This process after a report of this kind that stops it: its host is told, and what is owed is answered.
+    fn stopping(self, kind: u8) -> ReportResult
+        ensures { λ r. ⌜ (r .process ≡ owing Nothing (withRun (runAfter kind) self)) × (r .told ≡ self .host) × (r .answered ≡ self .session .owed) ⌝ }
+    {
+        let session = self.session;
+        let owed = session.owed;
+        let p = self.with_run(Run::after(kind)).owing(Owed::Nothing);
+        p.telling(self.host, owed)
+    }
+
+    // This process after a report that nobody is told of.
+    fn quietly(self) -> ReportResult
+        ensures { λ r. ⌜ (r .process ≡ self) × (r .told ≡ 0) × (r .answered ≡ Nothing) ⌝ }
+    {
+        self.telling(0, Owed::Nothing)
     }
 
     // A report of this kind about a process that accepts it.
@@ -88,14 +110,15 @@ impl Process {
         requires { ⌜ Tested self (now bytes) ⌝ }
         ensures { λ r. ⌜ r .process ≡ reported kind vector (local self (now (bytes .entry))) .process ⌝ }
         ensures { λ r. ⌜ r .told ≡ recipientOf kind vector (local self (now (bytes .entry))) ⌝ }
+        ensures { λ r. ⌜ r .answered ≡ answerOf kind vector (local self (now (bytes .entry))) ⌝ }
         ensures { λ _. ⌜ now (bytes .exit) ≡ reported kind vector (local self (now (bytes .entry))) .bytes ⌝ }
     {
         let p = self.store_vector_and_replant(vector, bytes);
         let verdict = p.verdict(kind);
         match verdict {
-            Verdict::Stops => p.with_run(Run::after(kind)).telling(self.host),
-            Verdict::CountsDown(k) => p.pass(k, bytes).telling(0),
-            Verdict::GoesOn => p.with_run(Run::Running).telling(0),
+            Verdict::Stops => p.stopping(kind),
+            Verdict::CountsDown(k) => p.pass(k, bytes).quietly(),
+            Verdict::GoesOn => p.with_run(Run::Running).quietly(),
         }
     }
 }

@@ -4,16 +4,18 @@ use crate::find::FoundEntry;
 use crate::record::Process;
 use breakpoints::EntryQuery;
 use run_state::Run;
+use session::Owed;
 ghost use mathlib.Core.Path.{_≡_};
 ghost use Rattle.process.specs.Local.{local, Tested};
 ghost use Rattle.process.specs.Record.{withRun};
-ghost use Rattle.process.specs.Request.{stopped, stepped, proceeded};
+ghost use Rattle.process.specs.Request.{broughtToStop, stopped, stepped, proceeded};
 
 impl Process {
-    pub fn stop(self, bytes: &mut [u8]) -> Self
+    // STOP but for the owed answer, which stays.
+    fn bring_to_stop(self, bytes: &mut [u8]) -> Self
         requires { ⌜ Tested self (now bytes) ⌝ }
-        ensures { λ r. ⌜ r ≡ stopped (local self (now (bytes .entry))) .process ⌝ }
-        ensures { λ _. ⌜ now (bytes .exit) ≡ stopped (local self (now (bytes .entry))) .bytes ⌝ }
+        ensures { λ r. ⌜ r ≡ broughtToStop (local self (now (bytes .entry))) .process ⌝ }
+        ensures { λ _. ⌜ now (bytes .exit) ≡ broughtToStop (local self (now (bytes .entry))) .bytes ⌝ }
     {
         let run = self.run;
         if run.moving() {
@@ -21,6 +23,15 @@ impl Process {
             return p.with_run(Run::Stopped);
         }
         self
+    }
+
+    pub fn stop(self, bytes: &mut [u8]) -> Self
+        requires { ⌜ Tested self (now bytes) ⌝ }
+        ensures { λ r. ⌜ r ≡ stopped (local self (now (bytes .entry))) .process ⌝ }
+        ensures { λ _. ⌜ now (bytes .exit) ≡ stopped (local self (now (bytes .entry))) .bytes ⌝ }
+    {
+        let p = self.bring_to_stop(bytes);
+        p.owing(Owed::Nothing)
     }
 
     pub fn resume(self) -> Self

@@ -105,6 +105,10 @@ impl Process {
         if !self.absent_has_no_host() {
             return false;
         }
+        let session = self.session;
+        if !session.sound(self.host) {
+            return false;
+        }
         let breaks = self.breaks;
         let mut earlier = false;
         let mut k = 0;

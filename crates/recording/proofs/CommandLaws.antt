@@ -1,15 +1,17 @@
 -- Laws of the word that a line begins with: the loop that compares, and the front of a long line. Assumes nothing.
 use mathlib.Core.Path.{_≡_, refl, sym, ap, _∙_}
-use mathlib.Core.Bool.{Bool, true, false, _&&_}
-use mathlib.Core.List.{List, [], _∷_}
+use mathlib.Core.Bool.{Bool, true, false, _&&_, true≢false}
+use mathlib.Core.List.{List, [], _∷_, _++_}
 use Prim.Native.Nat.{ℕ, zero, suc, _+_, _≤_, _<_}
 use native.Mathlib.Numerals.{add-one}
 use native.Mathlib.Omega.{arith}
-use borrow.Author.Tests.{eq-eqb, ne-eqb}
+use borrow.Author.Tests.{eq-eqb, ne-eqb, eqb-true}
 use lib.ListN.{length, take, drop, getD, drop-of-length-le}
 use lib.Seq.{drop-cons}
 use lib.Dec.{eqb}
-use Rattle.recording.specs.Command.{begins}
+use Rattle.lists.proofs.Bool.{&&-left, &&-right}
+use Rattle.recording.specs.declared.command.Command.{Command}
+use Rattle.recording.specs.Command.{begins, requestWord, lineWord, rawWord, anyLength}
 
 pub begins-short : (text line : List ℕ) → length line < length text → false ≡ begins text line
 unfolding begins
@@ -47,3 +49,26 @@ begins-take [] line n h = refl
 begins-take (c ∷ text) line zero h = absurd (omega (arith, h))
 begins-take (c ∷ text) [] (suc n) h = refl
 begins-take (c ∷ text) (d ∷ line) (suc n) h = ap (λ (t : Bool). eqb d c && t) (begins-take text line n (omega (arith, h)))
+
+-- and more behind it changes nothing
+pub begins-more : (text line more : List ℕ) → length text ≤ length line → begins text (line ++ more) ≡ begins text line
+unfolding begins
+begins-more [] line more h = refl
+begins-more (c ∷ text) [] more h = absurd (omega (arith, h))
+begins-more (c ∷ text) (d ∷ line) more h = ap (λ (t : Bool). eqb d c && t) (begins-more text line more (omega (arith, h)))
+
+-- no line has both words
+pub request-not-raw : (line : List ℕ) → begins requestWord line ≡ true → begins rawWord line ≡ true → ⊥
+unfolding begins
+request-not-raw [] q r = absurd (true≢false (sym q))
+request-not-raw (d ∷ []) q r = absurd (true≢false (sym (&&-right (eqb d 114) false q)))
+request-not-raw (d ∷ e ∷ line) q r =
+    let one = eqb-true e 101 (&&-left (eqb e 101) _ (&&-right (eqb d 114) _ q)) in
+    let other = eqb-true e 97 (&&-left (eqb e 97) _ (&&-right (eqb d 114) _ r)) in
+    omega (arith, one, other)
+
+-- a word of a line of any length stands in its front
+pub any-front : (line : List ℕ) (n : ℕ) (other : Command) → 8 ≤ n → anyLength (take n line) other ≡ anyLength line other
+unfolding anyLength
+any-front line n other h =
+    rw (begins-take requestWord line n (omega (arith, h)), begins-take lineWord line n (omega (arith, h)), begins-take rawWord line n (omega (arith, h))) refl

@@ -6,25 +6,31 @@ use Prim.Native.Nat.{ℕ, suc, _+_, _-_, _*_, _%_, _≤_, _<_, min}
 use native.Mathlib.Omega.{arith}
 use borrow.Author.Tests.{leb-true, leb-false, lt-ltb}
 use lib.ListN.{length, take, drop, length-append, length-drop, take-append-drop}
-use lib.Seq.{take-all, take-add, drop-at, length-take-le}
+use lib.Seq.{take-all, take-add, take-append-le, drop-at, length-take-le}
 use lib.Dec.{leb, ltb, eqb}
 use Rattle.lines.specs.declared.scan.Phase.{Phase}
 use Rattle.lines.specs.declared.scan.Phase.the-variants.{Open, Half, Full, Bad}
 use Rattle.lines.specs.Hex.{value}
 use Rattle.lines.specs.Scan.{opened, next, full, made, after, bytesOf}
 use Rattle.lines.proofs.ScanLaws.{in-parts, parts-read}
-use Rattle.calls.specs.Meaning.{ifRight, requestMade, requestEffect}
+use Rattle.calls.specs.declared.text.Shown.{Shown}
+use Rattle.calls.specs.declared.text.Shown.the-variants.{Recorded, Alone}
+use Rattle.calls.specs.Effect.{Effect}
+use Rattle.calls.specs.Meaning.{ifRight, requestMade, requestEffect, textMade, textEffect, rawEffect}
 use Rattle.calls.proofs.MeaningLaws.{made-long, drop-at-most}
-use Rattle.recording.specs.declared.command.Command.the-variants.{Request, Unknown}
+use Rattle.calls.proofs.TextLaws.{made-begun, ended-front}
+use Rattle.recording.specs.declared.command.Command.{Command}
+use Rattle.recording.specs.declared.command.Command.the-variants.{Request, Text, Raw, Unknown}
 use Rattle.recording.specs.declared.language.Language.{Language}
-use Rattle.recording.specs.declared.language.Language.the-variants.{Bench, Recording}
-use Rattle.recording.specs.Command.{begins, requestWord, commandOf}
-use Rattle.recording.specs.Line.{pairsAt, commandEffect, lineEffect, wholeEffect}
-use Rattle.recording.proofs.CommandLaws.{begins-take}
+use Rattle.recording.specs.declared.language.Language.the-variants.{Bench, Recording, TextDoor}
+use Rattle.recording.specs.Command.{begins, requestWord, lineWord, rawWord, textWord, anyLength, commandOf}
+use Rattle.recording.specs.Line.{pairsBehind, pairsFrom, commandEffect, lineEffect, wholeEffect}
+use Rattle.recording.proofs.CommandLaws.{begins-take, request-not-raw, any-front}
 
 -- what stands after a line's word and its blank, as the code takes it
-pub rest-of-line : (line : List ℕ) → take (length line - min 8 (length line)) (drop (min 8 (length line)) line) ≡ drop 8 line
-rest-of-line line = take-all (length line - min 8 (length line)) (drop (min 8 (length line)) line) (simp length-drop (omega arith)) ∙ drop-at-most 8 line
+pub rest-of-line : (k n : ℕ) (line : List ℕ) → n ≡ min k (length line) → take (length line - n) (drop n line) ≡ drop k line
+rest-of-line k n line N =
+    take-all (length line - n) (drop n line) (simp length-drop (omega arith)) ∙ ap (λ (j : ℕ). drop j line) N ∙ drop-at-most k line
 
 -- ---- pairs that were read have a byte for every three characters
 
@@ -89,25 +95,43 @@ module _ (pairs : List ℕ) (n : ℕ) (low : 800 < n) (far : n ≤ length pairs)
       go Full e k = omega (arith, length-take-le n pairs far, low, rw e at k)
       go Bad e k = omega (arith, length-take-le n pairs far, low, rw e at k)
 
+  both : bytesOf Open pairs ≡ bytesOf Open (take n pairs) ++ bytesOf (after Open (take n pairs)) (drop n pairs)
+  both = ap (bytesOf Open) (sym split) ∙ parts-read Open (take n pairs) (drop n pairs)
+
   whole-long : 266 < length (bytesOf Open pairs)
   whole-long =
-      let both : bytesOf Open pairs ≡ bytesOf Open (take n pairs) ++ bytesOf (after Open (take n pairs)) (drop n pairs) = ap (bytesOf Open) (sym split) ∙ parts-read Open (take n pairs) (drop n pairs) in
       omega (arith, front-long, ap (λ (l : List ℕ). length l) both, length-append (bytesOf Open (take n pairs)) (bytesOf (after Open (take n pairs)) (drop n pairs)))
 
   made-front : (s m : List ℕ) → requestMade (bytesOf Open (take n pairs)) s m ≡ requestMade (bytesOf Open pairs) s m
   made-front s m = made-long (bytesOf Open (take n pairs)) (bytesOf Open pairs) s m front-long whole-long
 
+  text-front : (s m : List ℕ) → textMade Recorded (bytesOf Open (take n pairs)) s m ≡ textMade Recorded (bytesOf Open pairs) s m
+  text-front s m =
+      let front : List ℕ = bytesOf Open (take n pairs) in
+      made-begun Recorded front (bytesOf Open pairs) s m (omega (arith, front-long)) (omega (arith, whole-long))
+      (sym (ap (take 35) both ∙ take-append-le 35 front (bytesOf (after Open (take n pairs)) (drop n pairs)) (omega (arith, front-long))))
+
 -- and its first pairs are answered like all of them
-request-front : (pairs : List ℕ) (n : ℕ) (s m : List ℕ) → 800 < n → n ≤ length pairs
-    → requestEffect (after Open pairs) (bytesOf Open (take n pairs)) s m ≡ requestEffect (after Open pairs) (bytesOf Open pairs) s m
-unfolding requestEffect ifRight full
-request-front pairs n s m low far = go (after Open pairs) refl
-  where
-    go : (p : Phase) → after Open pairs ≡ p → requestEffect (after Open pairs) (bytesOf Open (take n pairs)) s m ≡ requestEffect (after Open pairs) (bytesOf Open pairs) s m
-    go Open e = rw e refl
-    go (Half h) e = rw e refl
-    go Full e = rw e (made-front pairs n low far e s m)
-    go Bad e = rw e refl
+module _ (made : List ℕ → Effect) (pairs : List ℕ) (n : ℕ) (s m : List ℕ)
+    (same : after Open pairs ≡ Full → made (bytesOf Open (take n pairs)) ≡ made (bytesOf Open pairs)) where
+  right-front : ifRight (full (after Open pairs)) (made (bytesOf Open (take n pairs))) s m ≡ ifRight (full (after Open pairs)) (made (bytesOf Open pairs)) s m
+  unfolding ifRight full
+  right-front = go (after Open pairs) refl
+    where
+      go : (p : Phase) → after Open pairs ≡ p → ifRight (full (after Open pairs)) (made (bytesOf Open (take n pairs))) s m ≡ ifRight (full (after Open pairs)) (made (bytesOf Open pairs)) s m
+      go Open e = rw e refl
+      go (Half h) e = rw e refl
+      go Full e = rw e (same e)
+      go Bad e = rw e refl
+
+module _ (pairs : List ℕ) (n : ℕ) (s m : List ℕ) (low : 800 < n) (far : n ≤ length pairs) where
+  request-front : requestEffect (after Open pairs) (bytesOf Open (take n pairs)) s m ≡ requestEffect (after Open pairs) (bytesOf Open pairs) s m
+  unfolding requestEffect
+  request-front = right-front (λ x. requestMade x s m) pairs n s m (λ e. made-front pairs n low far e s m)
+
+  raw-front : rawEffect (after Open pairs) (bytesOf Open (take n pairs)) s m ≡ rawEffect (after Open pairs) (bytesOf Open pairs) s m
+  unfolding rawEffect
+  raw-front = right-front (λ x. textMade Recorded x s m) pairs n s m (λ e. text-front pairs n low far e s m)
 
 -- ---- what is kept of a line has the effect of the whole line
 
@@ -115,37 +139,78 @@ module _ (line s m : List ℕ) (long : 1025 < length line) where
   kept-size : length (take 1025 line) ≡ 1025
   kept-size = length-take-le 1025 line (omega (arith, long))
 
-  command-long : (xs : List ℕ) → 1024 < length xs → (t : Bool) → begins requestWord xs ≡ t → commandOf xs ≡ cond t Request Unknown
+  command-long : (xs : List ℕ) → 1024 < length xs → commandOf xs ≡ anyLength xs Unknown
   unfolding commandOf
-  command-long xs h true e = rw e refl
-  command-long xs h false e = rw (e, lt-ltb 1024 (length xs) h) refl
+  command-long xs h = rw (lt-ltb 1024 (length xs) h) refl
 
-  pairs-kept : drop 8 (take 1025 line) ≡ take 1017 (drop 8 line)
-  pairs-kept = ap (drop 8) (take-add 8 1017 line) ∙ drop-at (take 8 line) (take 1017 (drop 8 line)) 8 (length-take-le 8 line (omega (arith, long)))
+  kept-command : commandOf (take 1025 line) ≡ anyLength line Unknown
+  kept-command = command-long (take 1025 line) (omega (arith, kept-size)) ∙ any-front line 1025 Unknown (omega arith)
 
-  recording-long : (t : Bool) → begins requestWord line ≡ t
-      → commandEffect (after Open (drop 8 line)) (take 1025 line) s m (cond t Request Unknown) ≡ commandEffect (after Open (drop 8 line)) line s m (cond t Request Unknown)
-  unfolding commandEffect
-  recording-long true e =
-      ap (λ (l : List ℕ). requestEffect (after Open (drop 8 line)) (bytesOf Open l) s m) pairs-kept
-      ∙ request-front (drop 8 line) 1017 s m (omega arith) (omega (arith, length-drop 8 line, long))
-  recording-long false e = refl
+  -- what is kept after a word of k bytes
+  rest-kept : (k r : ℕ) → k + r ≡ 1025 → drop k (take 1025 line) ≡ take r (drop k line)
+  rest-kept k r e =
+      ap (λ (n : ℕ). drop k (take n line)) (sym e) ∙ ap (drop k) (take-add k r line)
+      ∙ drop-at (take k line) (take r (drop k line)) k (length-take-le k line (omega (arith, long, e)))
 
-  effect-long : (l : Language) → lineEffect l (after Open (drop (pairsAt l) line)) (take 1025 line) s m ≡ wholeEffect l line s m
-  unfolding wholeEffect lineEffect pairsAt
+  module _ (shown : Shown) where
+    abbrev Same : Phase → Command → Type 0
+    Same phase word = commandEffect shown phase (take 1025 line) s m word ≡ commandEffect shown phase line s m word
+
+    request-long : Same (after Open (drop 8 line)) Request
+    unfolding commandEffect
+    request-long =
+        ap (λ (l : List ℕ). requestEffect (after Open (drop 8 line)) (bytesOf Open l) s m) (rest-kept 8 1017 refl)
+        ∙ request-front (drop 8 line) 1017 s m (omega arith) (omega (arith, length-drop 8 line, long))
+
+    raw-long : Same (after Open (drop 4 line)) Raw
+    unfolding commandEffect
+    raw-long =
+        ap (λ (l : List ℕ). rawEffect (after Open (drop 4 line)) (bytesOf Open l) s m) (rest-kept 4 1021 refl)
+        ∙ raw-front (drop 4 line) 1021 s m (omega arith) (omega (arith, length-drop 4 line, long))
+
+    text-long : (phase : Phase) → Same phase Text
+    unfolding commandEffect
+    text-long phase =
+        ap (λ (l : List ℕ). textEffect Recorded l s m) (rest-kept 5 1020 refl) ∙ ended-front Recorded 1020 (drop 5 line) s m (omega arith)
+
+    unknown-long : Same (after Open (drop 8 line)) Unknown
+    unfolding commandEffect
+    unknown-long = refl
+
+    any-long : Same (after Open (drop (pairsBehind line) line)) (anyLength line Unknown)
+    unfolding anyLength pairsBehind
+    any-long = go (begins requestWord line) refl (begins lineWord line) (begins rawWord line) refl
+      where
+        go : (q : Bool) → begins requestWord line ≡ q → (t r : Bool) → begins rawWord line ≡ r
+            → Same (after Open (drop (cond r 4 8) line)) (cond q Request (cond t Text (cond r Raw Unknown)))
+        go true e t true f = absurd (request-not-raw line e f)
+        go true e t false f = request-long
+        go false e true r f = text-long (after Open (drop (cond r 4 8) line))
+        go false e false true f = raw-long
+        go false e false false f = unknown-long
+
+    recording-long : commandEffect shown (after Open (drop (pairsBehind line) line)) (take 1025 line) s m (commandOf (take 1025 line))
+        ≡ commandEffect shown (after Open (drop (pairsBehind line) line)) line s m (commandOf line)
+    recording-long =
+        ap (commandEffect shown (after Open (drop (pairsBehind line) line)) (take 1025 line) s m) kept-command
+        ∙ any-long
+        ∙ ap (commandEffect shown (after Open (drop (pairsBehind line) line)) line s m) (sym (command-long line (omega (arith, long))))
+
+  effect-long : (l : Language) → lineEffect l (after Open (drop (pairsFrom l line) line)) (take 1025 line) s m ≡ wholeEffect l line s m
+  unfolding wholeEffect lineEffect pairsFrom
   effect-long Bench = request-front line 1025 s m (omega arith) (omega (arith, long))
-  effect-long Recording =
-      let t = begins requestWord line in
-      let kept : commandOf (take 1025 line) ≡ cond t Request Unknown = command-long (take 1025 line) (omega (arith, kept-size)) t (begins-take requestWord line 1025 (omega arith)) in
-      let all : commandOf line ≡ cond t Request Unknown = command-long line (omega (arith, long)) t refl in
-      ap (commandEffect (after Open (drop 8 line)) (take 1025 line) s m) kept
-      ∙ recording-long t refl
-      ∙ ap (commandEffect (after Open (drop 8 line)) line s m) (sym all)
+  effect-long Recording = recording-long Recorded
+  effect-long TextDoor = rw (begins-take textWord line 1025 (omega arith)) (go (begins textWord line))
+    where
+      go : (t : Bool) → cond t (textEffect Alone (take 1025 line) s m) (commandEffect Alone (after Open (drop (pairsBehind line) line)) (take 1025 line) s m (commandOf (take 1025 line)))
+          ≡ cond t (textEffect Alone line s m) (commandEffect Alone (after Open (drop (pairsBehind line) line)) line s m (commandOf line))
+      go true = ended-front Alone 1025 line s m (omega arith)
+      go false = recording-long Alone
 
-pub kept-effect : (l : Language) (line s m : List ℕ) → lineEffect l (after Open (drop (pairsAt l) line)) (take 1025 line) s m ≡ wholeEffect l line s m
+pub kept-effect : (l : Language) (line s m : List ℕ) → lineEffect l (after Open (drop (pairsFrom l line) line)) (take 1025 line) s m ≡ wholeEffect l line s m
 unfolding wholeEffect
 kept-effect l line s m = go (leb (length line) 1025) refl
   where
-    go : (t : Bool) → leb (length line) 1025 ≡ t → lineEffect l (after Open (drop (pairsAt l) line)) (take 1025 line) s m ≡ wholeEffect l line s m
-    go true e = ap (λ (x : List ℕ). lineEffect l (after Open (drop (pairsAt l) line)) x s m) (take-all 1025 line (leb-true (length line) 1025 e))
+    go : (t : Bool) → leb (length line) 1025 ≡ t → lineEffect l (after Open (drop (pairsFrom l line) line)) (take 1025 line) s m ≡ wholeEffect l line s m
+    go true e = ap (λ (x : List ℕ). lineEffect l (after Open (drop (pairsFrom l line) line)) x s m) (take-all 1025 line (leb-true (length line) 1025 e))
     go false e = effect-long line s m (leb-false (length line) 1025 e) l

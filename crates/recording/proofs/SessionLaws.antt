@@ -14,17 +14,28 @@ use Rattle.lists.proofs.Buffer.{take-overlay, drop-overlay, length-overlay, lai
 use Rattle.lines.specs.declared.scan.Phase.{Phase}
 use Rattle.calls.specs.Effect.{Effect, Prints, Does}
 use Rattle.recording.specs.declared.language.Language.{Language}
-use Rattle.recording.specs.declared.language.Language.the-variants.{Bench, Recording}
+use Rattle.recording.specs.declared.language.Language.the-variants.{Bench, Recording, TextDoor}
 use Rattle.recording.specs.declared.partial.Partial.{Partial}
 use Rattle.recording.specs.declared.session.Step as code-step
 use Rattle.recording.specs.declared.session.Fed as code
-use Rattle.recording.specs.Line.{pairsAt}
+use Rattle.recording.specs.Command.{begins, rawWord}
+use Rattle.recording.specs.Line.{pairsBehind, pairsFrom}
 use Rattle.recording.specs.Session.{Reading, reading, nothingRead, phaseAfter, typed, Session, session, lineEnded, stepped, waits, Fed, fedTo, fed, through, Steps, Feeds}
 
-pub pairs-within : (l : Language) → pairsAt l ≤ 8
-unfolding pairsAt
-pairs-within Bench = omega arith
-pairs-within Recording = omega arith
+-- a recording's pairs begin within the first bytes
+behind-within : (line : List ℕ) → pairsBehind line ≤ 8
+unfolding pairsBehind
+behind-within line = go (begins rawWord line)
+  where
+    go : (t : Bool) → cond t 4 8 ≤ 8
+    go true = omega arith
+    go false = omega arith
+
+pub pairs-within : (l : Language) (line : List ℕ) → pairsFrom l line ≤ 8
+unfolding pairsFrom
+pairs-within Bench line = omega arith
+pairs-within Recording line = behind-within line
+pairs-within TextDoor line = behind-within line
 
 -- ---- one character more
 

@@ -16,9 +16,12 @@ use Rattle.lines.specs.Scan.{next, after, isNewline}
 use Rattle.lines.proofs.ScanLaws.{in-parts}
 use Rattle.calls.specs.Effect.{Effect}
 use Rattle.recording.specs.declared.language.Language.{Language}
-use Rattle.recording.specs.Line.{pairsAt, lineEffect, wholeEffect}
+use Rattle.recording.specs.declared.language.Language.the-variants.{Bench, Recording, TextDoor}
+use Rattle.recording.specs.Command.{begins, rawWord}
+use Rattle.recording.specs.Line.{pairsBehind, pairsFrom, lineEffect, wholeEffect}
 use Rattle.recording.specs.Session.{Reading, nothingRead, phaseAfter, typed, session, lineEnded, stepped, waits, Fed, fedTo, fed}
 use Rattle.recording.specs.Transcript.{Transcript, answered, character, transcribed, keeps, Follows, FollowsLines, InBlocks}
+use Rattle.recording.proofs.CommandLaws.{begins-short, begins-take, begins-more}
 use Rattle.recording.proofs.SessionLaws.{pairs-within}
 use Rattle.recording.proofs.LineLaws.{kept-effect}
 
@@ -42,9 +45,9 @@ take-more n c line = go (leb n (length line)) refl
     go false e = ap (λ (l : List ℕ). take n (l ++ (c ∷ []))) (take-all n line (omega (arith, leb-false n (length line) e)))
 
 module _ (first c : ℕ) (line : List ℕ) (low : first ≤ 8) where
-  phase-more : phaseAfter (length (take 1025 line)) first (after Open (drop first line)) c ≡ after Open (drop first (line ++ (c ∷ [])))
+  phase-behind : phaseAfter (length (take 1025 line)) first (after Open (drop first line)) c ≡ after Open (drop first (line ++ (c ∷ [])))
   unfolding phaseAfter after
-  phase-more = go (ltb (length line) first) refl
+  phase-behind = go (ltb (length line) first) refl
     where
       go : (t : Bool) → ltb (length line) first ≡ t
           → cond (ltb (length (take 1025 line)) first) (after Open (drop first line)) (next (after Open (drop first line)) c) ≡ after Open (drop first (line ++ (c ∷ [])))
@@ -59,17 +62,59 @@ module _ (first c : ℕ) (line : List ℕ) (low : first ≤ 8) where
           let size : ltb (length (take 1025 line)) first ≡ false = le-ltb (length (take 1025 line)) first (omega (arith, length-take 1025 line, many, low)) in
           rw (size, drop-append-le first line (c ∷ []) many) (sym (in-parts Open (drop first line) (c ∷ [])))
 
+-- where the pairs begin is settled before they do
+module _ (c : ℕ) (line : List ℕ) where
+  behind-kept : pairsBehind (take 1025 line) ≡ pairsBehind line
+  unfolding pairsBehind
+  behind-kept = rw (begins-take rawWord line 1025 (omega arith)) refl
+
+  behind-more : drop (pairsBehind line) (line ++ (c ∷ [])) ≡ drop (pairsBehind (line ++ (c ∷ []))) (line ++ (c ∷ []))
+  unfolding pairsBehind
+  behind-more = go (leb 4 (length line)) refl
+    where
+      none : (n : ℕ) → 4 ≤ n → length line < 4 → drop n (line ++ (c ∷ [])) ≡ []
+      none n h few = drop-of-length-le (line ++ (c ∷ [])) {i = n} (omega (arith, few, h, length-append line (c ∷ [])))
+
+      either : (t : Bool) → length line < 4 → [] ≡ drop (cond t 4 8) (line ++ (c ∷ []))
+      either true few = sym (none 4 (omega arith) few)
+      either false few = sym (none 8 (omega arith) few)
+
+      go : (t : Bool) → leb 4 (length line) ≡ t → drop (cond (begins rawWord line) 4 8) (line ++ (c ∷ [])) ≡ drop (cond (begins rawWord (line ++ (c ∷ []))) 4 8) (line ++ (c ∷ []))
+      go true e = rw (begins-more rawWord line (c ∷ []) (leb-true 4 (length line) e)) refl
+      go false e =
+          let few = leb-false 4 (length line) e in
+          rw (sym (begins-short rawWord line few)) (none 8 (omega arith) few ∙ either (begins rawWord (line ++ (c ∷ []))) few)
+
+  pairs-kept : (l : Language) → pairsFrom l (take 1025 line) ≡ pairsFrom l line
+  unfolding pairsFrom
+  pairs-kept Bench = refl
+  pairs-kept Recording = behind-kept
+  pairs-kept TextDoor = behind-kept
+
+  pairs-more : (l : Language) → drop (pairsFrom l line) (line ++ (c ∷ [])) ≡ drop (pairsFrom l (line ++ (c ∷ []))) (line ++ (c ∷ []))
+  unfolding pairsFrom
+  pairs-more Bench = refl
+  pairs-more Recording = behind-more
+  pairs-more TextDoor = behind-more
+
+  phase-more : (l : Language) → phaseAfter (length (take 1025 line)) (pairsFrom l (take 1025 line)) (after Open (drop (pairsFrom l line) line)) c
+      ≡ after Open (drop (pairsFrom l (line ++ (c ∷ []))) (line ++ (c ∷ [])))
+  phase-more l =
+      ap (λ (n : ℕ). phaseAfter (length (take 1025 line)) n (after Open (drop (pairsFrom l line) line)) c) (pairs-kept l)
+      ∙ phase-behind (pairsFrom l line) c line (pairs-within l line)
+      ∙ ap (after Open) (pairs-more l)
+
 -- ---- a session that keeps a transcript keeps it after one character more
 
 module _ (l : Language) (c : ℕ) (t : Transcript) where
   abbrev Stays : Bool → Type 0
-  Stays b = (cond b (lineEnded (lineEffect l (keeps l t .reading .phase) (keeps l t .reading .line) (keeps l t .state) (keeps l t .memory))) (record { session = session (typed (pairsAt l) 1025 c (keeps l t .reading)) (keeps l t .state) (keeps l t .memory); text = [] }) .session ≡ keeps l (cond b (answered (wholeEffect l (t .line) (t .state) (t .memory)) t) (record { line = t .line ++ (c ∷ []); state = t .state; memory = t .memory; text = t .text })))
-      × (t .text ++ cond b (lineEnded (lineEffect l (keeps l t .reading .phase) (keeps l t .reading .line) (keeps l t .state) (keeps l t .memory))) (record { session = session (typed (pairsAt l) 1025 c (keeps l t .reading)) (keeps l t .state) (keeps l t .memory); text = [] }) .text ≡ cond b (answered (wholeEffect l (t .line) (t .state) (t .memory)) t) (record { line = t .line ++ (c ∷ []); state = t .state; memory = t .memory; text = t .text }) .text)
+  Stays b = (cond b (lineEnded (lineEffect l (keeps l t .reading .phase) (keeps l t .reading .line) (keeps l t .state) (keeps l t .memory))) (record { session = session (typed (pairsFrom l (keeps l t .reading .line)) 1025 c (keeps l t .reading)) (keeps l t .state) (keeps l t .memory); text = [] }) .session ≡ keeps l (cond b (answered (wholeEffect l (t .line) (t .state) (t .memory)) t) (record { line = t .line ++ (c ∷ []); state = t .state; memory = t .memory; text = t .text })))
+      × (t .text ++ cond b (lineEnded (lineEffect l (keeps l t .reading .phase) (keeps l t .reading .line) (keeps l t .state) (keeps l t .memory))) (record { session = session (typed (pairsFrom l (keeps l t .reading .line)) 1025 c (keeps l t .reading)) (keeps l t .state) (keeps l t .memory); text = [] }) .text ≡ cond b (answered (wholeEffect l (t .line) (t .state) (t .memory)) t) (record { line = t .line ++ (c ∷ []); state = t .state; memory = t .memory; text = t .text }) .text)
 
   stays : (b : Bool) → Stays b
   unfolding keeps lineEnded answered typed after
-  stays true = rw (kept-effect l (t .line) (t .state) (t .memory), take-nil {A = ℕ} 1025, drop-nil {A = ℕ} (pairsAt l)) (refl, refl)
-  stays false = rw (take-more 1025 c (t .line), phase-more (pairsAt l) c (t .line) (pairs-within l)) (refl, append-nil (t .text))
+  stays true = rw (kept-effect l (t .line) (t .state) (t .memory), take-nil {A = ℕ} 1025, drop-nil {A = ℕ} (pairsFrom l [])) (refl, refl)
+  stays false = rw (take-more 1025 c (t .line), phase-more c (t .line) l) (refl, append-nil (t .text))
 
   kept-step : (stepped l c (keeps l t) .session ≡ keeps l (character l c t)) × (t .text ++ stepped l c (keeps l t) .text ≡ character l c t .text)
   unfolding stepped character

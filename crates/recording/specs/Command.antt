@@ -5,7 +5,7 @@ use Prim.Native.Nat.{ℕ}
 use lib.ListN.{length}
 use lib.Dec.{eqb, ltb}
 use Rattle.recording.specs.declared.command.Command.{Command}
-use Rattle.recording.specs.declared.command.Command.the-variants.{Start, Request, Report, Store, Memory, Whole, Process, Unknown}
+use Rattle.recording.specs.declared.command.Command.the-variants.{Start, Request, Report, Store, Memory, Whole, Process, Text, Raw, Unknown}
 
 -- a line begins with this text
 unfoldable pub begins : List ℕ → List ℕ → Bool
@@ -41,7 +41,19 @@ wholeWord = 119 ∷ 104 ∷ 111 ∷ 108 ∷ 101 ∷ []
 abbrev pub processWord : List ℕ
 processWord = 112 ∷ 114 ∷ 111 ∷ 99 ∷ 101 ∷ 115 ∷ 115 ∷ []
 
--- a line but a request is no longer
+-- `line` and a blank
+abbrev pub lineWord : List ℕ
+lineWord = 108 ∷ 105 ∷ 110 ∷ 101 ∷ 32 ∷ []
+
+-- `raw` and a blank
+abbrev pub rawWord : List ℕ
+rawWord = 114 ∷ 97 ∷ 119 ∷ 32 ∷ []
+
+-- `0x`, with which a text line begins
+abbrev pub textWord : List ℕ
+textWord = 48 ∷ 120 ∷ []
+
+-- a line with another word than those three that stand for bytes is no longer
 abbrev pub longestLine : ℕ
 longestLine = 1024
 
@@ -55,6 +67,13 @@ shortCommand line =
     (cond (begins wholeWord line) Whole
     (cond (begins processWord line) Process Unknown)))))
 
--- which call a line is: a request may be of any length
+-- a line of any length, which stands for bytes; else another
+unfoldable pub anyLength : List ℕ → Command → Command
+anyLength line other =
+    cond (begins requestWord line) Request
+    (cond (begins lineWord line) Text
+    (cond (begins rawWord line) Raw other))
+
+-- which call a line is
 unfoldable pub commandOf : List ℕ → Command
-commandOf line = cond (begins requestWord line) Request (cond (ltb longestLine (length line)) Unknown (shortCommand line))
+commandOf line = anyLength line (cond (ltb longestLine (length line)) Unknown (shortCommand line))

@@ -13,7 +13,7 @@ use Rattle.recording.specs.declared.language.Language.{Language}
 use Rattle.recording.specs.declared.partial.Partial.{Partial}
 use Rattle.recording.specs.declared.session.Fed as code
 use Rattle.recording.specs.declared.session.Step as code-step
-use Rattle.recording.specs.Line.{pairsAt, lineEffect}
+use Rattle.recording.specs.Line.{pairsFrom, lineEffect}
 
 -- how much is kept of a line: one byte more than a call has, which tells that it is longer
 abbrev pub keptSize : ℕ
@@ -67,7 +67,7 @@ lineEnded e = stepTo (session nothingRead (e .state) (e .memory)) (e .text)
 unfoldable pub stepped : Language → ℕ → Session → Step
 stepped l c x =
     cond (isNewline c) (lineEnded (lineEffect l (x .reading .phase) (x .reading .line) (x .state) (x .memory)))
-    (stepTo (session (typed (pairsAt l) keptSize c (x .reading)) (x .state) (x .memory)) [])
+    (stepTo (session (typed (pairsFrom l (x .reading .line)) keptSize c (x .reading)) (x .state) (x .memory)) [])
 
 -- a line is not ended where what it prints might not fit
 unfoldable pub waits : ℕ → ℕ → Bool

@@ -12,11 +12,13 @@ pub enum Command {
     Memory,
     Whole,
     Process,
+    Text,
+    Raw,
     Unknown,
 }
 
 // Whether a line begins with this text.
-fn begins(line: &[u8], text: &[u8]) -> bool
+pub(crate) fn begins(line: &[u8], text: &[u8]) -> bool
     ensures { λ r. ⌜ r ≡ begins (now (text .entry)) (now (line .entry)) ⌝ }
 {
     if line.len() < text.len() {
@@ -57,12 +59,18 @@ fn short_command(line: &[u8]) -> Command
     Command::Unknown
 }
 
-// Which call a line is: a request may be of any length, and another call has at most 1,024 bytes.
+// Which call a line is: one that stands for bytes may be of any length, and another call has at most 1,024 bytes.
 pub(crate) fn command_of(line: &[u8]) -> Command
     ensures { λ r. ⌜ r ≡ commandOf (now (line .entry)) ⌝ }
 {
     if begins(line, b"request ") {
         return Command::Request;
+    }
+    if begins(line, b"line ") {
+        return Command::Text;
+    }
+    if begins(line, b"raw ") {
+        return Command::Raw;
     }
     if LONGEST_LINE < line.len() {
         return Command::Unknown;

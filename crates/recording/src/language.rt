@@ -1,9 +1,10 @@
-// The two languages.
+// The three languages.
+use crate::command::begins;
 use calls::STATE;
 use gateway::fresh_start;
 use process::MEMORY_BYTES;
 ghost use mathlib.Core.Path.{_≡_};
-ghost use Rattle.recording.specs.Line.{thereAt, pairsAt, firstState};
+ghost use Rattle.recording.specs.Line.{thereAt, pairsBehind, pairsFrom, firstState};
 
 // What the lines are.
 pub enum Language {
@@ -11,6 +12,15 @@ pub enum Language {
     Bench,
     // Calls of a recording, to a gateway with no process before the first start.
     Recording,
+    // Text lines, and calls of a recording, to a gateway with no process before the first start.
+    TextDoor,
+}
+
+// Where in a line of a recording the pairs begin.
+fn pairs_behind(line: &[u8]) -> usize
+    ensures { λ r. ⌜ r ≡ pairsBehind (now (line .entry)) ⌝ }
+{
+    if begins(line, b"raw ") { 4 } else { 8 }
 }
 
 impl Language {
@@ -21,16 +31,18 @@ impl Language {
         match self {
             Language::Bench => [false, false, true, false, false, false, false, false],
             Language::Recording => [false; 8],
+            Language::TextDoor => [false; 8],
         }
     }
 
-    // Where in a line the pairs of a request begin: in a recording after the word and a blank.
-    pub(crate) fn pairs_at(self) -> usize
-        ensures { λ r. ⌜ r ≡ pairsAt self ⌝ }
+    // Where in a line that begins so the pairs begin: in a recording after the word and a blank.
+    pub(crate) fn pairs_from(self, line: &[u8]) -> usize
+        ensures { λ r. ⌜ r ≡ pairsFrom self (now (line .entry)) ⌝ }
     {
         match self {
             Language::Bench => 0,
-            Language::Recording => 8,
+            Language::Recording => pairs_behind(line),
+            Language::TextDoor => pairs_behind(line),
         }
     }
 }

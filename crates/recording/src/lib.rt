@@ -1,6 +1,7 @@
-// A gateway driven by text, in one of two languages: that of the bench, where each line is a request, and that of recordings, where each
-// line is a call. What a line does is carried out, and what came of it printed; a line that is none prints a question mark and changes
-// nothing. A text may come in blocks of any length. Nothing here reads or writes: see `feed`.
+// A gateway driven by text, in one of three languages: that of the bench, where each line is a request, that of recordings, where each
+// line is a call, and that of the text door, where a line is a text line or a call. What a line does is carried out, and what came of it
+// printed; a line that is none prints a question mark and changes nothing. A text may come in blocks of any length. Nothing here reads or
+// writes: see `feed`.
 mod command;
 mod language;
 mod line;
@@ -14,7 +15,7 @@ pub use partial::Partial;
 pub use session::Fed;
 pub use session::feed;
 
-// A line but a request is no longer.
+// A line whose word is not `request`, `line` or `raw` is no longer.
 pub const LONGEST_LINE: usize = 1024;
 // How much is kept of a line: one byte more, which tells that it is longer.
 pub const KEPT: usize = 1025;

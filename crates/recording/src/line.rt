@@ -1,15 +1,19 @@
 // The answer to one line.
 use crate::command::Command;
+use crate::command::begins;
 use crate::command::command_of;
 use crate::language::Language;
 use calls::MEMORY;
 use calls::STATE;
+use calls::Shown;
 use calls::answer_memory;
 use calls::answer_process;
+use calls::answer_raw;
 use calls::answer_report;
 use calls::answer_request;
 use calls::answer_start;
 use calls::answer_store;
+use calls::answer_text;
 use calls::answer_unknown;
 use calls::answer_whole;
 use lines::Phase;
@@ -21,6 +25,7 @@ ghost use Rattle.recording.specs.Line.{commandEffect, lineEffect};
 
 // Carries out a line of a recording by its word.
 fn answer_command(
+    shown: Shown,
     command: Command,
     phase: Phase,
     state: &mut [u8; STATE],
@@ -29,19 +34,48 @@ fn answer_command(
     out: &mut [u8],
 ) -> usize
     requires { ⌜ longestText ≤ length (now out) ⌝ }
-    ensures { λ r. ⌜ Does (commandEffect phase (now (line .entry)) (now (state .entry)) (now (memory .entry)) command) r (now (state .exit)) (now (memory .exit)) (now (out .entry)) (now (out .exit)) ⌝ }
+    ensures { λ r. ⌜ Does (commandEffect shown phase (now (line .entry)) (now (state .entry)) (now (memory .entry)) command) r (now (state .exit)) (now (memory .exit)) (now (out .entry)) (now (out .exit)) ⌝ }
 {
-    let word = at_most(8, line);
+    let request = at_most(8, line);
+    let text = at_most(5, line);
+    let raw = at_most(4, line);
     match command {
         Command::Start => answer_start(state, memory, line, out),
-        Command::Request => answer_request(phase, state, memory, &line[word..], out),
-        Command::Report => answer_report(state, memory, line, out),
+        Command::Request => answer_request(phase, state, memory, &line[request..], out),
+        Command::Report => answer_report(shown, state, memory, line, out),
         Command::Store => answer_store(state, memory, line, out),
         Command::Memory => answer_memory(state, memory, line, out),
         Command::Whole => answer_whole(state, memory, line, out),
         Command::Process => answer_process(state, memory, line, out),
+        Command::Text => answer_text(Shown::Recorded, state, memory, &line[text..], out),
+        Command::Raw => answer_raw(phase, state, memory, &line[raw..], out),
         Command::Unknown => answer_unknown(state, memory, out),
     }
+}
+
+// Carries out a line of the text door: a text line, or one of a recording.
+fn answer_at_door(
+    phase: Phase,
+    state: &mut [u8; STATE],
+    memory: &mut [u8; MEMORY],
+    line: &[u8],
+    out: &mut [u8],
+) -> usize
+    requires { ⌜ longestText ≤ length (now out) ⌝ }
+    ensures { λ r. ⌜ Does (lineEffect Language.TextDoor phase (now (line .entry)) (now (state .entry)) (now (memory .entry))) r (now (state .exit)) (now (memory .exit)) (now (out .entry)) (now (out .exit)) ⌝ }
+{
+    if begins(line, b"0x") {
+        return answer_text(Shown::Alone, state, memory, line, out);
+    }
+    answer_command(
+        Shown::Alone,
+        command_of(line),
+        phase,
+        state,
+        memory,
+        line,
+        out,
+    )
 }
 
 // Carries out a line; phase is where its pairs led, which may go on after what is kept of them.
@@ -58,6 +92,15 @@ pub(crate) fn answer_line(
 {
     match language {
         Language::Bench => answer_request(phase, state, memory, line, out),
-        Language::Recording => answer_command(command_of(line), phase, state, memory, line, out),
+        Language::Recording => answer_command(
+            Shown::Recorded,
+            command_of(line),
+            phase,
+            state,
+            memory,
+            line,
+            out,
+        ),
+        Language::TextDoor => answer_at_door(phase, state, memory, line, out),
     }
 }

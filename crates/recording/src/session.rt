@@ -13,7 +13,7 @@ ghost use mathlib.Core.List.{[]};
 ghost use Prim.Native.Nat.{_≤_};
 ghost use lib.ListN.{length};
 ghost use Rattle.calls.specs.Effect.{longestText, Does};
-ghost use Rattle.recording.specs.Line.{pairsAt, lineEffect};
+ghost use Rattle.recording.specs.Line.{pairsFrom, lineEffect};
 ghost use Rattle.recording.specs.Session.{reading, session, waits, stepped, fed, Steps, Feeds};
 
 // What was read of the line after one character, and how many bytes of text were put.
@@ -46,6 +46,14 @@ fn end_line(
     answer_line(language, phase, state, memory, &line[..n], out)
 }
 
+// Where the pairs begin of a line of which so much was read.
+fn pairs_begin(language: Language, partial: Partial, line: &[u8]) -> usize
+    ensures { λ r. ⌜ r ≡ pairsFrom language (reading partial (now (line .entry)) .line) ⌝ }
+{
+    let n = at_most(partial.len, line);
+    language.pairs_from(&line[..n])
+}
+
 // Whether a character has to wait until there is room for the text of a line.
 fn must_wait(c: u8, room: usize) -> bool
     ensures { λ r. ⌜ r ≡ waits c room ⌝ }
@@ -67,8 +75,9 @@ fn read_character(
     ensures { λ r. ⌜ Steps (stepped language c (session (reading partial (now (line .entry))) (now (state .entry)) (now (memory .entry)))) r (now (line .exit)) (now (state .exit)) (now (memory .exit)) (now (out .entry)) (now (out .exit)) ⌝ }
 {
     if c != 10 {
+        let first = pairs_begin(language, partial, line);
         return Step {
-            partial: partial.push(language.pairs_at(), c, line),
+            partial: partial.push(first, c, line),
             len: 0,
         };
     }

@@ -12,16 +12,18 @@ use Rattle.lists.specs.Buffer.{overlay}
 use Rattle.format.specs.declared.header.Header.{Header}
 use Rattle.format.specs.Outcome.{outcome, lengthOf, firstFailing}
 use Rattle.format.specs.Layout.{written}
+use Rattle.format.proofs.OutcomeLaws.{lengthOf-none}
+use Rattle.session.specs.Session.{textHost}
 use Rattle.process.specs.Local.{Local, Proper}
 use Rattle.rules.specs.Rule.{Public, public}
-use Rattle.rules.specs.Window.{Answer}
-use Rattle.rules.specs.Access.{Asker, nobody, by, insider, Access, numberAt, grants, refuses}
-use Rattle.rules.specs.Isolation.{Hosts, noticed}
+use Rattle.rules.specs.Window.{Buffers, Answer}
+use Rattle.rules.specs.Access.{Asker, nobody, by, insider, Output, Access, numberAt, grants, refuses}
+use Rattle.rules.specs.Isolation.{Hosts, noticed, lineSent, sentTo}
 
 -- what is answered
-unfoldable pub saidAt : Access → List ℕ → Local → Answer
-saidAt a buffer l =
-    cond (eqb (numberAt a l) 0) (grants (a .reply l) buffer) (refuses (numberAt a l) (a .refusal l (numberAt a l)) buffer)
+unfoldable pub saidAt : Access → Buffers → Local → Answer
+saidAt a b l =
+    cond (eqb (numberAt a l) 0) (grants (a .reply l) b) (refuses (numberAt a l) (a .refusal l (numberAt a l)) b)
 
 -- what is left of the process
 unfoldable pub leftAt : Access → Local → Local
@@ -45,10 +47,15 @@ pub record Sends (u : Public) (bytes : List ℕ) : Type 0 where
   pub is : bytes ≡ written header string
   pub sees : insider u (header .host) ≡ true
 
--- what nobody asked is nothing, or is sent to a host that may see the inside
-unfoldable pub Discreet : Asker → Public → List ℕ → Type 0
-Discreet nobody u bytes = (bytes ≡ []) ⊎ Sends u bytes
-Discreet (by host) u bytes = Unit {0}
+-- what nobody asked is nothing, or is sent to a host that may see the inside; and so is a line, which goes to host 253
+pub record ToInsiders (u : Public) (w : Output) : Type 0 where
+  pub notice : (w .own ≡ []) ⊎ Sends u (w .own)
+  pub line : (w .line ≡ []) ⊎ (insider u textHost ≡ true)
+
+-- so where nobody asks
+unfoldable pub Discreet : Asker → Public → Output → Type 0
+Discreet nobody u w = ToInsiders u w
+Discreet (by host) u w = Unit {0}
 
 -- the number of the first test by the public part that fails, or 0
 abbrev pub outerNumber : Access → Local → ℕ
@@ -65,7 +72,7 @@ pub record Fair (w : Asker) (a : Access) (then : Public → Public) : Type 0 whe
   pub hides : ((u : Public) → then u ≡ u) ⊎ ((l : Local) → firstFailing (a .inner l) ≡ 0)
   -- a refusal by the public part tells no more than it
   pub plain : (l k : Local) → public (l .process) ≡ public (k .process) → a .refusal l (outerNumber a l) ≡ a .refusal k (outerNumber a l)
-  pub discreet : (l : Local) → Discreet w (public (l .process)) (a .reply l)
+  pub discreet : (l : Local) → Proper l → Discreet w (public (l .process)) (a .reply l)
 
 -- where all tests pass, those by the public part do
 pub outer-zero : (a : Access) (l : Local) → numberAt a l ≡ 0 → outerNumber a l ≡ 0
@@ -79,21 +86,21 @@ outer-zero a l e = go (eqb (outerNumber a l) 0) refl
 -- ---- a host that may not see the inside
 
 module _ (host : ℕ) (a : Access) (then : Public → Public) (f : Fair (by host) a then) where
-  pub said-stranger : (buffer : List ℕ) (l k : Local) → public (l .process) ≡ public (k .process) → insider (public (l .process)) host ≡ false
-      → saidAt a buffer l ≡ saidAt a buffer k
+  pub said-stranger : (b : Buffers) (l k : Local) → public (l .process) ≡ public (k .process) → insider (public (l .process)) host ≡ false
+      → saidAt a b l ≡ saidAt a b k
   unfolding saidAt numberAt firstFailing May
-  said-stranger buffer l k e out = go (eqb (outerNumber a l) 0) refl
+  said-stranger b l k e out = go (eqb (outerNumber a l) 0) refl
     where
       same : outerNumber a l ≡ outerNumber a k
       same = ap (λ (u : Public). firstFailing (a .outer u)) e
 
-      takes : (insider (public (l .process)) host ≡ true) ⊎ Taking host a then → eqb (outerNumber a l) 0 ≡ true → saidAt a buffer l ≡ saidAt a buffer k
+      takes : (insider (public (l .process)) host ≡ true) ⊎ Taking host a then → eqb (outerNumber a l) 0 ≡ true → saidAt a b l ≡ saidAt a b k
       takes (inl i) z = absurd (true≢false (sym i ∙ out))
-      takes (inr t) z = rw (← same, z, t .none l, t .none k) (ap (λ (bytes : List ℕ). grants bytes buffer) (t .blind l k))
+      takes (inr t) z = rw (← same, z, t .none l, t .none k) (ap (λ (w : Output). grants w b) (t .blind l k))
 
-      go : (t : Bool) → eqb (outerNumber a l) 0 ≡ t → saidAt a buffer l ≡ saidAt a buffer k
+      go : (t : Bool) → eqb (outerNumber a l) 0 ≡ t → saidAt a b l ≡ saidAt a b k
       go true z = takes (f .guarded (public (l .process)) (eqb-true _ 0 z)) z
-      go false z = rw (← same, z, z) (ap (λ (bytes : List ℕ). refuses (outerNumber a l) bytes buffer) (f .plain l k e))
+      go false z = rw (← same, z, z) (ap (λ (bytes : List ℕ). refuses (outerNumber a l) bytes b) (f .plain l k e))
 
 -- ---- the public part after it
 
@@ -120,13 +127,36 @@ module _ (w : Asker) (a : Access) (then : Public → Public) (f : Fair w a then)
 
 -- ---- what nobody asked
 
--- hosts that may not see the inside do not hear it
-pub quiet : (H : Hosts) (u : Public) → ((host : ℕ) → H host ≡ true → insider u host ≡ false) → (bytes buffer : List ℕ) → Discreet nobody u bytes
+-- none of these hosts may see the inside
+abbrev Outside : Hosts → Public → Type 0
+Outside H u = (host : ℕ) → H host ≡ true → insider u host ≡ false
+
+-- they do not hear it
+notice-quiet : (H : Hosts) (u : Public) → Outside H u → (bytes buffer : List ℕ) → (bytes ≡ []) ⊎ Sends u bytes
     → noticed H (outcome 0 (length bytes)) (overlay bytes buffer) ≡ false
-unfolding noticed lengthOf Discreet overlay written
-quiet H u out bytes buffer (inl e) = rw e
-quiet H u out bytes buffer (inr d) = go (H (d .header .host)) refl
+unfolding noticed lengthOf overlay written
+notice-quiet H u out bytes buffer (inl e) = rw e
+notice-quiet H u out bytes buffer (inr d) = go (H (d .header .host)) refl
   where
     go : (t : Bool) → H (d .header .host) ≡ t → noticed H (outcome 0 (length bytes)) (overlay bytes buffer) ≡ false
     go true e = absurd (true≢false (sym (d .sees) ∙ out (d .header .host) e))
     go false e = rw (d .is, e) (and-false (ltb 0 (length (written (d .header) (d .string)))))
+
+line-quiet : (H : Hosts) (u : Public) → Outside H u → (w : Output) (b : Buffers) → (w .line ≡ []) ⊎ (insider u textHost ≡ true) → lineSent H (grants w b) ≡ false
+unfolding lineSent
+line-quiet H u out w b (inl e) = rw e
+line-quiet H u out w b (inr sees) = go (H textHost) refl
+  where
+    go : (t : Bool) → H textHost ≡ t → lineSent H (grants w b) ≡ false
+    go true e = absurd (true≢false (sym sees ∙ out textHost e))
+    go false e = rw e (and-false (ltb 0 (length (w .line))))
+
+pub quiet : (H : Hosts) (u : Public) → ((host : ℕ) → H host ≡ true → insider u host ≡ false) → (w : Output) (b : Buffers) → Discreet nobody u w
+    → sentTo H nobody (grants w b) ≡ false
+unfolding sentTo Discreet
+quiet H u out w b d = rw (notice-quiet H u out (w .own) (b .own) (d .notice), line-quiet H u out w b (d .line))
+
+-- nothing of a refusal is sent where nobody asks
+pub refusal-quiet : (H : Hosts) (number : ℕ) (bytes : List ℕ) (b : Buffers) → sentTo H nobody (refuses number bytes b) ≡ false
+unfolding sentTo noticed lineSent
+refusal-quiet H number bytes b = rw (lengthOf-none number)

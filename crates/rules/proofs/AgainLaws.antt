@@ -2,7 +2,6 @@
 -- hidden processes alone still do where fewer are hidden. Assumes nothing.
 use mathlib.Core.Path.{_≡_, refl, sym, ap, _∙_, subst, fun-ext}
 use mathlib.Core.Bool.{Bool, true, false, not, _&&_, true≢false, and-true, and-false}
-use mathlib.Core.List.{List}
 use Prim.Native.Nat.{ℕ}
 use borrow.Author.Tests.{eqb-true, eq-eqb, not-false}
 use lib.ListN.{getD}
@@ -13,9 +12,9 @@ use Rattle.ops.specs.Codes.{CREATE}
 use Rattle.process.specs.Local.{Local}
 use Rattle.rules.specs.Rule.{Public, names, creates}
 use Rattle.rules.specs.Tests.{State}
-use Rattle.rules.specs.Access.{Asker, nobody, by, Access, Place, nowhere, atProcess, Turn, numberAt, grants, reached, taken}
+use Rattle.rules.specs.Access.{Asker, nobody, by, Output, Access, Place, nowhere, atProcess, Turn, numberAt, grants, reached, taken}
 use Rattle.rules.specs.Step.{Answer, StepResult, localOf, put, Call, step}
-use Rattle.rules.specs.Turn.{turnOf, bufferOf}
+use Rattle.rules.specs.Turn.{turnOf, buffersOf}
 use Rattle.rules.specs.Ready.{Ready}
 use Rattle.rules.specs.Run.{TraceItem, traceItem}
 use Rattle.rules.specs.Isolation.{Hosts, Processes, asker, subject, fieldsOf, isOne, isGranted, toldOf, withoutData, Apart, NoneDebugs, publicOf}
@@ -30,17 +29,17 @@ use Rattle.rules.proofs.IsolationLaws.{lets-in, both, stays-withoutData
 -- ---- what a CREATE makes
 
 -- a CREATE that is granted goes to a process, since its answer tells of one
-pub create-goes : (c : Call) → fieldsOf c .cmd ≡ CREATE → (bytes : List ℕ) → Nowhere c bytes → ⊥
+pub create-goes : (c : Call) → fieldsOf c .cmd ≡ CREATE → (output : Output) → Nowhere c output → ⊥
 unfolding toldOf isGranted names
-create-goes c is bytes n = true≢false (sym told-there ∙ ap (λ (u : Public). u .there) (n .told nobody number))
+create-goes c is output n = true≢false (sym told-there ∙ ap (λ (u : Public). u .there) (n .told nobody number))
   where
     nobody : ℕ → Public
     nobody k = record { there = false; host = 0; size = 0 }
 
     number : ℕ
-    number = getD (grants bytes (bufferOf c) .buffer) 5 0
+    number = getD (grants output (buffersOf c) .buffer) 5 0
 
-    told-there : toldOf nobody c (grants bytes (bufferOf c)) number .there ≡ true
+    told-there : toldOf nobody c (grants output (buffersOf c)) number .there ≡ true
     told-there = rw (is, eq-eqb number number refl)
 
 module _ (s₁ s₂ : State) (r₁ : Ready s₁) (r₂ : Ready s₂) (c : Call) (is : fieldsOf c .cmd ≡ CREATE) (p : ℕ) where
@@ -49,7 +48,7 @@ module _ (s₁ s₂ : State) (r₁ : Ready s₁) (r₂ : Ready s₂) (c : Call) 
   Made x y =
       isGranted (x .answer .outcome) ≡ true → isGranted (y .answer .outcome) ≡ true → getD (x .answer .buffer) 5 0 ≡ p → localOf (x .after) p ≡ localOf (y .after) p
 
-  made-there : Shown s₁ s₂ → (q : ℕ) (a : Access) → There s₁ c q a → Made (reached (atProcess q a) (bufferOf c) s₁) (reached (atProcess q a) (bufferOf c) s₂)
+  made-there : Shown s₁ s₂ → (q : ℕ) (a : Access) → There s₁ c q a → Made (reached (atProcess q a) (buffersOf c) s₁) (reached (atProcess q a) (buffersOf c) s₂)
   unfolding reached isGranted
   made-there shown q a t = go (eqb (numberAt a (localOf s₁ q)) 0) refl (eqb (numberAt a (localOf s₂ q)) 0) refl
     where
@@ -63,7 +62,7 @@ module _ (s₁ s₂ : State) (r₁ : Ready s₁) (r₂ : Ready s₂) (c : Call) 
       other-fits = subst (λ (u : Public). Fits s₂ q (t .then u)) (shown q (t .low)) (fits-shown s₁ s₂ shown q (t .low) (t .then (publicOf s₁ q)) (t .fits))
 
       go : (t₁ : Bool) → eqb (numberAt a (localOf s₁ q)) 0 ≡ t₁ → (t₂ : Bool) → eqb (numberAt a (localOf s₂ q)) 0 ≡ t₂
-          → Made (reached (atProcess q a) (bufferOf c) s₁) (reached (atProcess q a) (bufferOf c) s₂)
+          → Made (reached (atProcess q a) (buffersOf c) s₁) (reached (atProcess q a) (buffersOf c) s₂)
       go false e₁ t₂ e₂ = rw e₁ (λ g₁. absurd (true≢false (sym g₁ ∙ isGranted-outcome (numberAt a (localOf s₁ q)) 0 ∙ e₁)))
       go true e₁ false e₂ = rw (e₁, e₂) (λ g₁ g₂. absurd (true≢false (sym g₂ ∙ isGranted-outcome (numberAt a (localOf s₂ q)) 0 ∙ e₂)))
       go true e₁ true e₂ =
@@ -72,18 +71,18 @@ module _ (s₁ s₂ : State) (r₁ : Ready s₁) (r₂ : Ready s₂) (c : Call) 
           subst (λ (k : ℕ). localOf (put q (a .effect (localOf s₁ q)) s₁) k ≡ localOf (put q (a .effect (localOf s₂ q)) s₂) k) (sym (t .carries (localOf s₁ q) is) ∙ n)
           (left s₁ r₁ (t .fits) (eqb-true _ 0 e₁) ∙ t .anew is (localOf s₁ q) (localOf s₂ q) ∙ sym (left s₂ r₂ other-fits (eqb-true _ 0 e₂))))
 
-  made-placed : Shown s₁ s₂ → (place : Place) → Placed s₁ c place → Made (reached place (bufferOf c) s₁) (reached place (bufferOf c) s₂)
+  made-placed : Shown s₁ s₂ → (place : Place) → Placed s₁ c place → Made (reached place (buffersOf c) s₁) (reached place (buffersOf c) s₂)
   unfolding Placed
-  made-placed shown (nowhere bytes) n = absurd (create-goes c is bytes n)
+  made-placed shown (nowhere output) n = absurd (create-goes c is output n)
   made-placed shown (atProcess q a) t = made-there shown q a t
 
   made : Shown s₁ s₂ → Made (step s₁ c) (step s₂ c)
   unfolding taken isGranted
   made shown =
-      rw (lawful c .turn s₁, lawful c .turn s₂ ∙ ap (λ (t : Turn). taken t (bufferOf c) s₂) (sym (lawful c .alike s₁ s₂ r₁ r₂ shown)))
+      rw (lawful c .turn s₁, lawful c .turn s₂ ∙ ap (λ (t : Turn). taken t (buffersOf c) s₂) (sym (lawful c .alike s₁ s₂ r₁ r₂ shown)))
       (go (eqb (firstFailing (turnOf s₁ c .tests)) 0) refl)
     where
-      go : (t : Bool) → eqb (firstFailing (turnOf s₁ c .tests)) 0 ≡ t → Made (taken (turnOf s₁ c) (bufferOf c) s₁) (taken (turnOf s₁ c) (bufferOf c) s₂)
+      go : (t : Bool) → eqb (firstFailing (turnOf s₁ c .tests)) 0 ≡ t → Made (taken (turnOf s₁ c) (buffersOf c) s₁) (taken (turnOf s₁ c) (buffersOf c) s₂)
       go true e = rw e (made-placed shown (turnOf s₁ c .place) (lawful c .placed s₁ r₁ (eqb-true _ 0 e)))
       go false e = rw e (λ g₁. absurd (true≢false (sym g₁ ∙ isGranted-outcome (firstFailing (turnOf s₁ c .tests)) 0 ∙ e)))
 

@@ -1,8 +1,8 @@
--- The law of a call: all that the theorems ask of one. Each call has one proof of it (RequestLaws, ReportLaws), and every theorem follows
+-- The law of a call: all that the theorems ask of one. Each call has one proof of it (RequestLaws, ReportLaws, TextLaws), and every theorem follows
 -- for all calls alike. Assumes nothing.
 use mathlib.Core.Path.{_≡_}
 use mathlib.Core.Bool.{true, false, cond}
-use mathlib.Core.List.{List, []}
+use mathlib.Core.List.{[]}
 use mathlib.Core.Logic.{_⊎_}
 use Prim.Native.Nat.{ℕ, _≤_, _<_}
 use lib.Dec.{eqb}
@@ -13,9 +13,9 @@ use Rattle.process.specs.Local.{Local}
 use Rattle.rules.specs.Outsider.{only}
 use Rattle.rules.specs.Rule.{Public, creates}
 use Rattle.rules.specs.Tests.{State}
-use Rattle.rules.specs.Access.{nobody, Access, Place, nowhere, atProcess, grants, taken}
+use Rattle.rules.specs.Access.{nobody, Output, alone, Access, Place, nowhere, atProcess, grants, taken}
 use Rattle.rules.specs.Step.{Answer, Call, step}
-use Rattle.rules.specs.Turn.{turnOf, bufferOf}
+use Rattle.rules.specs.Turn.{turnOf, buffersOf}
 use Rattle.rules.specs.Ready.{Ready, NineWords, Typed}
 use Rattle.rules.specs.Isolation.{Processes, asker, subject, event, passedOver, fieldsOf, toldOf, publicOf}
 use Rattle.rules.specs.Total.{testsOf, numbersOf, oneOf}
@@ -47,28 +47,28 @@ pub record There (s : State) (c : Call) (p : ℕ) (a : Access) : Type 0 where
   pub named : (P : Processes) → subject P c ≡ true → P p ≡ true
   pub reaches : (subject (only p) c ≡ true) ⊎ (fieldsOf c .cmd ≡ CREATE)
   -- the reply to a CREATE carries the number of the process
-  pub carries : (l : Local) → fieldsOf c .cmd ≡ CREATE → getD (grants (a .reply l) (bufferOf c) .buffer) 5 0 ≡ p
+  pub carries : (l : Local) → fieldsOf c .cmd ≡ CREATE → getD (grants (a .reply l) (buffersOf c) .buffer) 5 0 ≡ p
   -- and what it creates does not rest on what was there
   pub anew : fieldsOf c .cmd ≡ CREATE → (l k : Local) → a .effect l ≡ a .effect k
   -- the call and its answer tell the public part after it
-  pub told : (d : ℕ → Public) (l : Local) (q : ℕ) → toldOf d c (grants (a .reply l) (bufferOf c)) q ≡ cond (eqb q p) (then (d q)) (d q)
+  pub told : (d : ℕ → Public) (l : Local) (q : ℕ) → toldOf d c (grants (a .reply l) (buffersOf c)) q ≡ cond (eqb q p) (then (d q)) (d q)
   -- when the right to debug begins and ends
   pub turns : firstFailing (a .outer (publicOf s p)) ≡ 0 → Turns (asker c) (fieldsOf c) p (publicOf s p) (then (publicOf s p))
 
 -- a call that goes to no process
-pub record Nowhere (c : Call) (bytes : List ℕ) : Type 0 where
-  pub told : (d : ℕ → Public) (q : ℕ) → toldOf d c (grants bytes (bufferOf c)) q ≡ d q
-  pub quiet : asker c ≡ nobody → bytes ≡ []
+pub record Nowhere (c : Call) (output : Output) : Type 0 where
+  pub told : (d : ℕ → Public) (q : ℕ) → toldOf d c (grants output (buffersOf c)) q ≡ d q
+  pub quiet : asker c ≡ nobody → output ≡ alone []
 
 -- the one or the other
 unfoldable pub Placed : State → Call → Place → Type 0
-Placed s c (nowhere bytes) = Nowhere c bytes
+Placed s c (nowhere output) = Nowhere c output
 Placed s c (atProcess p a) = There s c p a
 
 -- the law of a call
 pub record Lawful (c : Call) : Type 0 where
   -- it is the call in its parts
-  pub turn : (s : State) → step s c ≡ taken (turnOf s c) (bufferOf c) s
+  pub turn : (s : State) → step s c ≡ taken (turnOf s c) (buffersOf c) s
   pub number : (s : State) → turnNumber (turnOf s c) s ≡ firstFailing (testsOf s c)
   pub listed : (s : State) → oneOf (numbersOf c) (firstFailing (testsOf s c)) ≡ true
   -- the parts go by what everyone may know

@@ -9,7 +9,7 @@ use Rattle.rules.specs.Rule.{public}
 use Rattle.rules.specs.Tests.{State}
 use Rattle.rules.specs.Access.{Access, numberAt, grants}
 use Rattle.rules.specs.Step.{localOf, put, Call, step}
-use Rattle.rules.specs.Turn.{bufferOf}
+use Rattle.rules.specs.Turn.{buffersOf}
 use Rattle.rules.specs.Ready.{Ready}
 use Rattle.rules.specs.Isolation.{isGranted, toldOf, publicOf, Debuggers}
 use Rattle.rules.proofs.StateLaws.{public-past}
@@ -30,10 +30,10 @@ module _ (s : State) (r : Ready s) (c : Call) (p : ℕ) (a : Access) (t : There 
           let far = ltb-false q 8 e in
           public-past (put p (a .effect (localOf s p)) s) (acts-ready s r c p a t z) q far ∙ sym (public-past s r q far)
 
-  acts-told : (q : ℕ) → publicOf (put p (a .effect (localOf s p)) s) q ≡ toldOf (publicOf s) c (grants (a .reply (localOf s p)) (bufferOf c)) q
+  acts-told : (q : ℕ) → publicOf (put p (a .effect (localOf s p)) s) q ≡ toldOf (publicOf s) c (grants (a .reply (localOf s p)) (buffersOf c)) q
   acts-told q = go (eqb q p) refl
     where
-      go : (b : Bool) → eqb q p ≡ b → publicOf (put p (a .effect (localOf s p)) s) q ≡ toldOf (publicOf s) c (grants (a .reply (localOf s p)) (bufferOf c)) q
+      go : (b : Bool) → eqb q p ≡ b → publicOf (put p (a .effect (localOf s p)) s) q ≡ toldOf (publicOf s) c (grants (a .reply (localOf s p)) (buffersOf c)) q
       go true e =
           let same = eqb-true q p e in
           ap (publicOf (put p (a .effect (localOf s p)) s)) same

@@ -20,7 +20,7 @@ use Rattle.rules.specs.Tests.{State, recordOf}
 use Rattle.rules.specs.Access.{Access, Place, nowhere, atProcess, Turn, numberAt, reached, taken}
 use Rattle.rules.specs.Window.{putInPlace, takenOut, put}
 use Rattle.rules.specs.Step.{Answer, Call, step, localOf}
-use Rattle.rules.specs.Turn.{turnOf, bufferOf}
+use Rattle.rules.specs.Turn.{turnOf, buffersOf}
 use Rattle.rules.specs.Ready.{Ready}
 use Rattle.rules.specs.Run.{run, final}
 use Rattle.rules.specs.Isolation.{Apart, fieldsOf, publicOf}
@@ -42,18 +42,18 @@ module _ (s t : State) (r : Ready s) (q : Ready t) (same : SameProcesses s t) wh
   after-same : (c : Call) → SameProcesses (step s c .after) (step t c .after)
   after-same c p h = both (λ (host : ℕ). true) (λ (k : ℕ). false) s t r q apart c .apart .others p h refl
 
-  place-same : (c : Call) (place : Place) → Placed s c place → reached place (bufferOf c) s .answer ≡ reached place (bufferOf c) t .answer
+  place-same : (c : Call) (place : Place) → Placed s c place → reached place (buffersOf c) s .answer ≡ reached place (buffersOf c) t .answer
   unfolding Placed reached
   place-same c (nowhere bytes) n = refl
-  place-same c (atProcess p a) w = reached-answer p a (bufferOf c) s ∙ ap (saidAt a (bufferOf c)) (same p (w .low)) ∙ sym (reached-answer p a (bufferOf c) t)
+  place-same c (atProcess p a) w = reached-answer p a (buffersOf c) s ∙ ap (saidAt a (buffersOf c)) (same p (w .low)) ∙ sym (reached-answer p a (buffersOf c) t)
 
   answer-same : (c : Call) → step s c .answer ≡ step t c .answer
   unfolding taken
   answer-same c =
-      rw (lawful c .turn s, lawful c .turn t ∙ ap (λ (u : Turn). taken u (bufferOf c) t) (sym (lawful c .alike s t r q (apart .shown))))
+      rw (lawful c .turn s, lawful c .turn t ∙ ap (λ (u : Turn). taken u (buffersOf c) t) (sym (lawful c .alike s t r q (apart .shown))))
       (go (eqb (firstFailing (turnOf s c .tests)) 0) refl)
     where
-      go : (b : Bool) → eqb (firstFailing (turnOf s c .tests)) 0 ≡ b → taken (turnOf s c) (bufferOf c) s .answer ≡ taken (turnOf s c) (bufferOf c) t .answer
+      go : (b : Bool) → eqb (firstFailing (turnOf s c .tests)) 0 ≡ b → taken (turnOf s c) (buffersOf c) s .answer ≡ taken (turnOf s c) (buffersOf c) t .answer
       go true e = rw e (place-same c (turnOf s c .place) (lawful c .placed s r (eqb-true _ 0 e)))
       go false e = rw e
 

@@ -4,23 +4,23 @@ use mathlib.Core.Path.{_≡_, refl, sym, ap, _∙_, subst}
 use mathlib.Core.Bool.{Bool, true, false, not, cond, _&&_, true≢false}
 use mathlib.Core.List.{List, [], _∷_}
 use mathlib.Core.Logic.{_⊎_, inl, inr}
-use Prim.Native.Nat.{ℕ, _<_}
+use Prim.Native.Nat.{ℕ, suc, _<_}
 use borrow.Author.Tests.{eqb-true, eqb-false, not-true}
 use lib.Dec.{eqb}
 use Rattle.lists.proofs.Bool.{&&-left, &&-right}
 use Rattle.format.specs.Outcome.{lengthOf, firstFailing}
-use Rattle.format.proofs.OutcomeLaws.{lengthOf-none}
-use Rattle.process.specs.Local.{Local}
+use Rattle.process.specs.Local.{Local, Proper}
 use Rattle.rules.specs.Rule.{Public, public}
 use Rattle.rules.specs.Tests.{State}
 use Rattle.rules.specs.Access.{Asker, nobody, by, insider, Access, Place, nowhere, atProcess, Turn, numberAt, reached, taken}
+use Rattle.rules.specs.Window.{Buffers}
 use Rattle.rules.specs.Step.{Answer, StepResult, localOf, put, Call, step}
-use Rattle.rules.specs.Turn.{turnOf, bufferOf}
+use Rattle.rules.specs.Turn.{turnOf, buffersOf}
 use Rattle.rules.specs.Ready.{Ready}
 use Rattle.rules.specs.Run.{traceItem}
-use Rattle.rules.specs.Isolation.{Hosts, Processes, asker, subject, event, passedOver, isOne, publicOf, Debuggers, noticed, sentTo, part, struck, withoutData, Apart, NoneDebugs, theirs}
+use Rattle.rules.specs.Isolation.{Hosts, Processes, noticed, lineSent, asker, subject, event, passedOver, isOne, publicOf, Debuggers, sentTo, part, struck, withoutData, Apart, NoneDebugs, theirs}
 use Rattle.rules.proofs.StateLaws.{local-proper, Changed, Fits, unchanged, fits-shown, put-changed}
-use Rattle.rules.proofs.AccessLaws.{saidAt, leftAt, Taking, May, Discreet, Fair, outer-zero, said-stranger, left-alike, quiet}
+use Rattle.rules.proofs.AccessLaws.{saidAt, leftAt, Taking, May, Discreet, Fair, outer-zero, said-stranger, left-alike, quiet, refusal-quiet}
 use Rattle.rules.proofs.CallLaws.{Silent, There, Placed}
 use Rattle.rules.proofs.LawfulLaws.{lawful}
 use Rattle.rules.proofs.StepLaws.{by-test, Done, stays, idles, acts, done, acts-changed}
@@ -64,7 +64,7 @@ others-same P s r c i p low n = go (done s r c)
   where
     go : Done s c (step s c) → localOf (step s c .after) p ≡ localOf s p
     go (stays number bytes e) = rw e
-    go (idles bytes w e) = rw e
+    go (idles output w e) = rw e
     go (acts q a t z e) = rw e (acts-changed s r c q a t z .else p low (λ k. true≢false (sym (t .named P i) ∙ ap P (sym k) ∙ n)))
 
 -- and where it tells nothing of rights, nothing is to be seen of it
@@ -78,17 +78,17 @@ hidden-apart P s t r c i silent a = record {
 module _ (H : Hosts) (P : Processes) where
   -- hosts who do not ask it hear nothing of it
   unheard-by : (w : Asker) (s : State) (c : Call) → Ready s → NoneDebugs H P s → subject P c ≡ true → asker c ≡ w → isOne H w ≡ false → sentTo H w (step s c .answer) ≡ false
-  unfolding sentTo isOne noticed lengthOf
+  unfolding sentTo isOne noticed lineSent lengthOf
   unheard-by (by host) s c r f i e n = n
   unheard-by nobody s c r f i e n = go (done s r c)
     where
-      go : Done s c (step s c) → noticed H (step s c .answer .outcome) (step s c .answer .buffer) ≡ false
-      go (stays number bytes q) = rw q
-      go (idles bytes w q) = rw (q, w .quiet e)
+      go : Done s c (step s c) → sentTo H nobody (step s c .answer) ≡ false
+      go (stays number bytes q) = rw q (refusal-quiet H (suc number) bytes (buffersOf c))
+      go (idles output w q) = rw (q, w .quiet e)
       go (acts p a t z q) =
           rw q
-          (quiet H (publicOf s p) (f p (t .low) (t .named P i)) (a .reply (localOf s p)) (bufferOf c)
-          (subst (λ (w : Asker). Discreet w (publicOf s p) (a .reply (localOf s p))) e (t .fair .discreet (localOf s p))))
+          (quiet H (publicOf s p) (f p (t .low) (t .named P i)) (a .reply (localOf s p)) (buffersOf c)
+          (subst (λ (w : Asker). Discreet w (publicOf s p) (a .reply (localOf s p))) e (t .fair .discreet (localOf s p) (local-proper s r p (t .low)))))
 
   unheard : (s : State) (c : Call) → Ready s → NoneDebugs H P s → subject P c ≡ true → isOne H (asker c) ≡ false → part H (traceItem s c) ≡ []
   unfolding part
@@ -129,7 +129,7 @@ module _ (H : Hosts) (P : Processes) where
     where
       go : Done s c (step s c) → step s c .after ≡ s
       go (stays number bytes q) = rw q
-      go (idles bytes w q) = rw q
+      go (idles output w q) = rw q
       go (acts p a t z q) = absurd (lets-in host s c r e h p a t z (ap (λ (x : StepResult). x .after) q) (t .named P i) before after)
 
   pub theirs-idle : (s : State) → Ready s → (c : Call) → theirs H P c ≡ true → NoneDebugs H P s → NoneDebugs H P (step s c .after) → step s c .after ≡ s
@@ -142,27 +142,27 @@ module _ (H : Hosts) (P : Processes) where
 abbrev pub heardOf : Hosts → Asker → Answer → List Answer
 heardOf H w x = cond (sentTo H w x) (x ∷ []) []
 
-quiet-said : (H : Hosts) (a : Access) (then : Public → Public) → Fair nobody a then → (buffer : List ℕ) (l : Local)
-    → ((host : ℕ) → H host ≡ true → insider (public (l .process)) host ≡ false) → sentTo H nobody (saidAt a buffer l) ≡ false
-unfolding saidAt sentTo noticed lengthOf
-quiet-said H a then f buffer l out =
-    by-test (λ (x : Answer). noticed H (x .outcome) (x .buffer) ≡ false) (eqb (numberAt a l) 0)
-    (λ e. quiet H (public (l .process)) out (a .reply l) buffer (f .discreet l)) (λ e. rw (lengthOf-none (numberAt a l)))
+quiet-said : (H : Hosts) (a : Access) (then : Public → Public) → Fair nobody a then → (b : Buffers) (l : Local) → Proper l
+    → ((host : ℕ) → H host ≡ true → insider (public (l .process)) host ≡ false) → sentTo H nobody (saidAt a b l) ≡ false
+unfolding saidAt
+quiet-said H a then f b l g out =
+    by-test (λ (x : Answer). sentTo H nobody x ≡ false) (eqb (numberAt a l) 0)
+    (λ e. quiet H (public (l .process)) out (a .reply l) b (f .discreet l g)) (λ e. refusal-quiet H (numberAt a l) (a .refusal l (numberAt a l)) b)
 
-pub reached-answer : (p : ℕ) (a : Access) (buffer : List ℕ) (s : State) → reached (atProcess p a) buffer s .answer ≡ saidAt a buffer (localOf s p)
+pub reached-answer : (p : ℕ) (a : Access) (b : Buffers) (s : State) → reached (atProcess p a) b s .answer ≡ saidAt a b (localOf s p)
 unfolding reached saidAt
-reached-answer p a buffer s = go (eqb (numberAt a (localOf s p)) 0) refl
+reached-answer p a b s = go (eqb (numberAt a (localOf s p)) 0) refl
   where
-    go : (t : Bool) → eqb (numberAt a (localOf s p)) 0 ≡ t → reached (atProcess p a) buffer s .answer ≡ saidAt a buffer (localOf s p)
+    go : (t : Bool) → eqb (numberAt a (localOf s p)) 0 ≡ t → reached (atProcess p a) b s .answer ≡ saidAt a b (localOf s p)
     go true e = rw e
     go false e = rw e
 
-pub reached-changed : (w : Asker) (p : ℕ) → p < 8 → (a : Access) (then : Public → Public) → Fair w a then → (buffer : List ℕ) (s : State) → Ready s
-    → Fits s p (then (publicOf s p)) → Changed s (reached (atProcess p a) buffer s .after) p (leftAt a (localOf s p))
+pub reached-changed : (w : Asker) (p : ℕ) → p < 8 → (a : Access) (then : Public → Public) → Fair w a then → (b : Buffers) (s : State) → Ready s
+    → Fits s p (then (publicOf s p)) → Changed s (reached (atProcess p a) b s .after) p (leftAt a (localOf s p))
 unfolding reached leftAt
-reached-changed w p low a then f buffer s r fits = go (eqb (numberAt a (localOf s p)) 0) refl
+reached-changed w p low a then f b s r fits = go (eqb (numberAt a (localOf s p)) 0) refl
   where
-    go : (t : Bool) → eqb (numberAt a (localOf s p)) 0 ≡ t → Changed s (reached (atProcess p a) buffer s .after) p (leftAt a (localOf s p))
+    go : (t : Bool) → eqb (numberAt a (localOf s p)) 0 ≡ t → Changed s (reached (atProcess p a) b s .after) p (leftAt a (localOf s p))
     go true e =
         let z = eqb-true _ 0 e in
         rw e
@@ -177,14 +177,14 @@ module _ (H : Hosts) (P : Processes) (s₁ s₂ : State) (r₁ : Ready s₁) (r�
     pub same : NoneDebugs H P s₁ → isOne H w ≡ true → x .answer ≡ y .answer
     pub parts : NoneDebugs H P s₁ → heardOf H w (x .answer) ≡ heardOf H w (y .answer)
 
-  both-there : (w : Asker) (p : ℕ) (low : p < 8) (i : Access) (then : Public → Public) → Fair w i then → Fits s₁ p (then (publicOf s₁ p)) → (buffer : List ℕ)
-      → Both w (reached (atProcess p i) buffer s₁) (reached (atProcess p i) buffer s₂)
+  both-there : (w : Asker) (p : ℕ) (low : p < 8) (i : Access) (then : Public → Public) → Fair w i then → Fits s₁ p (then (publicOf s₁ p)) → (b : Buffers)
+      → Both w (reached (atProcess p i) b s₁) (reached (atProcess p i) b s₂)
   unfolding isOne sentTo
-  both-there w p low i then f fits buffer = record {
-    apart = apart-changed P s₁ _ s₂ _ p (leftAt i l₁) (leftAt i l₂) low (reached-changed w p low i then f buffer s₁ r₁ fits) (reached-changed w p low i then f buffer s₂ r₂ other-fits) a
+  both-there w p low i then f fits b = record {
+    apart = apart-changed P s₁ _ s₂ _ p (leftAt i l₁) (leftAt i l₂) low (reached-changed w p low i then f b s₁ r₁ fits) (reached-changed w p low i then f b s₂ r₂ other-fits) a
         (left-alike w i then f l₁ l₂ (a .shown p low)) (λ n. ap (leftAt i) (a .others p low n));
-    same = λ free h. reached-answer p i buffer s₁ ∙ same w f free h (P p) refl ∙ sym (reached-answer p i buffer s₂);
-    parts = λ free. rw (reached-answer p i buffer s₁, reached-answer p i buffer s₂) (parts w f free (P p) refl);
+    same = λ free h. reached-answer p i b s₁ ∙ same w f free h (P p) refl ∙ sym (reached-answer p i b s₂);
+    parts = λ free. rw (reached-answer p i b s₁, reached-answer p i b s₂) (parts w f free (P p) refl);
   }
     where
       other-fits : Fits s₂ p (then (publicOf s₂ p))
@@ -196,34 +196,34 @@ module _ (H : Hosts) (P : Processes) (s₁ s₂ : State) (r₁ : Ready s₁) (r�
       l₂ : Local
       l₂ = localOf s₂ p
 
-      same : (w : Asker) → Fair w i then → NoneDebugs H P s₁ → isOne H w ≡ true → (t : Bool) → P p ≡ t → saidAt i buffer (localOf s₁ p) ≡ saidAt i buffer (localOf s₂ p)
-      same w f free h false n = ap (saidAt i buffer) (a .others p low n)
+      same : (w : Asker) → Fair w i then → NoneDebugs H P s₁ → isOne H w ≡ true → (t : Bool) → P p ≡ t → saidAt i b (localOf s₁ p) ≡ saidAt i b (localOf s₂ p)
+      same w f free h false n = ap (saidAt i b) (a .others p low n)
       same nobody f free h true n = absurd (true≢false (sym h))
-      same (by host) f free h true n = said-stranger host i then f buffer (localOf s₁ p) (localOf s₂ p) (a .shown p low) (free p low n host h)
+      same (by host) f free h true n = said-stranger host i then f b (localOf s₁ p) (localOf s₂ p) (a .shown p low) (free p low n host h)
 
-      asked : (host : ℕ) → Fair (by host) i then → NoneDebugs H P s₁ → (t : Bool) → H host ≡ t → heardOf H (by host) (saidAt i buffer (localOf s₁ p)) ≡ heardOf H (by host) (saidAt i buffer (localOf s₂ p))
+      asked : (host : ℕ) → Fair (by host) i then → NoneDebugs H P s₁ → (t : Bool) → H host ≡ t → heardOf H (by host) (saidAt i b (localOf s₁ p)) ≡ heardOf H (by host) (saidAt i b (localOf s₂ p))
       asked host f free true h = ap (heardOf H (by host)) (same (by host) f free h (P p) refl)
       asked host f free false h = rw h
 
-      parts : (w : Asker) → Fair w i then → NoneDebugs H P s₁ → (t : Bool) → P p ≡ t → heardOf H w (saidAt i buffer (localOf s₁ p)) ≡ heardOf H w (saidAt i buffer (localOf s₂ p))
-      parts w f free false n = ap (λ (l : Local). heardOf H w (saidAt i buffer l)) (a .others p low n)
+      parts : (w : Asker) → Fair w i then → NoneDebugs H P s₁ → (t : Bool) → P p ≡ t → heardOf H w (saidAt i b (localOf s₁ p)) ≡ heardOf H w (saidAt i b (localOf s₂ p))
+      parts w f free false n = ap (λ (l : Local). heardOf H w (saidAt i b l)) (a .others p low n)
       parts nobody f free true n =
-          rw (quiet-said H i then f buffer (localOf s₁ p) (free p low n), quiet-said H i then f buffer (localOf s₂ p) (free-apart H P s₁ s₂ a free p low n))
+          rw (quiet-said H i then f b l₁ (local-proper s₁ r₁ p low) (free p low n), quiet-said H i then f b l₂ (local-proper s₂ r₂ p low) (free-apart H P s₁ s₂ a free p low n))
       parts (by host) f free true n = asked host f free (H host) refl
 
-  both-placed : (c : Call) (place : Place) → Placed s₁ c place → Both (asker c) (reached place (bufferOf c) s₁) (reached place (bufferOf c) s₂)
+  both-placed : (c : Call) (place : Place) → Placed s₁ c place → Both (asker c) (reached place (buffersOf c) s₁) (reached place (buffersOf c) s₂)
   unfolding Placed reached
-  both-placed c (nowhere bytes) n = record { apart = a; same = λ f h. refl; parts = λ f. refl }
-  both-placed c (atProcess p i) t = both-there (asker c) p (t .low) i (t .then) (t .fair) (t .fits) (bufferOf c)
+  both-placed c (nowhere output) n = record { apart = a; same = λ f h. refl; parts = λ f. refl }
+  both-placed c (atProcess p i) t = both-there (asker c) p (t .low) i (t .then) (t .fair) (t .fits) (buffersOf c)
 
   pub both : (c : Call) → Both (asker c) (step s₁ c) (step s₂ c)
   unfolding asker taken
-  both c = rw (lawful c .turn s₁, lawful c .turn s₂ ∙ ap (λ (t : Turn). taken t (bufferOf c) s₂) (sym (lawful c .alike s₁ s₂ r₁ r₂ (a .shown)))) taken-both
+  both c = rw (lawful c .turn s₁, lawful c .turn s₂ ∙ ap (λ (t : Turn). taken t (buffersOf c) s₂) (sym (lawful c .alike s₁ s₂ r₁ r₂ (a .shown)))) taken-both
     where
-      taken-both : Both (asker c) (taken (turnOf s₁ c) (bufferOf c) s₁) (taken (turnOf s₁ c) (bufferOf c) s₂)
+      taken-both : Both (asker c) (taken (turnOf s₁ c) (buffersOf c) s₁) (taken (turnOf s₁ c) (buffersOf c) s₂)
       taken-both = go (eqb (firstFailing (turnOf s₁ c .tests)) 0) refl
         where
-          go : (t : Bool) → eqb (firstFailing (turnOf s₁ c .tests)) 0 ≡ t → Both (asker c) (taken (turnOf s₁ c) (bufferOf c) s₁) (taken (turnOf s₁ c) (bufferOf c) s₂)
+          go : (t : Bool) → eqb (firstFailing (turnOf s₁ c .tests)) 0 ≡ t → Both (asker c) (taken (turnOf s₁ c) (buffersOf c) s₁) (taken (turnOf s₁ c) (buffersOf c) s₂)
           go true e = rw e (both-placed c (turnOf s₁ c .place) (lawful c .placed s₁ r₁ (eqb-true _ 0 e)))
           go false e = rw e (record { apart = a; same = λ f h. refl; parts = λ f. refl })
 

@@ -1,6 +1,6 @@
 -- One lap of a loop, at one process: a BPT report at a breakpoint, the TTRAP report after it and PROCEED BPT leave the breakpoint there. What is
 -- planted, lifted or counted down keeps its address, so the search finds it where it was. Assumes nothing.
-use mathlib.Core.Path.{_≡_, refl, sym, ap, ap₂, _∙_}
+use mathlib.Core.Path.{_≡_, refl, ap, ap₂, _∙_}
 use mathlib.Core.Bool.{Bool, true, false, cond, _&&_}
 use mathlib.Core.List.{List}
 use Prim.Native.Nat.{ℕ, suc, _-_, _<_}
@@ -13,21 +13,22 @@ use Rattle.lists.proofs.First.{first-alike}
 use Rattle.run_state.specs.declared.Run.{Run}
 use Rattle.run_state.specs.declared.Run.the-variants.{Running, AtBreak, Passing}
 use Rattle.run_state.specs.ReportKind.{BPT, TTRAP}
-use Rattle.run_state.specs.RunState.{afterPass, goesOn, runAfter}
+use Rattle.run_state.specs.RunState.{goesOn, runAfter}
 use Rattle.breakpoints.specs.declared.entry.Breakpoint.{Breakpoint}
 use Rattle.breakpoints.specs.declared.entry_query.EntryQuery.the-variants.{Lifted, At}
 use Rattle.breakpoints.specs.Entry.{free, withCount, withLifted}
 use Rattle.breakpoints.specs.EntryQuery.{matches}
 use Rattle.breakpoints.specs.Seen.{planted}
+use Rattle.session.specs.declared.Owed.{Owed}
+use Rattle.session.specs.declared.Owed.the-variants.{Nothing}
 use Rattle.process.specs.declared.record.Process.{Process}
-use Rattle.process.specs.declared.report.Verdict.{Verdict}
 use Rattle.process.specs.declared.report.Verdict.the-variants.{Stops, CountsDown, GoesOn}
-use Rattle.process.specs.Record.{entry, withRun, withVector, withEntry}
+use Rattle.process.specs.Record.{entry, withRun, withVector, withEntry, owing}
 use Rattle.process.specs.Find.{find}
 use Rattle.process.specs.Local.{Local}
 use Rattle.process.specs.Planting.{plantedIn, liftedIn, replanted, liftedAt}
 use Rattle.process.specs.Request.{pc, onRecord, hasBreak, proceeded}
-use Rattle.process.specs.Report.{storeVectorAndReplant, passes, verdictOf, passed, carriedOut, reported, toldBy, recipientOf}
+use Rattle.process.specs.Report.{storeVectorAndReplant, passes, verdictOf, reported, recipientOf, answerOf}
 use Rattle.process.proofs.PlantingLaws.{eight-replanted}
 use Rattle.process.proofs.ReportLaws.{passed-once}
 use Rattle.rules.specs.Loops.{BreakAt}
@@ -78,6 +79,10 @@ module _ (host a : ℕ) where
   kept-vector : (n : ℕ) (r : Run) (words : List ℕ) (p : Process) → BreakAt host a n r p → BreakAt host a n r (withVector words p)
   unfolding hasBreak find
   kept-vector n r words p x = record { hosted = x .hosted; runs = x .runs; found = x .found; left = x .left }
+
+  kept-owed : (n : ℕ) (r : Run) (o : Owed) (p : Process) → BreakAt host a n r p → BreakAt host a n r (owing o p)
+  unfolding hasBreak find
+  kept-owed n r o p x = record { hosted = x .hosted; runs = x .runs; found = x .found; left = x .left }
 
   -- ---- the vector is stored, and a lifted breakpoint planted again
 
@@ -131,6 +136,10 @@ module _ (host a : ℕ) where
       unfolding recipientOf
       goes-on-told = rw goes
 
+      pub goes-on-answer : answerOf TTRAP words l ≡ Nothing
+      unfolding answerOf
+      goes-on-answer = rw goes
+
     -- ---- BPT at the breakpoint
 
     module _ (at : getD words 7 0 ≡ a) where
@@ -163,6 +172,10 @@ module _ (host a : ℕ) where
         unfolding recipientOf
         passes-told = rw counts
 
+        pub passes-answer : answerOf BPT words l ≡ Nothing
+        unfolding answerOf
+        passes-answer = rw counts
+
       -- with none left
       module _ (x : BreakAt host a 0 Running (l .process)) where
         halts : verdictOf BPT (stored .process) ≡ Stops
@@ -171,7 +184,7 @@ module _ (host a : ℕ) where
 
         pub stops-break : BreakAt host a 0 AtBreak (reported BPT words l .process)
         unfolding reported runAfter
-        stops-break = rw halts (kept-run 0 Running AtBreak (stored .process) (stored-break 0 Running x))
+        stops-break = rw halts (kept-owed 0 AtBreak Nothing (withRun AtBreak (stored .process)) (kept-run 0 Running AtBreak (stored .process) (stored-break 0 Running x)))
 
         pub stops-pc : pc (reported BPT words l .process) ≡ a
         unfolding reported

@@ -8,6 +8,7 @@ pub mod AccessLaws
 pub mod CallLaws
 pub mod RequestLaws
 pub mod ReportLaws
+pub mod TextLaws
 pub mod LawfulLaws
 pub mod StepLaws
 pub mod DebuggerLaws
@@ -25,3 +26,5 @@ pub mod DestroyLaws
 pub mod LedgerLaws
 pub mod LapLaws
 pub mod LoopLaws
+pub mod OwedRowLaws
+pub mod OwedLaws

@@ -6,7 +6,7 @@ use mathlib.Core.List.{List, [], _∷_, _++_}
 use Prim.Native.Nat.{ℕ, zero, suc, _+_, _≤_, _<_}
 use native.Mathlib.Omega.{arith}
 use borrow.Author.Tests.{eq-eqb, ne-eqb, ltb-true, lt-ltb, le-ltb}
-use lib.ListN.{length, getD}
+use lib.ListN.{length}
 use Rattle.lists.specs.Buffer.{overlay}
 use Rattle.lists.specs.Word.{lowFirst}
 use Rattle.lists.proofs.Word.{length-lowFirst}
@@ -17,31 +17,31 @@ use Rattle.format.specs.Refusal.{fieldsRight, carriedLength, wrongLength, wrong
 use Rattle.run_state.specs.declared.Run.{Run}
 use Rattle.run_state.specs.declared.Run.the-variants.{Running, AtBreak, Passing}
 use Rattle.run_state.specs.ReportKind.{BPT, TTRAP}
-use Rattle.run_state.specs.RunState.{atBreak, accepts}
+use Rattle.run_state.specs.RunState.{accepts}
 use Rattle.breakpoints.specs.declared.entry_query.EntryQuery.the-variants.{At}
 use Rattle.process.specs.declared.record.Process.{Process}
 use Rattle.process.specs.Record.{entry}
 use Rattle.process.specs.Find.{find}
-use Rattle.process.specs.Sound.{Sound, NoBreakpoints}
-use Rattle.process.specs.Local.{Local, Proper}
+use Rattle.process.specs.Local.{Local}
 use Rattle.process.specs.Request.{pc, hasBreak, proceeded}
-use Rattle.process.specs.Report.{reported, recipientOf}
+use Rattle.process.specs.Report.{reported}
 use Rattle.process.specs.Theorems.{RunningIsPlanted}
 use Rattle.process.proofs.FindLaws.{matches-at, find-matches}
 use Rattle.process.proofs.TheoremLaws.{running-is-planted}
+use Rattle.process.proofs.KeptLaws.{shape-proceeded}
 use Rattle.rules.specs.Rule.{public, ruleOf, names}
+use Rattle.rules.specs.TextRule.{owedLine}
 use Rattle.rules.specs.Tests.{State, recordOf, badReport, askedTests, requestNumber, reportNumber}
-use Rattle.rules.specs.Step.{StepResult, Call, request, report, step, localOf, put, granted, grantedNamed, requestStep, noticeTo, notified, reportStep}
-use Rattle.rules.specs.Turn.{bufferOf}
+use Rattle.rules.specs.Step.{Call, request, report, step, localOf, put, granted, grantedNamed, requestStep, plainAnswer, noticeTo, notified, reportStep}
+use Rattle.rules.specs.Turn.{buffersOf}
 use Rattle.rules.specs.Ready.{Ready}
 use Rattle.rules.specs.Run.{TraceItem, traceItem}
-use Rattle.rules.specs.Isolation.{publicOf}
 use Rattle.rules.specs.Loops.{Event, passes, goesOn, stops, proceeds, untilNotice, afterNotice, wordsOf, ReportOf, BptAt, proceedMessage, ProceedOf, CallOf, NothingSent, NoticeSent, ProceedGranted, AnswerOf, Each, Among, none, other, event, BreakAt, Loops}
 use Rattle.rules.proofs.ProperLaws.{report-proper, proceed-proper}
-use Rattle.rules.proofs.RuleLaws.{public-reported, public-liftedAt}
+use Rattle.rules.proofs.RuleLaws.{public-reported, same-public}
 use Rattle.rules.proofs.StateLaws.{each-sound, local-proper, Fits, fits-kept, put-changed}
 use Rattle.rules.proofs.StepLaws.{step-ready}
-use Rattle.rules.proofs.LapLaws.{passes-break, passes-told, goes-on-break, goes-on-told, stops-break, stops-pc, stops-told, proceeds-break}
+use Rattle.rules.proofs.LapLaws.{passes-break, passes-told, passes-answer, goes-on-break, goes-on-told, goes-on-answer, stops-break, stops-pc, stops-told, proceeds-break}
 
 -- the process is at the breakpoint, and PC says so
 abbrev Halted : ℕ → ℕ → Process → Type 0
@@ -74,7 +74,7 @@ module _ (s : State) (r : Ready s) (p : ℕ) (low : p < 8) where
 
   -- ---- a report
 
-  module _ (kind : ℕ) (words buffer : List ℕ) (there : here .there ≡ true) (accepted : accepts kind (here .run) ≡ true) where
+  module _ (kind : ℕ) (words buffer line : List ℕ) (there : here .there ≡ true) (accepted : accepts kind (here .run) ≡ true) where
     report-fits : Fits s p (public (reported kind words (localOf s p) .process))
     report-fits = rw public-reported (fits-kept s r p)
 
@@ -83,36 +83,35 @@ module _ (s : State) (r : Ready s) (p : ℕ) (low : p < 8) where
         let l = reported kind words (localOf s p) in
         ap (λ (x : Local). x .process) (put-changed s r p low l (report-proper (localOf s p) (local-proper s r p low) kind words accepted) report-fits .here)
 
-    report-accepted : badReport kind 0 ≡ false → 266 ≤ length buffer → reportNumber s p kind 0 buffer ≡ 0
+    report-accepted : badReport kind 0 ≡ false → 266 ≤ length buffer → 35 ≤ length line → reportNumber s p kind 0 buffer line ≡ 0
     unfolding reportNumber firstFailing
-    report-accepted right room = rw (r .memory, le-ltb _ _ room, r .sound, right, lt-ltb p 8 low, there, accepted)
+    report-accepted right room line-room = rw (le-ltb _ _ line-room, r .memory, le-ltb _ _ room, r .sound, right, lt-ltb p 8 low, there, accepted)
 
-    report-is : badReport kind 0 ≡ false → 266 ≤ length buffer
-        → step s (report p kind 0 words buffer)
-        ≡ record { answer = noticeTo (recipientOf kind words (localOf s p)) p kind 0 words buffer; after = put p (reported kind words (localOf s p)) s }
-    unfolding step reportStep notified
-    report-is right room = rw (report-accepted right room)
+    report-is : badReport kind 0 ≡ false → 266 ≤ length buffer → 35 ≤ length line
+        → step s (report p kind 0 words buffer line)
+        ≡ record { answer = notified p kind 0 words buffer line (localOf s p); after = put p (reported kind words (localOf s p)) s }
+    unfolding step reportStep
+    report-is right room line-room = rw (report-accepted right room line-room)
 
   -- ---- PROCEED BPT
 
-  module _ (host : ℕ) (buffer : List ℕ) (there : here .there ≡ true) (hosted : here .host ≡ host) (named : host ≡ 0 → ⊥) (halted : here .run ≡ AtBreak) (room : 266 ≤ length buffer) where
+  module _ (host : ℕ) (buffer : List ℕ) (there : here .there ≡ true) (hosted : here .host ≡ host) (named : host ≡ 0 → ⊥) (broughtToStop : here .run ≡ AtBreak) (room : 266 ≤ length buffer) where
     proceed-number : requestNumber s (proceedMessage host p) buffer ≡ 0
     unfolding requestNumber firstFailing askedTests written headerOf fixedRight wrongLength wrongHeader misfits fieldsRight carriedLength requestForm rowOf names ruleOf public
-    proceed-number = rw (r .memory, le-ltb _ _ room, r .sound, ne-eqb host 0 named, lt-ltb p 8 low, there, eq-eqb _ _ hosted, halted)
+    proceed-number = rw (r .memory, le-ltb _ _ room, r .sound, ne-eqb host 0 named, lt-ltb p 8 low, there, eq-eqb _ _ hosted, broughtToStop)
 
     proceed-is : step s (request (proceedMessage host p) buffer)
-        ≡ record { answer = record { outcome = outcome 0 10; buffer = overlay (proceedMessage host p) buffer }; after = put p (proceeded (localOf s p)) s }
+        ≡ record { answer = plainAnswer (outcome 0 10) (overlay (proceedMessage host p) buffer); after = put p (proceeded (localOf s p)) s }
     unfolding step requestStep granted grantedNamed names ruleOf headerOf stringOf written
     proceed-is = rw proceed-number
 
     proceed-fits : Fits s p (public (proceeded (localOf s p) .process))
-    unfolding proceeded public
-    proceed-fits = rw (public-liftedAt (pc here) (localOf s p)) (fits-kept s r p)
+    proceed-fits = rw (same-public (proceeded (localOf s p)) (localOf s p) (shape-proceeded (localOf s p))) (fits-kept s r p)
 
     proceed-after : recordOf (put p (proceeded (localOf s p)) s) p ≡ proceeded (localOf s p) .process
     proceed-after =
         let l = proceeded (localOf s p) in
-        ap (λ (x : Local). x .process) (put-changed s r p low l (proceed-proper (localOf s p) (local-proper s r p low) (rw halted)) proceed-fits .here)
+        ap (λ (x : Local). x .process) (put-changed s r p low l (proceed-proper (localOf s p) (local-proper s r p low) (rw broughtToStop)) proceed-fits .here)
 
   -- ---- the events, from this state
 
@@ -122,41 +121,42 @@ module _ (s : State) (r : Ready s) (p : ℕ) (low : p < 8) where
 
     report-does : (kind : ℕ) → ReportOf p kind c → here .there ≡ true → accepts kind (here .run) ≡ true → badReport kind 0 ≡ false
         → step s c
-        ≡ record { answer = noticeTo (recipientOf kind (wordsOf c) (localOf s p)) p kind 0 (wordsOf c) (bufferOf c); after = put p (reported kind (wordsOf c) (localOf s p)) s }
-    report-does kind q there accepted right = ap (step s) (q .is) ∙ report-is kind (wordsOf c) (bufferOf c) there accepted right (q .room)
+        ≡ record { answer = notified p kind 0 (wordsOf c) (buffersOf c .own) (buffersOf c .line) (localOf s p); after = put p (reported kind (wordsOf c) (localOf s p)) s }
+    report-does kind q there accepted right = ap (step s) (q .is) ∙ report-is kind (wordsOf c) (buffersOf c .own) (buffersOf c .line) there accepted right (q .room) (q .line-room)
 
     pub passes-event : (n : ℕ) → BreakAt host a (suc n) Running here → BptAt p a c
         → NothingSent (traceItem s c) × BreakAt host a n Passing (recordOf (step s c .after) p)
-    unfolding noticeTo accepts
+    unfolding notified noticeTo accepts owedLine overlay
     passes-event n x q =
         let there = break-there a (x .found) in
         let accepted : accepts BPT (here .run) ≡ true = rw (x .runs) in
         let does = report-does BPT (q .report) there accepted refl in (
-          rw (does, passes-told host a (wordsOf c) (localOf s p) eight (q .at) n x),
-          rw (does, report-after BPT (wordsOf c) (bufferOf c) there accepted) (passes-break host a (wordsOf c) (localOf s p) eight (q .at) n x),
+          rw (does, passes-told host a (wordsOf c) (localOf s p) eight (q .at) n x, passes-answer host a (wordsOf c) (localOf s p) eight (q .at) n x),
+          rw (does, report-after BPT (wordsOf c) (buffersOf c .own) (buffersOf c .line) there accepted) (passes-break host a (wordsOf c) (localOf s p) eight (q .at) n x),
         )
 
     pub goes-on-event : (n : ℕ) → BreakAt host a n Passing here → ReportOf p TTRAP c
         → NothingSent (traceItem s c) × BreakAt host a n Running (recordOf (step s c .after) p)
-    unfolding noticeTo accepts
+    unfolding notified noticeTo accepts owedLine overlay
     goes-on-event n x q =
         let there = break-there a (x .found) in
         let accepted : accepts TTRAP (here .run) ≡ true = rw (x .runs) in
         let does = report-does TTRAP q there accepted refl in (
-          rw (does, goes-on-told host a (wordsOf c) (localOf s p) eight n x),
-          rw (does, report-after TTRAP (wordsOf c) (bufferOf c) there accepted) (goes-on-break host a (wordsOf c) (localOf s p) eight n x),
+          rw (does, goes-on-told host a (wordsOf c) (localOf s p) eight n x, goes-on-answer host a (wordsOf c) (localOf s p) eight n x),
+          rw (does, report-after TTRAP (wordsOf c) (buffersOf c .own) (buffersOf c .line) there accepted) (goes-on-break host a (wordsOf c) (localOf s p) eight n x),
         )
 
     pub stops-event : BreakAt host a 0 Running here → BptAt p a c → NoticeSent host p (traceItem s c) × Halted host a (recordOf (step s c .after) p)
-    unfolding noticeTo accepts
+    unfolding notified noticeTo accepts
     stops-event x q =
         let there = break-there a (x .found) in
         let named : host ≡ 0 → ⊥ = λ z. break-hosted a (x .found) (x .hosted ∙ z) in
         let accepted : accepts BPT (here .run) ≡ true = rw (x .runs) in
         let does = report-does BPT (q .report) there accepted refl in
-        let after = report-after BPT (wordsOf c) (bufferOf c) there accepted in
+        let after = report-after BPT (wordsOf c) (buffersOf c .own) (buffersOf c .line) there accepted in
+        let told = stops-told host a (wordsOf c) (localOf s p) eight (q .at) x in
         let size : 10 + length (lowFirst (wordsOf c)) ≡ 28 = omega (arith, length-lowFirst (wordsOf c), q .report .nine) in (
-          rw (does, stops-told host a (wordsOf c) (localOf s p) eight (q .at) x, ne-eqb host 0 named, size),
+          (rw (does, told, ne-eqb host 0 named, size), rw (does, told, ne-eqb host 0 named)),
           (rw (does, after) (stops-break host a (wordsOf c) (localOf s p) eight (q .at) x), rw (does, after) (stops-pc host a (wordsOf c) (localOf s p) eight (q .at) x)),
         )
 
@@ -164,9 +164,9 @@ module _ (s : State) (r : Ready s) (p : ℕ) (low : p < 8) where
     proceeds-event x q =
         let there = break-there a (x .0 .found) in
         let named : host ≡ 0 → ⊥ = λ z. break-hosted a (x .0 .found) (x .0 .hosted ∙ z) in
-        let does = ap (step s) (q .is) ∙ proceed-is host (bufferOf c) there (x .0 .hosted) named (x .0 .runs) (q .room) in (
+        let does = ap (step s) (q .is) ∙ proceed-is host (buffersOf c .own) there (x .0 .hosted) named (x .0 .runs) (q .room) in (
           rw does,
-          rw (does, proceed-after host (bufferOf c) there (x .0 .hosted) named (x .0 .runs) (q .room)) (proceeds-break host a (localOf s p) eight 0 (x .0) (x .1)),
+          rw (does, proceed-after host (buffersOf c .own) there (x .0 .hosted) named (x .0 .runs) (q .room)) (proceeds-break host a (localOf s p) eight 0 (x .0) (x .1)),
         )
 
 -- ---- lists of calls

@@ -6,26 +6,27 @@ use Prim.Native.Nat.{ℕ, _+_, _-_, _≤_, _%_}
 use native.Mathlib.Omega.{arith}
 use lib.ListN.{length, set, length-set, length-map, length-replicate}
 use lib.Seq.{length-paste}
-use lib.Dec.{ltb}
-use Rattle.run_state.specs.declared.Run.the-variants.{Running, Stopped}
+use Rattle.run_state.specs.declared.Run.the-variants.{Running}
 use Rattle.breakpoints.specs.declared.entry_query.EntryQuery.the-variants.{Free, At}
 use Rattle.breakpoints.specs.declared.entry.Breakpoint.{Breakpoint}
 use Rattle.breakpoints.specs.Entry.{breakpointAt, withCount}
-use Rattle.process.specs.Record.{fresh, entry, withRun, withHost, withVector, withEntry}
+use Rattle.process.specs.Record.{fresh, entry, withRun, withVector, withEntry}
 use Rattle.process.specs.Find.{find}
 use Rattle.process.specs.Sound.{Sound, SizeRight}
-use Rattle.run_state.specs.RunState.{moving, stoppedOrAtBreak, atBreak, accepts}
+use Rattle.run_state.specs.RunState.{stoppedOrAtBreak, atBreak, accepts}
 use Rattle.breakpoints.specs.Seen.{seen, savedFrom}
 use Rattle.process.specs.Request.{sheltered}
 use Rattle.process.specs.Local.{Local, local, extent, Proper}
-use Rattle.process.specs.Planting.{plantedIn, liftedIn, removedFrom, replanted, liftedAt}
-use Rattle.process.specs.Request.{pc, onRecord, hasBreak, hasRoom, endDebugged, stopped, stepped, proceeded, toBeSeen, deposited, breakSet, breakRemoved, created, cleared}
+use Rattle.process.specs.Planting.{plantedIn, removedFrom}
+use Rattle.process.specs.Request.{onRecord, hasBreak, hasRoom, endDebugged, stepped, proceeded, toBeSeen, deposited, breakSet, breakRemoved, created, cleared}
 use Rattle.process.specs.Report.{reported}
 use Rattle.process.proofs.ReportLaws.{length-reported, eight-reported, extent-reported}
 use Rattle.process.proofs.SoundTestLaws.{sound-passes}
 use Rattle.breakpoints.proofs.SeenLaws.{length-seen}
 use Rattle.process.proofs.TestedLaws.{tested-sound}
-use Rattle.process.proofs.PlantingLaws.{length-plantedIn, length-removedFrom, length-replanted, length-liftedAt, length-entry, eight-replanted, extent-replanted, extent-liftedAt}
+use Rattle.process.proofs.PlantingLaws.{length-plantedIn, length-removedFrom, length-entry}
+use Rattle.process.proofs.KeptLaws.{shape-stepped, shape-proceeded}
+use Rattle.process.proofs.ProperLaws.{shape-proper}
 use Rattle.process.proofs.TheoremLaws.{sound-stays}
 
 pub sound-of : (l : Local) → Proper l → Sound (l .process)
@@ -46,14 +47,6 @@ entries l = length (l .process .breaks)
 
 abbrev size : Local → ℕ
 size l = length (l .bytes)
-
-entries-liftedIn : (k : ℕ) (l : Local) → entries (liftedIn k l) ≡ entries l
-unfolding liftedIn
-entries-liftedIn k l = simp length-set
-
-entries-liftedAt : (pc : ℕ) (l : Local) → entries (liftedAt pc l) ≡ entries l
-unfolding liftedAt
-entries-liftedAt pc l = by-cond entries (ltb (find (At pc) (l .process)) 8) _ _ (entries l) (entries-liftedIn (find (At pc) (l .process)) l) refl
 
 entries-plantedIn : (k : ℕ) (b : Breakpoint) (l : Local) → entries (plantedIn k b l) ≡ entries l
 unfolding plantedIn
@@ -82,31 +75,11 @@ module _ (l : Local) (g : Proper l) where
   unfolding endDebugged
   end-debug-proper = proper-of (endDebugged l) (sound-stays .end-debug l g) refl (length-seen (l .process .breaks) (l .bytes) ∙ g .tested .size)
 
-  pub stop-proper : Proper (stopped l)
-  unfolding stopped
-  stop-proper =
-      let t = moving (l .process .run) in
-      let still = onRecord (withRun Stopped) (replanted l) in
-      kept-proper (stopped l) (sound-stays .stop l g)
-      (by-cond entries t still l (entries l) (eight-replanted l) refl)
-      (by-cond size t still l (size l) (length-replanted l) refl)
-      (by-cond asked t still l (asked l) (extent-replanted l) refl)
-
   pub step-proper : stoppedOrAtBreak (l .process .run) ≡ true → Proper (stepped l)
-  unfolding stepped
-  step-proper e =
-      let at = pc (l .process) in
-      let t = atBreak (l .process .run) in
-      kept-proper (stepped l) (sound-stays .step l g e)
-      (by-cond entries t (liftedAt at l) l (entries l) (entries-liftedAt at l) refl)
-      (by-cond size t (liftedAt at l) l (size l) (length-liftedAt at l) refl)
-      (by-cond asked t (liftedAt at l) l (asked l) (extent-liftedAt at l) refl)
+  step-proper e = shape-proper (stepped l) l (shape-stepped l) (sound-stays .step l g e) g
 
   pub proceed-proper : atBreak (l .process .run) ≡ true → Proper (proceeded l)
-  unfolding proceeded
-  proceed-proper e =
-      let at = pc (l .process) in
-      kept-proper (proceeded l) (sound-stays .proceed l g e) (entries-liftedAt at l) (length-liftedAt at l) (extent-liftedAt at l)
+  proceed-proper e = shape-proper (proceeded l) l (shape-proceeded l) (sound-stays .proceed l g e) g
 
   pub deposit-proper : (at : ℕ) (string : List ℕ) → at + length string ≤ length (l .bytes) → Proper (deposited at string l)
   unfolding deposited sheltered
@@ -157,9 +130,6 @@ unfolding cleared fresh
 destroy-proper = proper-of (local cleared []) (sound-stays .destroy) refl refl
 
 -- ---- the record alone
-
-pub host-proper : (host : ℕ) (l : Local) → Proper l → l .process .there ≡ true → (host ≡ 0 → ⊥) → Proper (onRecord (withHost host) l)
-host-proper host l g there n = proper-of (onRecord (withHost host) l) (sound-stays .debug host (l .process) (sound-of l g) there n) (g .eight) (g .tested .size)
 
 pub resume-proper : (l : Local) → Proper l → stoppedOrAtBreak (l .process .run) ≡ true → Proper (onRecord (withRun Running) l)
 resume-proper l g e = proper-of (onRecord (withRun Running) l) (sound-stays .resume (l .process) (sound-of l g) e) (g .eight) (g .tested .size)

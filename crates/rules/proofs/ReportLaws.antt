@@ -1,5 +1,5 @@
 -- The laws of machine reports and of stores by the machine. Assumes nothing.
-use mathlib.Core.Path.{_≡_, refl, sym, _∙_}
+use mathlib.Core.Path.{_≡_, refl, sym, ap, _∙_}
 use mathlib.Core.Bool.{true, not}
 use mathlib.Core.List.{List, []}
 use mathlib.Core.Logic.{_⊎_, inl, inr}
@@ -8,22 +8,25 @@ use Prim.Native.Nat.{ℕ, _<_}
 use borrow.Author.Tests.{eq-eqb, ltb-true, not-false}
 use lib.Dec.{eqb, ltb}
 use Rattle.lists.specs.Word.{lowFirst}
-use Rattle.lists.proofs.Bool.{&&-left, &&-both}
+use Rattle.lists.proofs.Bool.{&&-both}
 use Rattle.format.specs.Outcome.{firstFailing}
 use Rattle.format.specs.Answer.{noticeOf}
 use Rattle.format.proofs.OutcomeLaws.{first-passes, rest-passes}
+use Rattle.session.specs.Session.{textHost, owes}
 use Rattle.process.specs.Local.{Local, Proper}
-use Rattle.process.specs.Report.{reported, recipientOf}
+use Rattle.process.specs.Report.{reported, recipientOf, answerOf}
 use Rattle.process.proofs.ReportLaws.{recipient-host}
+use Rattle.process.proofs.AnswerLaws.{answer-owed}
 use Rattle.rules.specs.Rule.{Public, public, names}
+use Rattle.rules.specs.TextRule.{owedLine}
 use Rattle.rules.specs.Tests.{State, reportTests, reportNumber}
 use Rattle.rules.specs.Access.{nobody, insider, numberAt}
 use Rattle.rules.specs.Step.{told, Call, report, store, step}
-use Rattle.rules.specs.Turn.{reportAccess, reportTurn, storeAccess, storeTurn, turnOf, bufferOf}
+use Rattle.rules.specs.Turn.{reportAccess, reportTurn, storeAccess, storeTurn, turnOf, buffersOf}
 use Rattle.rules.specs.Ready.{Ready, Typed}
 use Rattle.rules.specs.Isolation.{asker, subject, event, passedOver, fieldsOf, isGranted, toldOf}
 use Rattle.rules.specs.Total.{testsOf, numbersOf, oneOf}
-use Rattle.rules.proofs.ProperLaws.{report-proper, store-proper}
+use Rattle.rules.proofs.ProperLaws.{sound-of, report-proper, store-proper}
 use Rattle.rules.proofs.StateLaws.{fits-kept}
 use Rattle.rules.proofs.RuleLaws.{public-reported, count-reported}
 use Rattle.rules.proofs.NumberLaws.{by-test, same-cond, first-listed, orElse-zero}
@@ -43,12 +46,20 @@ module _ (p kind reason : ℕ) (words : List ℕ) where
   told-sees l e =
       &&-both (not (eqb (recipientOf kind words l) 0)) _ e (eq-eqb (l .process .host) (recipientOf kind words l) (sym (recipient-host kind words l e)))
 
-  report-discreet : (l : Local) → Discreet nobody (public (l .process)) (reportAccess p kind reason words .reply l)
-  unfolding Discreet reportAccess noticeOf
-  report-discreet l =
-      by-test (λ (bytes : List ℕ). (bytes ≡ []) ⊎ Sends (public (l .process)) bytes) (told kind words l)
-      (λ e. inr (record { header = noticeOf (recipientOf kind words l) kind p reason; string = lowFirst words; is = refl; sees = told-sees l e }))
-      (λ e. inl refl)
+  -- an answer is owed to host 253 alone, which debugs the process
+  owed-sees : (l : Local) → Proper l → owes (answerOf kind words l) ≡ true → insider (public (l .process)) textHost ≡ true
+  unfolding insider public
+  owed-sees l g e = eq-eqb (l .process .host) textHost (sound-of l g .owed (ap owes (sym (answer-owed kind words l e)) ∙ e))
+
+  report-discreet : (l : Local) → Proper l → Discreet nobody (public (l .process)) (reportAccess p kind reason words .reply l)
+  unfolding Discreet reportAccess noticeOf owedLine
+  report-discreet l g = record {
+    notice = by-test (λ (bytes : List ℕ). (bytes ≡ []) ⊎ Sends (public (l .process)) bytes) (told kind words l)
+        (λ e. inr (record { header = noticeOf (recipientOf kind words l) kind p reason; string = lowFirst words; is = refl; sees = told-sees l e }))
+        (λ e. inl refl);
+    line = by-test (λ (bytes : List ℕ). (bytes ≡ []) ⊎ (insider (public (l .process)) textHost ≡ true)) (owes (answerOf kind words l))
+        (λ e. inr (owed-sees l g e)) (λ e. inl refl);
+  }
 
   report-keeps : (l : Local) → Proper l → numberAt (reportAccess p kind reason words) l ≡ 0 → Proper (reported kind words l)
   unfolding numberAt reportAccess
@@ -67,9 +78,9 @@ module _ (p kind reason : ℕ) (words : List ℕ) where
     discreet = report-discreet;
   }
 
-  module _ (buffer : List ℕ) where
+  module _ (buffer line : List ℕ) where
     abbrev here : Call
-    here = report p kind reason words buffer
+    here = report p kind reason words buffer line
 
     report-silent : Silent here
     unfolding toldOf fieldsOf names
@@ -93,11 +104,11 @@ module _ (p kind reason : ℕ) (words : List ℕ) where
     }
 
     pub report-lawful : Lawful here
-    unfolding step turnOf bufferOf testsOf numbersOf reportNumber event asker passedOver subject fieldsOf reportTurn Placed
+    unfolding step turnOf buffersOf testsOf numbersOf reportNumber event asker passedOver subject fieldsOf reportTurn Placed
     report-lawful = record {
-      turn = report-turn p kind reason words buffer;
-      number = report-number p kind reason words buffer;
-      listed = λ s. first-listed (oneOf (numbersOf here)) (reportTests s p kind reason buffer) refl refl;
+      turn = report-turn p kind reason words buffer line;
+      number = report-number p kind reason words buffer line;
+      listed = λ s. first-listed (oneOf (numbersOf here)) (reportTests s p kind reason buffer line) refl refl;
       alike = λ s t r q a. rw (r .memory, q .memory, r .sound, q .sound);
       placed = λ s r z.
           report-there s r (ltb-true p 8 (not-false _ (first-passes 6 _ _ (rest-passes 13 _ _ (rest-passes 1 _ _ (rest-passes 0 _ _ z))))));
@@ -120,7 +131,7 @@ module _ (p x v : ℕ) where
     guarded = λ u z. tt;
     hides = inl (λ u. refl);
     plain = λ l k e. refl;
-    discreet = λ l. inl refl;
+    discreet = λ l g. record { notice = inl refl; line = inl refl };
   }
 
   store-silent : Silent (store p x v)
@@ -145,7 +156,7 @@ module _ (p x v : ℕ) where
   }
 
   pub store-lawful : Lawful (store p x v)
-  unfolding step turnOf bufferOf testsOf numbersOf event asker passedOver subject fieldsOf storeTurn Placed firstFailing
+  unfolding step turnOf buffersOf testsOf numbersOf event asker passedOver subject fieldsOf storeTurn Placed firstFailing
   store-lawful = record {
     turn = store-turn p x v;
     number = store-number p x v;

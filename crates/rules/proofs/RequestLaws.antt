@@ -29,9 +29,9 @@ use Rattle.state.specs.Records.{lowestAbsent, nobody as noProcess}
 use Rattle.state.specs.Layout.{freeBytes}
 use Rattle.rules.specs.Rule.{Rule, Public, public, ruleOf, names, creates, sizeAsked}
 use Rattle.rules.specs.Tests.{State, recordOf, noPlace, askedTests, requestTests, requestNumber}
-use Rattle.rules.specs.Access.{by, insider, numberAt}
+use Rattle.rules.specs.Access.{by, insider, alone, numberAt}
 use Rattle.rules.specs.Step.{Call, request, step}
-use Rattle.rules.specs.Turn.{ruleAccess, createAccess, placeTests, requestPlace, messageTests, requestTurn, turnOf, bufferOf}
+use Rattle.rules.specs.Turn.{ruleAccess, createAccess, placeTests, requestPlace, messageTests, requestTurn, turnOf, buffersOf}
 use Rattle.rules.specs.Ready.{Ready}
 use Rattle.rules.specs.Isolation.{Processes, namesOne, deposits, withoutString, asker, subject, event, passedOver, fieldsOf, isGranted, publicThen, toldOf, publicOf}
 use Rattle.rules.specs.Total.{testsOf, numbersOf, oneOf}
@@ -67,7 +67,7 @@ module _ (cmd : ℕ) (r : Rule) (row : Row cmd r) (h : Header) (string : List �
       go (inl i) = inl (host-in u i)
       go (inr t) = inr (record {
         none = open-none (t .free);
-        blind = λ l k. ap (written h) (t .free .shown h l ∙ sym (t .free .shown h k));
+        blind = λ l k. ap (λ (string : List ℕ). alone (written h string)) (t .free .shown h l ∙ sym (t .free .shown h k));
         takes = λ v. host-in (publicThen cmd (h .host) v) (t .takes (h .host) v);
       })
 
@@ -99,7 +99,7 @@ module _ (cmd : ℕ) (r : Rule) (row : Row cmd r) (h : Header) (string : List �
     guarded = rule-guarded;
     hides = from (row .discreet);
     plain = λ l k e. refl;
-    discreet = λ l. tt;
+    discreet = λ l g. tt;
   }
     where
       from : Kept cmd ⊎ Open r → ((u : Public) → publicThen cmd (h .host) u ≡ u) ⊎ ((l : Local) → firstFailing (ruleAccess r h string .inner l) ≡ 0)
@@ -136,7 +136,7 @@ create-fair h p asked right = record {
   guarded = λ u z. inr (record { none = λ l. refl; blind = λ l k. refl; takes = λ v. rw (ne-eqb (h .host) 0 asked, eq-eqb (h .host) (h .host) refl) });
   hides = inr (λ l. refl);
   plain = λ l k e. refl;
-  discreet = λ l. tt;
+  discreet = λ l g. tt;
 }
 
 -- the process that CREATE takes is absent
@@ -206,7 +206,7 @@ module _ (m buffer : List ℕ) (s : State) (r : Ready s) (sent : Sent m) where
   long = le-leb 10 (length m) (sent .long)
 
   place-named : names (headerOf m .cmd) ≡ true → headerOf m .pid < 8 → There s here (h .pid) (ruleAccess (ruleOf (h .cmd)) h (stringOf m))
-  unfolding asker subject namesOne fieldsOf bufferOf toldOf isGranted ruleAccess
+  unfolding asker subject namesOne fieldsOf buffersOf toldOf isGranted ruleAccess
   place-named n low = record {
     low = low;
     then = publicThen (h .cmd) (h .host);
@@ -224,7 +224,7 @@ module _ (m buffer : List ℕ) (s : State) (r : Ready s) (sent : Sent m) where
 
   place-created : names (headerOf m .cmd) ≡ false → creates (headerOf m .cmd) ≡ true → (lowestAbsent (s .records) < 8) × (sizeAsked (headerOf m) ≤ freeBytes (s .records))
       → There s here (lowestAbsent (s .records)) (createAccess h (lowestAbsent (s .records)))
-  unfolding asker subject namesOne fieldsOf bufferOf toldOf isGranted createAccess overlay written createdOf created fresh
+  unfolding asker subject namesOne fieldsOf buffersOf toldOf isGranted createAccess overlay written createdOf created fresh
   place-created n c placed = record {
     low = placed .0;
     then = createdThen h;
@@ -240,7 +240,7 @@ module _ (m buffer : List ℕ) (s : State) (r : Ready s) (sent : Sent m) where
     turns = λ z. inr (inl (record { op = inr (eqb-true (h .cmd) 12 c); before = absent-unheld s r (placed .0); after = refl }));
   }
 
-  place-idle : names (headerOf m .cmd) ≡ false → creates (headerOf m .cmd) ≡ false → Nowhere here (written h [])
+  place-idle : names (headerOf m .cmd) ≡ false → creates (headerOf m .cmd) ≡ false → Nowhere here (alone (written h []))
   unfolding fieldsOf toldOf isGranted asker
   place-idle n c = record { told = λ d q. rw (n, c); quiet = λ e. absurd (let z : _≡_ {A = ℕ} 0 1 = cc in omega arith) }
 
@@ -342,7 +342,7 @@ module _ (m buffer : List ℕ) where
       numbers = by-test Each (names (headerOf m .cmd)) (λ e. refl) (λ e. by-test Each (creates (headerOf m .cmd)) (λ i. refl) (λ i. refl))
 
   pub request-lawful : Lawful (request m buffer)
-  unfolding step turnOf bufferOf testsOf requestNumber event asker passedOver fieldsOf
+  unfolding step turnOf buffersOf testsOf requestNumber event asker passedOver fieldsOf
   request-lawful = record {
     turn = request-turn m buffer;
     number = request-number m buffer;

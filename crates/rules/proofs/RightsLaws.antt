@@ -11,7 +11,7 @@ use Rattle.rules.specs.Tests.{State}
 use lib.ListN.{getD}
 use Rattle.ops.specs.Codes.{CREATE, DEBUG}
 use Rattle.rules.specs.Access.{Asker, nobody, by, Access, grants, numberAt}
-use Rattle.rules.specs.Turn.{bufferOf}
+use Rattle.rules.specs.Turn.{buffersOf}
 use Rattle.rules.specs.Outsider.{only}
 use Rattle.rules.specs.Step.{StepResult, localOf, put, Call, step}
 use Rattle.rules.specs.Ready.{Ready}
@@ -39,10 +39,10 @@ module _ (s : State) (r : Ready s) (c : Call) (p : ℕ) (a : Access) (t : There 
   acts-turns = rw (acts-public s r c p a t z) (t .turns (outer-zero a (localOf s p) z))
 
 -- the call reaches the process, as its answer tells
-acts-reaches : (s : State) (c : Call) (p : ℕ) (a : Access) (t : There s c p a) → Reaches p c (grants (a .reply (localOf s p)) (bufferOf c))
+acts-reaches : (s : State) (c : Call) (p : ℕ) (a : Access) (t : There s c p a) → Reaches p c (grants (a .reply (localOf s p)) (buffersOf c))
 acts-reaches s c p a t = go (t .reaches)
   where
-    go : (subject (only p) c ≡ true) ⊎ (fieldsOf c .cmd ≡ CREATE) → Reaches p c (grants (a .reply (localOf s p)) (bufferOf c))
+    go : (subject (only p) c ≡ true) ⊎ (fieldsOf c .cmd ≡ CREATE) → Reaches p c (grants (a .reply (localOf s p)) (buffersOf c))
     go (inl i) = inl i
     go (inr e) = inr (e, t .carries (localOf s p) e)
 

@@ -7,29 +7,27 @@ use Prim.Native.Nat.{ℕ, zero, suc, _+_, _≤_, _<_, _%_}
 use native.Mathlib.Omega.{arith}
 use borrow.Author.Tests.{eqb-true, leb-true}
 use lib.ListN.{length, getD}
-use lib.Dec.{eqb, leb, ltb}
+use lib.Dec.{eqb, leb}
 use Rattle.lists.specs.Word.{vectorOf}
 use Rattle.lists.proofs.Bool.{&&-left, &&-right}
 use Rattle.ops.specs.Table.{ops}
 use Rattle.format.specs.declared.header.Header.{Header}
 use Rattle.run_state.specs.declared.Run.{Run}
 use Rattle.process.specs.declared.record.Process.{Process}
-use Rattle.breakpoints.specs.declared.entry_query.EntryQuery.the-variants.{Lifted, At}
 use Rattle.process.specs.Record.{fresh, withVector}
-use Rattle.process.specs.Find.{find}
 use Rattle.breakpoints.specs.Entry.{validBreakAddress}
-use Rattle.run_state.specs.RunState.{moving, stoppedOrAtBreak, atBreak}
+use Rattle.run_state.specs.RunState.{stoppedOrAtBreak, atBreak}
 use Rattle.process.specs.Local.{Local, Proper}
-use Rattle.process.specs.Planting.{plantedIn, liftedIn, removedFrom, replanted, liftedAt}
-use Rattle.process.specs.Request.{pc, onRecord, hasBreak, hasRoom, endDebugged, stopped, resumed, stepped, proceeded, deposited, vectorAfter, vectorDeposited, breakSet, breakRemoved, cleared, destroyed}
-use Rattle.process.specs.declared.report.Verdict.{Verdict}
-use Rattle.process.specs.declared.report.Verdict.the-variants.{Stops, CountsDown, GoesOn}
-use Rattle.process.specs.Report.{storeVectorAndReplant, verdictOf, passed, carriedOut, reported}
+use Rattle.process.specs.Planting.{plantedIn, removedFrom}
+use Rattle.process.specs.Request.{onRecord, hasBreak, hasRoom, endDebugged, stopped, resumed, stepped, proceeded, deposited, vectorAfter, vectorDeposited, breakSet, breakRemoved, cleared, destroyed}
+use Rattle.process.specs.Report.{reported}
+use Rattle.process.proofs.KeptLaws.{Shape, shape, same-words, shape-stopped, shape-stepped, shape-proceeded, shape-reported}
+use Rattle.process.proofs.ProperLaws.{stopped-proper, debugged-proper}
 use Rattle.rules.specs.Rule.{Public, public, Rule, rules, noRule, debugRule, endDebugRule, examineRule, breakRule, unbreakRule, plain, whileRun, inRange, upTo, ruleOf}
 use Rattle.rules.specs.Access.{Asker, by}
 use Rattle.rules.specs.Ready.{NineWords}
 use Rattle.rules.specs.Isolation.{publicThen}
-use Rattle.rules.proofs.ProperLaws.{by-cond, end-debug-proper, stop-proper, step-proper, proceed-proper, deposit-proper, break-proper, unbreak-proper, destroy-proper, host-proper, resume-proper, vector-proper}
+use Rattle.rules.proofs.ProperLaws.{by-cond, end-debug-proper, step-proper, proceed-proper, deposit-proper, break-proper, unbreak-proper, destroy-proper, resume-proper, vector-proper}
 
 -- all that the tests 7 to 12, and those of the layout, say of a request that passes them
 pub record Passing (r : Rule) (h : Header) (string : List ℕ) (p : Process) : Type 0 where
@@ -98,51 +96,27 @@ pub record Row (cmd : ℕ) (r : Rule) : Type 0 where
   -- the right to debug after it
   pub turns : (h : Header) → h .cmd ≡ cmd → (u : Public) → r .right u (h .host) ≡ true → Turns (by (h .host)) h (h .pid) u (publicThen cmd (h .host) u)
 
--- ---- public parts
+-- ---- public parts, and the words of the vector
 
 -- a choice between two that show the same
 by-public : (t : Bool) (x y : Local) (u : Public) → public (x .process) ≡ u → public (y .process) ≡ u → public (cond t x y .process) ≡ u
 by-public true x y u e q = e
 by-public false x y u e q = q
 
-pub public-replanted : (l : Local) → public (replanted l .process) ≡ public (l .process)
-unfolding replanted plantedIn public
-public-replanted l = by-public (ltb (find Lifted (l .process)) 8) _ l _ refl refl
-
-pub public-liftedAt : (at : ℕ) (l : Local) → public (liftedAt at l .process) ≡ public (l .process)
-unfolding liftedAt liftedIn public
-public-liftedAt at l = by-public (ltb (find (At at) (l .process)) 8) _ l _ refl refl
+-- what has the shape of a process shows what it shows
+pub same-public : (k l : Local) → shape k ≡ shape l → public (k .process) ≡ public (l .process)
+unfolding public
+same-public k l e = ap (λ (s : Shape). record { there = s .there; host = s .host; size = s .size }) e
 
 pub public-reported : (kind : ℕ) (words : List ℕ) (l : Local) → public (reported kind words l .process) ≡ public (l .process)
-unfolding reported passed liftedIn storeVectorAndReplant public
-public-reported kind words l = go (verdictOf kind (storeVectorAndReplant words l .process))
-  where
-    go : (v : Verdict) → public (carriedOut v kind (storeVectorAndReplant words l) .process) ≡ public (l .process)
-    go Stops = public-replanted (onRecord (withVector words) l)
-    go (CountsDown k) = public-replanted (onRecord (withVector words) l)
-    go GoesOn = public-replanted (onRecord (withVector words) l)
-
--- ---- the words of the vector
+unfolding public
+public-reported kind words l = same-public (reported kind words l) (onRecord (withVector words) l) (shape-reported kind words l)
 
 abbrev count : Local → ℕ
 count l = length (l .process .vector)
 
-count-replanted : (l : Local) → count (replanted l) ≡ count l
-unfolding replanted plantedIn
-count-replanted l = by-cond count (ltb (find Lifted (l .process)) 8) _ l (count l) refl refl
-
-count-liftedAt : (at : ℕ) (l : Local) → count (liftedAt at l) ≡ count l
-unfolding liftedAt liftedIn
-count-liftedAt at l = by-cond count (ltb (find (At at) (l .process)) 8) _ l (count l) refl refl
-
 pub count-reported : (kind : ℕ) (words : List ℕ) (l : Local) → count (reported kind words l) ≡ length words
-unfolding reported passed liftedIn storeVectorAndReplant
-count-reported kind words l = go (verdictOf kind (storeVectorAndReplant words l .process))
-  where
-    go : (v : Verdict) → count (carriedOut v kind (storeVectorAndReplant words l)) ≡ length words
-    go Stops = count-replanted (onRecord (withVector words) l)
-    go (CountsDown k) = count-replanted (onRecord (withVector words) l)
-    go GoesOn = count-replanted (onRecord (withVector words) l)
+count-reported kind words l = same-words (shape-reported kind words l)
 
 -- ---- rows that ask the right, and leave the public part
 
@@ -167,7 +141,7 @@ held : (u : Public) (asker : ℕ) → eqb (u .host) asker ≡ true → u .host �
 held u asker e = eqb-true (u .host) asker e
 
 -- a process that is there has as many bytes as its size says
-whole : (l : Local) → Proper l → l .process .there ≡ true → length (l .bytes) ≡ l .process .size
+pub whole : (l : Local) → Proper l → l .process .there ≡ true → length (l .bytes) ≡ l .process .size
 whole l g t = rw t at (g .tested .size)
 
 -- ---- the rows
@@ -188,7 +162,7 @@ alone u asker = go (eqb (u .host) 0) refl
 debug-row : Row 1 debugRule
 unfolding public publicThen
 debug-row = record {
-  keeps = λ h s l g p. host-proper (h .host) l g (p .there) (p .asked);
+  keeps = λ h s l g p. debugged-proper l g (h .host) (p .there) (p .asked) (alone (public (l .process)) (h .host) (p .right));
   words = λ h s l n. n;
   guarded = λ u asker e. inr (record { free = debug-open; takes = λ a v. refl });
   discreet = inr debug-open;
@@ -215,12 +189,11 @@ end-debug-row = record {
 }
 
 stop-row : Row 3 (plain (λ h s. stopped))
-unfolding stopped public
 stop-row =
     quiet-row 3 (plain (λ h s. stopped)) (by-others 3 refl refl refl) held
-    (λ h s l. by-public (moving (l .process .run)) _ l _ (public-replanted l) refl)
-    (λ h s l n. by-cond count (moving (l .process .run)) _ l 9 (count-replanted l ∙ n) n)
-    (λ h s l g p. stop-proper l g)
+    (λ h s l. same-public (stopped l) l (shape-stopped l))
+    (λ h s l n. same-words (shape-stopped l) ∙ n)
+    (λ h s l g p. stopped-proper l g)
 
 deposit-row : Row 4 (inRange (λ h size. upTo size h) (λ h s. deposited (h .arg1) s))
 unfolding deposited public
@@ -263,19 +236,17 @@ unfolding breakRemoved removedFrom public
 unbreak-row = quiet-row 9 unbreakRule (by-others 9 refl refl refl) held (λ h s l. refl) (λ h s l n. n) (λ h s l g p. unbreak-proper l g (h .arg1) (p .found))
 
 step-row : Row 10 (whileRun stoppedOrAtBreak (λ h s. stepped))
-unfolding stepped public
 step-row =
     quiet-row 10 (whileRun stoppedOrAtBreak (λ h s. stepped)) (by-others 10 refl refl refl) held
-    (λ h s l. by-public (atBreak (l .process .run)) _ l _ (public-liftedAt (pc (l .process)) l) refl)
-    (λ h s l n. by-cond count (atBreak (l .process .run)) _ l 9 (count-liftedAt (pc (l .process)) l ∙ n) n)
+    (λ h s l. same-public (stepped l) l (shape-stepped l))
+    (λ h s l n. same-words (shape-stepped l) ∙ n)
     (λ h s l g p. step-proper l g (p .runs))
 
 proceed-row : Row 11 (whileRun atBreak (λ h s. proceeded))
-unfolding proceeded public
 proceed-row =
     quiet-row 11 (whileRun atBreak (λ h s. proceeded)) (by-others 11 refl refl refl) held
-    (λ h s l. public-liftedAt (pc (l .process)) l)
-    (λ h s l n. count-liftedAt (pc (l .process)) l ∙ n)
+    (λ h s l. same-public (proceeded l) l (shape-proceeded l))
+    (λ h s l n. same-words (shape-proceeded l) ∙ n)
     (λ h s l g p. proceed-proper l g (p .runs))
 
 destroy-open : Open (plain (λ h s. destroyed))
@@ -294,23 +265,24 @@ destroy-row = record {
 
 -- ---- all of them
 
-abbrev Each : ℕ → List Rule → Type 0
-Each cmd [] = Unit {0}
-Each cmd (r ∷ rs) = Row cmd r × Each (suc cmd) rs
+-- a fact of each row of a list, by its op code
+abbrev pub Each : (ℕ → Rule → Type 0) → ℕ → List Rule → Type 0
+Each F cmd [] = Unit {0}
+Each F cmd (r ∷ rs) = F cmd r × Each F (suc cmd) rs
 
-each-getD : (from : ℕ) (rs : List Rule) → Each from rs → (k : ℕ) → k < length rs → Row (k + from) (getD rs k noRule)
-each-getD from [] e k h = absurd (omega arith)
-each-getD from (r ∷ rs) e zero h = let same : 0 + from ≡ from = omega arith in rw same (e .0)
-each-getD from (r ∷ rs) e (suc k) h =
+each-getD : (F : ℕ → Rule → Type 0) (from : ℕ) (rs : List Rule) → Each F from rs → (k : ℕ) → k < length rs → F (k + from) (getD rs k noRule)
+each-getD F from [] e k h = absurd (omega arith)
+each-getD F from (r ∷ rs) e zero h = let same : 0 + from ≡ from = omega arith in rw same (e .0)
+each-getD F from (r ∷ rs) e (suc k) h =
     let same : k + suc from ≡ suc k + from = omega arith in
-    rw (← same) (each-getD (suc from) rs (e .1) k (omega arith))
+    rw (← same) (each-getD F (suc from) rs (e .1) k (omega arith))
 
--- the rule of any op code of the table
-pub rule-row : (cmd : ℕ) → cmd < length ops → Row cmd (ruleOf cmd)
+-- a fact of each row is one of the rule of any op code of the table
+pub each-rule : (F : ℕ → Rule → Type 0) → Each F 0 rules → (cmd : ℕ) → cmd < length ops → F cmd (ruleOf cmd)
 unfolding ruleOf
-rule-row cmd h =
-    let same : cmd + 0 ≡ cmd = omega arith in
-    subst (λ (n : ℕ). Row n (getD rules cmd noRule)) same
-    (each-getD 0 rules
+each-rule F e cmd h = let same : cmd + 0 ≡ cmd = omega arith in subst (λ (n : ℕ). F n (getD rules cmd noRule)) same (each-getD F 0 rules e cmd h)
+
+pub rule-row : (cmd : ℕ) → cmd < length ops → Row cmd (ruleOf cmd)
+rule-row =
+    each-rule Row
     (no-row 0 (by-others 0 refl refl refl), (debug-row, (end-debug-row, (stop-row, (deposit-row, (resume-row, (examine-row, (vector-row, (break-row, (unbreak-row, (step-row, (proceed-row, (no-row 12 (by-others 12 refl refl refl), (destroy-row, tt))))))))))))))
-    cmd h)

@@ -2,16 +2,16 @@
 use mathlib.Core.Path.{_≡_, refl, sym, ap, _∙_, subst}
 use mathlib.Core.Bool.{Bool, true, false, true≢false}
 use mathlib.Core.List.{List}
-use Prim.Native.Nat.{ℕ, zero, suc, _<_}
+use Prim.Native.Nat.{ℕ, zero, suc}
 use borrow.Author.Tests.{eqb-true, eqb-false}
 use lib.Dec.{eqb}
 use Rattle.format.specs.Outcome.{firstFailing}
 use Rattle.process.specs.Local.{Local, Proper}
 use Rattle.rules.specs.Rule.{public}
 use Rattle.rules.specs.Tests.{State}
-use Rattle.rules.specs.Access.{Access, Place, nowhere, atProcess, numberAt, grants, refuses, reached, taken}
+use Rattle.rules.specs.Access.{Output, Access, Place, nowhere, atProcess, numberAt, grants, refuses, reached, taken}
 use Rattle.rules.specs.Step.{StepResult, localOf, put, Call, step}
-use Rattle.rules.specs.Turn.{turnOf, bufferOf}
+use Rattle.rules.specs.Turn.{turnOf, buffersOf}
 use Rattle.rules.specs.Ready.{Ready, NineWords, Worded, Typed}
 use Rattle.rules.proofs.StateLaws.{local-proper, Changed, Fits, put-changed, put-ready}
 pub use Rattle.rules.proofs.NumberLaws.{by-test}
@@ -20,19 +20,19 @@ use Rattle.rules.proofs.LawfulLaws.{lawful}
 
 -- what came of a call
 pub data Done (s : State) (c : Call) (x : StepResult) : Type 0 where
-  stays : (n : ℕ) (bytes : List ℕ) → x ≡ record { answer = refuses (suc n) bytes (bufferOf c); after = s } → Done s c x
-  idles : (bytes : List ℕ) → Nowhere c bytes → x ≡ record { answer = grants bytes (bufferOf c); after = s } → Done s c x
+  stays : (n : ℕ) (bytes : List ℕ) → x ≡ record { answer = refuses (suc n) bytes (buffersOf c); after = s } → Done s c x
+  idles : (output : Output) → Nowhere c output → x ≡ record { answer = grants output (buffersOf c); after = s } → Done s c x
   acts : (p : ℕ) (a : Access) → There s c p a → numberAt a (localOf s p) ≡ 0
-      → x ≡ record { answer = grants (a .reply (localOf s p)) (bufferOf c); after = put p (a .effect (localOf s p)) s } → Done s c x
+      → x ≡ record { answer = grants (a .reply (localOf s p)) (buffersOf c); after = put p (a .effect (localOf s p)) s } → Done s c x
 
 refused-done : (s : State) (c : Call) (number : ℕ) → eqb number 0 ≡ false → (bytes : List ℕ)
-    → Done s c (record { answer = refuses number bytes (bufferOf c); after = s })
+    → Done s c (record { answer = refuses number bytes (buffersOf c); after = s })
 refused-done s c zero e bytes = absurd (true≢false e)
 refused-done s c (suc n) e bytes = stays n bytes refl
 
-place-done : (s : State) (c : Call) (place : Place) → Placed s c place → Done s c (reached place (bufferOf c) s)
+place-done : (s : State) (c : Call) (place : Place) → Placed s c place → Done s c (reached place (buffersOf c) s)
 unfolding reached Placed
-place-done s c (nowhere bytes) n = idles bytes n refl
+place-done s c (nowhere output) n = idles output n refl
 place-done s c (atProcess p a) t =
     by-test (Done s c) (eqb (numberAt a (localOf s p)) 0) (λ e. acts p a t (eqb-true _ 0 e) refl)
     (λ e. refused-done s c (numberAt a (localOf s p)) e (a .refusal (localOf s p) (numberAt a (localOf s p))))
@@ -64,7 +64,7 @@ step-ready s r c = go (done s r c)
   where
     go : Done s c (step s c) → Ready (step s c .after)
     go (stays number bytes e) = rw e r
-    go (idles bytes n e) = rw e r
+    go (idles output n e) = rw e r
     go (acts p a t z e) = rw e (acts-ready s r c p a t z)
 
 -- every vector keeps its nine words
@@ -88,5 +88,5 @@ module _ (s : State) (r : Ready s) (w : Worded s) (c : Call) (typed : Typed c) w
     where
       go : Done s c (step s c) → Worded (step s c .after)
       go (stays number bytes e) = rw e w
-      go (idles bytes n e) = rw e w
+      go (idles output n e) = rw e w
       go (acts p a t z e) = rw e (acts-worded p a t z)

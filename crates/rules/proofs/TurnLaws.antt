@@ -11,20 +11,24 @@ use Rattle.format.specs.Outcome.{outcome, test, firstFailing}
 use Rattle.format.specs.Layout.{written, headerOf, stringOf}
 use Rattle.format.specs.Answer.{cantOf, createdOf, noticeOf}
 use Rattle.format.proofs.LayoutLaws.{length-written}
+use Rattle.fields.specs.declared.read.Line.{Line}
+use Rattle.fields.specs.Read.{lineOf}
 use Rattle.process.specs.Local.{Local}
 use Rattle.process.specs.Report.{recipientOf}
 use Rattle.run_state.specs.RunState.{accepts}
 use Rattle.state.specs.Records.{lowestAbsent}
 use Rattle.rules.specs.Rule.{Rule, public, ruleOf, names, creates}
-use Rattle.rules.specs.Tests.{State, recordOf, noRoom, unsound, outerTests, innerTests, ruleTests, noPlace, askedTests, requestNumber, badReport, reportNumber}
-use Rattle.rules.specs.Access.{Access, Place, nowhere, atProcess, Turn, numberAt, reached, taken}
-use Rattle.rules.specs.Step.{answers, localOf, grantedNamed, grantedCreate, granted, refused, requestStep, told, noticeTo, notified, reportStep, stored}
-use Rattle.rules.specs.Turn.{cantBytes, ruleAccess, createAccess, placeTests, requestPlace, messageTests, requestTurn, reportAccess, reportTurn, storeAccess, storeTurn}
+use Rattle.rules.specs.Tests.{State, recordOf, noReportRoom, noLineRoom, unsound, outerTests, innerTests, ruleTests, noPlace, askedTests, requestNumber, badReport, reportNumber, textInnerTests, textNumber}
+use Rattle.rules.specs.TextRule.{textRuleOf, failure}
+use Rattle.rules.specs.Window.{Buffers}
+use Rattle.rules.specs.Access.{alone, Access, Place, nowhere, atProcess, Turn, numberAt, refuses, reached, taken}
+use Rattle.rules.specs.Step.{answers, localOf, grantedNamed, grantedCreate, granted, refused, requestStep, told, noticeTo, notified, reportStep, textStep, stored}
+use Rattle.rules.specs.Turn.{cantBytes, ruleAccess, createAccess, placeTests, requestPlace, messageTests, requestTurn, reportAccess, reportTurn, storeAccess, storeTurn, textAccess, textTurn, single}
 use Rattle.rules.proofs.NumberLaws.{orElse, orElse-assoc, first-append}
 
 -- the number that is found at a place
 unfoldable pub placeNumber : Place → State → ℕ
-placeNumber (nowhere bytes) s = 0
+placeNumber (nowhere output) s = 0
 placeNumber (atProcess p a) s = numberAt a (localOf s p)
 
 -- the number of a call
@@ -80,40 +84,40 @@ module _ (m buffer : List ℕ) (s : State) where
   turn = requestTurn m buffer s
 
   request-refused : eqb (requestNumber s m buffer) 0 ≡ false
-      → requestStep m buffer s ≡ record { answer = record { outcome = outcome (requestNumber s m buffer) 0; buffer = overlay (cantBytes (headerOf m) (requestNumber s m buffer)) buffer }; after = s }
+      → requestStep m buffer s ≡ record { answer = refuses (requestNumber s m buffer) (cantBytes (headerOf m) (requestNumber s m buffer)) (single buffer); after = s }
   unfolding requestStep refused cantBytes
   request-refused e = rw (e, cant-over (ltb (requestNumber s m buffer) 7) (written (cantOf (headerOf m)) []) buffer)
 
   request-place : requestNumber s m buffer ≡ placeNumber (requestPlace (headerOf m) (stringOf m) s) s
-      → requestStep m buffer s ≡ reached (requestPlace (headerOf m) (stringOf m) s) buffer s
-  unfolding requestStep granted grantedNamed grantedCreate requestPlace placeNumber reached numberAt firstFailing createAccess ruleAccess
+      → requestStep m buffer s ≡ reached (requestPlace (headerOf m) (stringOf m) s) (single buffer) s
+  unfolding requestStep granted grantedNamed grantedCreate requestPlace placeNumber reached numberAt firstFailing createAccess ruleAccess overlay
   request-place same = go (names (headerOf m .cmd)) refl (creates (headerOf m .cmd)) refl
     where
       h : Header
       h = headerOf m
 
       near : (a : Access) (t : Bool) → eqb (numberAt a (localOf s (h .pid))) 0 ≡ t → a ≡ ruleAccess (ruleOf (h .cmd)) h (stringOf m)
-          → names (h .cmd) ≡ true → requestNumber s m buffer ≡ numberAt a (localOf s (h .pid)) → requestStep m buffer s ≡ reached (atProcess (h .pid) a) buffer s
+          → names (h .cmd) ≡ true → requestNumber s m buffer ≡ numberAt a (localOf s (h .pid)) → requestStep m buffer s ≡ reached (atProcess (h .pid) a) (single buffer) s
       near a true e i n number = rw (number, e, n, i, length-written h (ruleOf (h .cmd) .shown h (localOf s (h .pid))))
       near a false e i n number = request-refused (rw number e) ∙ rw (number, e, i)
 
       go : (t : Bool) → names (headerOf m .cmd) ≡ t → (u : Bool) → creates (headerOf m .cmd) ≡ u
-          → requestStep m buffer s ≡ reached (requestPlace (headerOf m) (stringOf m) s) buffer s
+          → requestStep m buffer s ≡ reached (requestPlace (headerOf m) (stringOf m) s) (single buffer) s
       go true n u c =
           let a = ruleAccess (ruleOf (h .cmd)) h (stringOf m) in
           let here : requestPlace h (stringOf m) s ≡ atProcess (h .pid) a = rw n in
-          near a (eqb (numberAt a (localOf s (h .pid))) 0) refl refl n (same ∙ ap (λ (x : Place). placeNumber x s) here) ∙ sym (ap (λ (x : Place). reached x buffer s) here)
+          near a (eqb (numberAt a (localOf s (h .pid))) 0) refl refl n (same ∙ ap (λ (x : Place). placeNumber x s) here) ∙ sym (ap (λ (x : Place). reached x (single buffer) s) here)
       go false n true c = let zero : requestNumber s m buffer ≡ 0 = rw (n, c) at same in rw (zero, n, c, length-written (createdOf h (lowestAbsent (s .records))) [])
       go false n false c = let zero : requestNumber s m buffer ≡ 0 = rw (n, c) at same in rw (zero, n, c, length-written h [])
 
-  pub request-turn : requestStep m buffer s ≡ taken (requestTurn m buffer s) buffer s
+  pub request-turn : requestStep m buffer s ≡ taken (requestTurn m buffer s) (single buffer) s
   unfolding taken turnNumber requestTurn cantBytes
   request-turn = go (eqb (firstFailing (turn .tests)) 0) refl
     where
       number : requestNumber s m buffer ≡ orElse (firstFailing (turn .tests)) (placeNumber (turn .place) s)
       number = sym (request-number m buffer s)
 
-      go : (t : Bool) → eqb (firstFailing (turn .tests)) 0 ≡ t → requestStep m buffer s ≡ taken (requestTurn m buffer s) buffer s
+      go : (t : Bool) → eqb (firstFailing (turn .tests)) 0 ≡ t → requestStep m buffer s ≡ taken (requestTurn m buffer s) (single buffer) s
       go true e = rw e (request-place (rw e at number))
       go false e = let same : requestNumber s m buffer ≡ firstFailing (turn .tests) = rw e at number in rw e (rw same at (request-refused (rw same e)))
 
@@ -128,50 +132,107 @@ report-tests false false false false u v = refl
 report-tests false false false true false v = refl
 report-tests false false false true true v = refl
 
-module _ (p kind reason : ℕ) (words buffer : List ℕ) (s : State) where
-  pub report-number : turnNumber (reportTurn p kind reason words buffer s) s ≡ reportNumber s p kind reason buffer
+module _ (p kind reason : ℕ) (words buffer line : List ℕ) (s : State) where
+  abbrev lent : Buffers
+  lent = record { own = buffer; line = line }
+
+  pub report-number : turnNumber (reportTurn p kind reason words buffer line s) s ≡ reportNumber s p kind reason buffer line
   unfolding turnNumber reportTurn placeNumber numberAt reportAccess firstFailing reportNumber public
   report-number =
-      report-tests (noRoom (s .memory) buffer) (unsound s) (badReport kind reason) (ltb p 8) (recordOf s p .there) (not (accepts kind (recordOf s p .run)))
+      report-tests (noReportRoom (s .memory) buffer line) (unsound s) (badReport kind reason) (ltb p 8) (recordOf s p .there) (not (accepts kind (recordOf s p .run)))
 
-  report-refused : eqb (reportNumber s p kind reason buffer) 0 ≡ false
-      → reportStep p kind reason words buffer s ≡ record { answer = record { outcome = outcome (reportNumber s p kind reason buffer) 0; buffer = buffer }; after = s }
-  unfolding reportStep
+  report-refused : eqb (reportNumber s p kind reason buffer line) 0 ≡ false
+      → reportStep p kind reason words buffer line s ≡ record { answer = refuses (reportNumber s p kind reason buffer line) [] lent; after = s }
+  unfolding reportStep overlay
   report-refused e = rw e
 
   abbrev access : Access
   access = reportAccess p kind reason words
 
-  report-place : reportNumber s p kind reason buffer ≡ numberAt access (localOf s p) → reportStep p kind reason words buffer s ≡ reached (atProcess p access) buffer s
+  report-place : reportNumber s p kind reason buffer line ≡ numberAt access (localOf s p) → reportStep p kind reason words buffer line s ≡ reached (atProcess p access) lent s
   unfolding reportStep notified noticeTo reached reportAccess overlay
   report-place same = go (eqb (numberAt access (localOf s p)) 0) refl (told kind words (localOf s p)) refl
     where
-      go : (t : Bool) → eqb (numberAt access (localOf s p)) 0 ≡ t → (u : Bool) → told kind words (localOf s p) ≡ u → reportStep p kind reason words buffer s ≡ reached (atProcess p access) buffer s
+      go : (t : Bool) → eqb (numberAt access (localOf s p)) 0 ≡ t → (u : Bool) → told kind words (localOf s p) ≡ u → reportStep p kind reason words buffer line s ≡ reached (atProcess p access) lent s
       go true e true i = rw (same, e, i, length-written (noticeOf (recipientOf kind words (localOf s p)) kind p reason) (lowFirst words))
       go true e false i = rw (same, e, i)
       go false e u i = report-refused (rw same e) ∙ rw (same, e)
 
-  pub report-turn : reportStep p kind reason words buffer s ≡ taken (reportTurn p kind reason words buffer s) buffer s
+  pub report-turn : reportStep p kind reason words buffer line s ≡ taken (reportTurn p kind reason words buffer line s) lent s
   unfolding taken turnNumber reportTurn overlay placeNumber
   report-turn = go (eqb (firstFailing (turn .tests)) 0) refl
     where
       turn : Turn
-      turn = reportTurn p kind reason words buffer s
+      turn = reportTurn p kind reason words buffer line s
 
-      number : reportNumber s p kind reason buffer ≡ orElse (firstFailing (turn .tests)) (placeNumber (turn .place) s)
+      number : reportNumber s p kind reason buffer line ≡ orElse (firstFailing (turn .tests)) (placeNumber (turn .place) s)
       number = sym report-number
 
-      go : (t : Bool) → eqb (firstFailing (turn .tests)) 0 ≡ t → reportStep p kind reason words buffer s ≡ taken (reportTurn p kind reason words buffer s) buffer s
+      go : (t : Bool) → eqb (firstFailing (turn .tests)) 0 ≡ t → reportStep p kind reason words buffer line s ≡ taken (reportTurn p kind reason words buffer line s) lent s
       go true e = rw e (report-place (rw e at number))
-      go false e = let same : reportNumber s p kind reason buffer ≡ firstFailing (turn .tests) = rw e at number in rw e (rw same at (report-refused (rw same e)))
+      go false e = let same : reportNumber s p kind reason buffer line ≡ firstFailing (turn .tests) = rw e at number in rw e (rw same at (report-refused (rw same e)))
+
+-- ---- text lines
+
+text-tests : (a b c d t u v : Bool) (n : ℕ)
+    → orElse (cond a 1 (cond b 2 (cond c 6 (cond d 122 (cond (not t) 103 0))))) (orElse (cond (not u) 103 (cond v 101 0)) n)
+    ≡ cond a 1 (cond b 2 (cond c 6 (cond d 122 (cond (not (t && u)) 103 (cond v 101 n)))))
+text-tests true b c d t u v n = refl
+text-tests false true c d t u v n = refl
+text-tests false false true d t u v n = refl
+text-tests false false false true t u v n = refl
+text-tests false false false false false u v n = refl
+text-tests false false false false true false v n = refl
+text-tests false false false false true true true n = refl
+text-tests false false false false true true false n = refl
+
+module _ (text buffer : List ℕ) (s : State) where
+  abbrev asked : Line
+  asked = lineOf text
+
+  abbrev named : Local
+  named = localOf s (asked .pid)
+
+  pub text-number : turnNumber (textTurn text buffer s) s ≡ textNumber s text buffer
+  unfolding turnNumber textTurn placeNumber numberAt textAccess firstFailing textNumber public
+  text-number =
+      text-tests (noLineRoom (s .memory) buffer) (unsound s) (not (asked .headed)) (not (asked .whole)) (ltb (asked .pid) 8) (named .process .there)
+      (not (textRuleOf (asked .letter) .right (public (named .process)))) (firstFailing (textInnerTests asked (named .process)))
+
+  text-refused : eqb (textNumber s text buffer) 0 ≡ false
+      → textStep text buffer s ≡ record { answer = refuses (textNumber s text buffer) (failure asked (textNumber s text buffer)) (single buffer); after = s }
+  unfolding textStep
+  text-refused e = rw e
+
+  text-place : textNumber s text buffer ≡ numberAt (textAccess asked) named → textStep text buffer s ≡ reached (atProcess (asked .pid) (textAccess asked)) (single buffer) s
+  unfolding textStep reached textAccess overlay
+  text-place same = go (eqb (numberAt (textAccess asked) named) 0) refl
+    where
+      go : (t : Bool) → eqb (numberAt (textAccess asked) named) 0 ≡ t → textStep text buffer s ≡ reached (atProcess (asked .pid) (textAccess asked)) (single buffer) s
+      go true e = rw (same, e)
+      go false e = text-refused (rw same e) ∙ rw (same, e)
+
+  pub text-turn : textStep text buffer s ≡ taken (textTurn text buffer s) (single buffer) s
+  unfolding taken turnNumber textTurn placeNumber
+  text-turn = go (eqb (firstFailing (turn .tests)) 0) refl
+    where
+      turn : Turn
+      turn = textTurn text buffer s
+
+      number : textNumber s text buffer ≡ orElse (firstFailing (turn .tests)) (placeNumber (turn .place) s)
+      number = sym text-number
+
+      go : (t : Bool) → eqb (firstFailing (turn .tests)) 0 ≡ t → textStep text buffer s ≡ taken (textTurn text buffer s) (single buffer) s
+      go true e = rw e (text-place (rw e at number))
+      go false e = let same : textNumber s text buffer ≡ firstFailing (turn .tests) = rw e at number in rw e (rw same at (text-refused (rw same e)))
 
 -- ---- stores
 
-pub store-turn : (p a v : ℕ) (s : State) → answers (outcome 0 0) [] (stored p a v s) ≡ taken (storeTurn p a v) [] s
+pub store-turn : (p a v : ℕ) (s : State) → answers (outcome 0 0) [] (stored p a v s) ≡ taken (storeTurn p a v) (single []) s
 unfolding stored taken storeTurn reached storeAccess numberAt firstFailing overlay
 store-turn p a v s = go (ltb p 8) refl
   where
-    go : (t : Bool) → ltb p 8 ≡ t → answers (outcome 0 0) [] (stored p a v s) ≡ taken (storeTurn p a v) [] s
+    go : (t : Bool) → ltb p 8 ≡ t → answers (outcome 0 0) [] (stored p a v s) ≡ taken (storeTurn p a v) (single []) s
     go true e = rw e
     go false e = rw e
 
@@ -179,6 +240,6 @@ pub store-number : (p a v : ℕ) (s : State) → turnNumber (storeTurn p a v) s 
 unfolding turnNumber storeTurn placeNumber numberAt storeAccess firstFailing
 store-number p a v s = go (ltb p 8)
   where
-    go : (t : Bool) → placeNumber (cond t (atProcess p (storeAccess a v)) (nowhere [])) s ≡ 0
+    go : (t : Bool) → placeNumber (cond t (atProcess p (storeAccess a v)) (nowhere (alone []))) s ≡ 0
     go true = refl
     go false = refl

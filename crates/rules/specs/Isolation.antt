@@ -10,11 +10,17 @@ use Rattle.format.specs.declared.outcome.Outcome.{Outcome}
 use Rattle.format.specs.Outcome.{lengthOf}
 unfoldable pub use Rattle.format.specs.Outcome.{isGranted}
 use Rattle.format.specs.Layout.{headerOf}
+use Rattle.fields.specs.declared.read.Line.{Line}
+use Rattle.fields.specs.declared.write.Fields.{Fields}
+use Rattle.fields.specs.Letters.{CONTINUE, STEP, WRITE-CODE, WRITE-DATA, WRITE-REGISTER}
+use Rattle.fields.specs.Written.{written}
+use Rattle.fields.specs.Read.{lineOf}
+use Rattle.session.specs.Session.{textHost}
 use Rattle.process.specs.Sizes.{memoryBytes}
 use Rattle.rules.specs.Rule.{Public, public, names, creates, sizeAsked}
 use Rattle.rules.specs.Tests.{State, recordOf}
 use Rattle.rules.specs.Access.{Asker, nobody, by, insider}
-use Rattle.rules.specs.Step.{Answer, Call, request, report, store, step, localOf}
+use Rattle.rules.specs.Step.{Answer, Call, request, report, store, textLine, step, localOf}
 use Rattle.rules.specs.Ready.{Ready}
 use Rattle.rules.specs.Run.{TraceItem, run, final, leave}
 use Rattle.ops.specs.Codes.{DEBUG, DEPOSIT, DEPOSIT-VECTOR, DESTROY, END-DEBUG}
@@ -49,25 +55,46 @@ namesOne P m = leb 10 (length m) && (names (cmdOf m) && P (pidOf m))
 abbrev pub deposits : ℕ → Bool
 deposits cmd = eqb cmd DEPOSIT || eqb cmd DEPOSIT-VECTOR
 
+-- ---- text lines
+
+-- a line names a process if its PID, and what is asked, can be read
+unfoldable pub lineNamesOne : Processes → Line → Bool
+lineNamesOne P x = x .headed && P (x .pid)
+
+-- 'what it .. writes': of `c` and `s` the new PC, of `I`, `D` and `R` the value; what the others carry writes nothing
+unfoldable pub withoutWritten : Line → Fields
+withoutWritten x =
+    cond (eqb (x .letter) CONTINUE || eqb (x .letter) STEP)
+    (record { pid = x .pid; letter = x .letter; third = 1; fourth = x .fourth })
+    (cond (eqb (x .letter) WRITE-CODE || (eqb (x .letter) WRITE-DATA || eqb (x .letter) WRITE-REGISTER))
+    (record { pid = x .pid; letter = x .letter; third = x .third; fourth = 0 }) (record { pid = x .pid; letter = x .letter; third = x .third; fourth = x .fourth }))
+
+-- a line that can be read, without what it writes
+unfoldable pub withoutValue : List ℕ → List ℕ
+withoutValue text = cond (lineOf text .whole) (written (withoutWritten (lineOf text))) text
+
 -- ---- calls
 
--- 'A request is his if its second byte, HOST, is his number.' Nobody asks a report or a store
+-- 'A request is his if its second byte, HOST, is his number.' Nobody asks a report or a store; 'each line as host 253's request'
 unfoldable pub asker : Call → Asker
 asker (request m buffer) = by (hostOf m)
-asker (report p kind reason words buffer) = nobody
+asker (report p kind reason words buffer line) = nobody
 asker (store p x v) = nobody
+asker (textLine text buffer) = by textHost
 
 -- the call names one of these processes, or is about it
 unfoldable pub subject : Processes → Call → Bool
 subject P (request m buffer) = namesOne P m
-subject P (report p kind reason words buffer) = P p
+subject P (report p kind reason words buffer line) = P p
 subject P (store p x v) = P p
+subject P (textLine text buffer) = lineNamesOne P (lineOf text)
 
 -- 'reports .. and stores'
 unfoldable pub event : Call → Bool
 event (request m buffer) = false
-event (report p kind reason words buffer) = true
+event (report p kind reason words buffer line) = true
 event (store p x v) = true
+event (textLine text buffer) = false
 
 -- a message up to ARG1: ARG2, which counts the bytes of the string, is zero, and there is no string
 abbrev pub withoutString : List ℕ → List ℕ
@@ -76,8 +103,9 @@ withoutString m = take 8 m ++ (0 ∷ 0 ∷ [])
 -- the call without 'the strings in .. DEPOSIT and DEPOSIT STATE VECTOR requests', nor how long they are
 unfoldable pub passedOver : Call → Call
 passedOver (request m buffer) = request (cond (deposits (cmdOf m)) (withoutString m) m) buffer
-passedOver (report p kind reason words buffer) = report p kind reason words buffer
+passedOver (report p kind reason words buffer line) = report p kind reason words buffer line
 passedOver (store p x v) = store p x v
+passedOver (textLine text buffer) = textLine (withoutValue text) buffer
 
 -- the fields of a NOP
 abbrev pub nop : Header
@@ -86,8 +114,9 @@ nop = record { host = 0; cmd = 0; pid = 0; arg1 = 0; arg2 = 0 }
 -- the fields of a request; any other call changes the right to debug no more than a NOP does
 unfoldable pub fieldsOf : Call → Header
 fieldsOf (request m buffer) = headerOf m
-fieldsOf (report p kind reason words buffer) = nop
+fieldsOf (report p kind reason words buffer line) = nop
 fieldsOf (store p x v) = nop
+fieldsOf (textLine text buffer) = nop
 
 -- asked by one of these hosts
 unfoldable pub isOne : Hosts → Asker → Bool
@@ -125,9 +154,13 @@ Debuggers = (s : State) → Ready s → (c : Call) (p : ℕ) → publicOf (step 
 unfoldable pub noticed : Hosts → Outcome → List ℕ → Bool
 noticed H o buffer = ltb 0 (lengthOf o) && H (getD buffer 1 0)
 
+-- the line that answers a `c` or an `s` went out, to host 253
+unfoldable pub lineSent : Hosts → Answer → Bool
+lineSent H a = ltb 0 (a .lineLength) && H textHost
+
 -- 'To him go the answers to his requests and to the reports that send him something.'
 unfoldable pub sentTo : Hosts → Asker → Answer → Bool
-sentTo H nobody a = noticed H (a .outcome) (a .buffer)
+sentTo H nobody a = noticed H (a .outcome) (a .buffer) || lineSent H a
 sentTo H (by host) a = H host
 
 -- the same of a call and its answer

@@ -1,5 +1,7 @@
--- The rules of the gateway. Words in quotation marks are document 01's.
+-- The rules of the gateway. Words in quotation marks are document 01's, a change request's or, of text lines, source
+-- document 002's.
 pub mod Rule
+pub mod TextRule
 pub mod Tests
 pub mod Window
 pub mod Access
@@ -15,3 +17,4 @@ pub mod Rights
 pub mod OneMemory
 pub mod Ledger
 pub mod Loops
+pub mod Owed

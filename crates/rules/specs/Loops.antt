@@ -23,8 +23,10 @@ use Rattle.process.specs.Record.{entry}
 use Rattle.process.specs.Find.{find}
 use Rattle.process.specs.Request.{hasBreak}
 use Rattle.rules.specs.Tests.{State, recordOf}
-use Rattle.rules.specs.Step.{Call, request, report, store, step}
-use Rattle.rules.specs.Turn.{bufferOf}
+use Rattle.rules.specs.Step.{Call, request, report, store, textLine, step, plainAnswer}
+use Rattle.rules.specs.Access.{alone, grants}
+use Rattle.rules.specs.Turn.{buffersOf}
+use Rattle.fields.specs.Written.{lineBytes}
 use Rattle.rules.specs.Ready.{Ready}
 use Rattle.rules.specs.Run.{TraceItem, traceItem}
 
@@ -56,14 +58,16 @@ afterNotice (suc m) = proceeds ∷ goesOn ∷ stops ∷ afterNotice m
 -- the words of a report
 unfoldable pub wordsOf : Call → List ℕ
 wordsOf (request m buffer) = []
-wordsOf (report p kind reason words buffer) = words
+wordsOf (report p kind reason words buffer line) = words
 wordsOf (store p a v) = []
+wordsOf (textLine text buffer) = []
 
--- a report of this kind about process p, with nine words and room for a notice
+-- a report of this kind about process p, with nine words and room for a notice and a line
 pub record ReportOf (p kind : ℕ) (c : Call) : Type 0 where
-  pub is : c ≡ report p kind 0 (wordsOf c) (bufferOf c)
+  pub is : c ≡ report p kind 0 (wordsOf c) (buffersOf c .own) (buffersOf c .line)
   pub nine : length (wordsOf c) ≡ vectorWords
-  pub room : messageBytes ≤ length (bufferOf c)
+  pub room : messageBytes ≤ length (buffersOf c .own)
+  pub line-room : lineBytes ≤ length (buffersOf c .line)
 
 -- a BPT report about process p at address a, the eighth of its words
 pub record BptAt (p a : ℕ) (c : Call) : Type 0 where
@@ -76,8 +80,8 @@ proceedMessage host p = written (record { host = host; cmd = PROCEED; pid = p; a
 
 -- that request, with room for the reply
 pub record ProceedOf (host p : ℕ) (c : Call) : Type 0 where
-  pub is : c ≡ request (proceedMessage host p) (bufferOf c)
-  pub room : messageBytes ≤ length (bufferOf c)
+  pub is : c ≡ request (proceedMessage host p) (buffersOf c .own)
+  pub room : messageBytes ≤ length (buffersOf c .own)
 
 -- the call of each event, at address a of process p, which this host debugs
 abbrev pub CallOf : ℕ → ℕ → ℕ → Event → TraceItem → Type 0
@@ -88,18 +92,19 @@ CallOf host p a proceeds e = ProceedOf host p (e .call)
 
 -- ---- their answers
 
--- nothing is sent: granted with length 0, and the buffer is as it was
+-- nothing is sent: granted with length 0 and no line, and the buffers are as they were
 abbrev pub NothingSent : TraceItem → Type 0
-NothingSent e = e .answer ≡ record { outcome = outcome 0 0; buffer = bufferOf (e .call) }
+NothingSent e = e .answer ≡ grants (alone []) (buffersOf (e .call))
 
--- the notice goes to this host: 28 bytes, laid over the buffer
+-- the notice goes to this host: 28 bytes, laid over the buffer; whether a line goes out beside it stands in `Owed`
 abbrev pub NoticeSent : ℕ → ℕ → TraceItem → Type 0
 NoticeSent host p e =
-    e .answer ≡ record { outcome = outcome 0 28; buffer = overlay (written (noticeOf host BPT p 0) (lowFirst (wordsOf (e .call)))) (bufferOf (e .call)) }
+    (e .answer .outcome ≡ outcome 0 28)
+    × (e .answer .buffer ≡ overlay (written (noticeOf host BPT p 0) (lowFirst (wordsOf (e .call)))) (buffersOf (e .call) .own))
 
 -- PROCEED BPT is granted: its ten bytes come back
 abbrev pub ProceedGranted : ℕ → ℕ → TraceItem → Type 0
-ProceedGranted host p e = e .answer ≡ record { outcome = outcome 0 10; buffer = overlay (proceedMessage host p) (bufferOf (e .call)) }
+ProceedGranted host p e = e .answer ≡ plainAnswer (outcome 0 10) (overlay (proceedMessage host p) (buffersOf (e .call) .own))
 
 -- the answer to each event
 abbrev pub AnswerOf : ℕ → ℕ → Event → TraceItem → Type 0

@@ -8,9 +8,10 @@ use Rattle.process.specs.Sizes.{vectorWords}
 use Rattle.state.specs.Layout.{capacity}
 use Rattle.state.specs.Sound.{EightEntries, soundTest}
 use Rattle.rules.specs.Tests.{State, recordOf}
-use Rattle.rules.specs.Step.{Call, request, report, store}
+use Rattle.rules.specs.Step.{Call, request, report, store, textLine}
 
--- a sound state; records and entries have the sizes of the code's types, and with another memory every request and report is refused with 1
+-- a sound state; records and entries have the sizes of the code's types, and with another memory every request, text line and
+-- report is refused with 1
 pub record Ready (s : State) : Type 0 where
   pub memory : length (s .memory) ≡ capacity
   pub processes : length (s .records .processes) ≡ 8
@@ -29,5 +30,6 @@ Worded s = (p : ℕ) → p < 8 → NineWords (recordOf s p)
 -- a call as the code's types allow it: a report has 'nine words'
 unfoldable pub Typed : Call → Type 0
 Typed (request m buffer) = Unit {0}
-Typed (report p kind reason words buffer) = length words ≡ vectorWords
+Typed (report p kind reason words buffer line) = length words ≡ vectorWords
 Typed (store p a v) = Unit {0}
+Typed (textLine text buffer) = Unit {0}

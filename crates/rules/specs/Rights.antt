@@ -32,7 +32,7 @@ Creates p c a = (fieldsOf c .cmd ≡ CREATE) × (getD (a .buffer) 5 0 ≡ p)
 abbrev pub Reaches : ℕ → Call → Answer → Type 0
 Reaches p c a = (subject (only p) c ≡ true) ⊎ Creates p c a
 
--- a request that names it, or the CREATE of it, of the host that debugs it or does then; a report about it; a store into it
+-- a request or a text line that names it, or the CREATE of it, of the host that debugs it or does then; a report about it; a store into it
 abbrev pub MayChange : ℕ → State → Call → Type 0
 MayChange p s c = Reaches p c (step s c .answer) × Allowed (asker c) (publicOf s p) (publicOf (step s c .after) p)
 

@@ -1,5 +1,5 @@
 -- What the rules say of each op code that names a process: who may ask it, when, and what it does. One row for each op code.
-use mathlib.Core.Bool.{Bool, true, cond, _&&_, _||_}
+use mathlib.Core.Bool.{Bool, true, not, cond, _&&_, _||_}
 use mathlib.Core.List.{List, [], _∷_}
 use Prim.Native.Nat.{ℕ, _+_}
 use lib.ListN.{getD}
@@ -45,6 +45,10 @@ pub record Rule : Type 0 where
 -- 8 fails where 'asker is not debugging it'
 abbrev pub holds : Public → ℕ → Bool
 holds u asker = eqb (u .host) asker
+
+-- a host that may see the inside of a process with this public part: the one that debugs it
+unfoldable pub insider : Public → ℕ → Bool
+insider u host = not (eqb host 0) && eqb (u .host) host
 
 -- 8 fails, 'for DEBUG,' where 'another host is'
 abbrev pub noOther : Public → ℕ → Bool

@@ -13,20 +13,23 @@ use Rattle.format.specs.Layout.{written, headerOf, stringOf}
 use Rattle.format.specs.Answer.{cantOf, createdOf, noticeOf}
 use Rattle.process.specs.Local.{Local, local}
 use Rattle.process.specs.Request.{created}
-use Rattle.process.specs.Report.{reported, recipientOf}
+use Rattle.process.specs.Report.{reported, recipientOf, answerOf}
 use Rattle.rules.specs.Rule.{ruleOf, names, creates, sizeAsked}
 use Rattle.state.specs.Records.{lowestAbsent}
-use Rattle.rules.specs.Tests.{State, recordOf, requestNumber, reportNumber}
-pub use Rattle.rules.specs.Window.{Answer, StepResult, localOf}
+use Rattle.rules.specs.TextRule.{textRuleOf, failure, owedLine}
+use Rattle.fields.specs.declared.read.Line.{Line}
+use Rattle.fields.specs.Read.{lineOf}
+use Rattle.rules.specs.Tests.{State, recordOf, requestNumber, reportNumber, textNumber}
+pub use Rattle.rules.specs.Window.{Answer, StepResult, localOf, plainAnswer}
 unfoldable pub use Rattle.rules.specs.Window.{put}
 
 -- an answer that leaves this state
 abbrev pub answers : Outcome → List ℕ → State → StepResult
-answers o buffer s = record { answer = record { outcome = o; buffer = buffer }; after = s }
+answers o buffer s = record { answer = plainAnswer o buffer; after = s }
 
 -- a reply is laid over the start of the reply buffer
 abbrev pub replyOf : Header → List ℕ → List ℕ → Answer
-replyOf h string buffer = record { outcome = outcome 0 (10 + length string); buffer = overlay (written h string) buffer }
+replyOf h string buffer = plainAnswer (outcome 0 (10 + length string)) (overlay (written h string) buffer)
 
 -- a reply that leaves this state
 abbrev pub replied : Header → List ℕ → List ℕ → State → StepResult
@@ -66,19 +69,42 @@ told kind words l = not (eqb (recipientOf kind words l) 0)
 -- the notice of an accepted report to this host, or nothing where it is nobody
 unfoldable pub noticeTo : ℕ → ℕ → ℕ → ℕ → List ℕ → List ℕ → Answer
 noticeTo host p kind reason words buffer =
-    cond (not (eqb host 0)) (replyOf (noticeOf host kind p reason) (lowFirst words) buffer) (record { outcome = outcome 0 0; buffer = buffer })
+    cond (not (eqb host 0)) (replyOf (noticeOf host kind p reason) (lowFirst words) buffer) (plainAnswer (outcome 0 0) buffer)
 
--- an accepted report tells the host that it has to tell, if any, and leaves this state
-unfoldable pub notified : ℕ → ℕ → ℕ → List ℕ → List ℕ → Local → State → StepResult
-notified p kind reason words buffer l s =
-    record { answer = noticeTo (recipientOf kind words l) p kind reason words buffer; after = s }
+-- 'in a line buffer beside any notice, both lengths told': an answer, and this line laid over the start of the line buffer
+abbrev pub beside : List ℕ → List ℕ → Answer → Answer
+beside text line a = record { outcome = a .outcome; buffer = a .buffer; lineLength = length text; line = overlay text line }
 
--- a machine report, with its notice buffer; 'a refused one writes nothing at all'
-unfoldable pub reportStep : ℕ → ℕ → ℕ → List ℕ → List ℕ → State → StepResult
-reportStep p kind reason words buffer s =
-    cond (eqb (reportNumber s p kind reason buffer) 0)
-    (notified p kind reason words buffer (localOf s p) (put p (reported kind words (localOf s p)) s))
-    (answers (outcome (reportNumber s p kind reason buffer) 0) buffer s)
+-- an accepted report tells the host that it has to tell, if any, and gives the owed answer, if it has to
+unfoldable pub notified : ℕ → ℕ → ℕ → List ℕ → List ℕ → List ℕ → Local → Answer
+notified p kind reason words buffer line l =
+    beside (owedLine p kind (answerOf kind words l)) line (noticeTo (recipientOf kind words l) p kind reason words buffer)
+
+-- a machine report, with its notice buffer and its line buffer; 'a refused one writes nothing at all'
+unfoldable pub reportStep : ℕ → ℕ → ℕ → List ℕ → List ℕ → List ℕ → State → StepResult
+reportStep p kind reason words buffer line s =
+    cond (eqb (reportNumber s p kind reason buffer line) 0)
+    (record { answer = notified p kind reason words buffer line (localOf s p); after = put p (reported kind words (localOf s p)) s })
+    (record { answer = beside [] line (plainAnswer (outcome (reportNumber s p kind reason buffer line) 0) buffer); after = s })
+
+-- the answer of a granted text line, laid over the start of its buffer
+abbrev pub textReply : Line → List ℕ → Local → Answer
+textReply x buffer l =
+    plainAnswer (outcome 0 (length (textRuleOf (x .letter) .reply x l))) (overlay (textRuleOf (x .letter) .reply x l) buffer)
+
+-- a refused text line: silent, or one line with the flag and the errno
+abbrev pub textRefusal : ℕ → Line → List ℕ → Answer
+textRefusal number x buffer = plainAnswer (outcome number 0) (overlay (failure x number) buffer)
+
+-- a text line, with the buffer for the line that answers it
+unfoldable pub textStep : List ℕ → List ℕ → State → StepResult
+textStep text buffer s =
+    cond (eqb (textNumber s text buffer) 0)
+    (record {
+      answer = textReply (lineOf text) buffer (localOf s (lineOf text .pid));
+      after = put (lineOf text .pid) (textRuleOf (lineOf text .letter) .effect (lineOf text) (localOf s (lineOf text .pid))) s;
+    })
+    (record { answer = textRefusal (textNumber s text buffer) (lineOf text) buffer; after = s })
 
 -- a store by the machine, 'only within a process's own bytes'
 unfoldable pub stored : ℕ → ℕ → ℕ → State → State
@@ -87,11 +113,13 @@ stored p a v s = cond (ltb p 8) (put p (local (recordOf s p) (set (localOf s p .
 -- what stands in a list
 pub data Call : Type 0 where
   request : (message buffer : List ℕ) → Call
-  report : (process kind reason : ℕ) (words buffer : List ℕ) → Call
+  report : (process kind reason : ℕ) (words buffer line : List ℕ) → Call
   store : (process address value : ℕ) → Call
+  textLine : (text buffer : List ℕ) → Call
 
 -- one step; a store answers nobody
 unfoldable pub step : State → Call → StepResult
 step s (request m buffer) = requestStep m buffer s
-step s (report p kind reason words buffer) = reportStep p kind reason words buffer s
+step s (report p kind reason words buffer line) = reportStep p kind reason words buffer line s
 step s (store p a v) = answers (outcome 0 0) [] (stored p a v s)
+step s (textLine text buffer) = textStep text buffer s

@@ -16,7 +16,11 @@ use Rattle.state.specs.Records.{Records, processAt, lowestAbsent}
 use Rattle.state.specs.Layout.{capacity, freeBytes}
 use Rattle.state.specs.Sound.{soundTest}
 use Rattle.rules.specs.Rule.{Rule, Public, public, ruleOf, names, creates, sizeAsked}
+use Rattle.rules.specs.TextRule.{textRuleOf, answerOwed}
 use Rattle.format.specs.Sizes.{messageBytes}
+use Rattle.fields.specs.declared.read.Line.{Line}
+use Rattle.fields.specs.Read.{lineOf}
+use Rattle.fields.specs.Written.{lineBytes}
 
 -- the gateway's eight records and the lent memory
 pub record State : Type 0 where
@@ -30,6 +34,18 @@ lent g memory = record { records = g; memory = memory }
 -- 1: 'memory not' 16,384 'bytes, or reply or notice buffer under 266'
 abbrev pub noRoom : List ℕ → List ℕ → Bool
 noRoom memory buffer = not (eqb (length memory) capacity) || ltb (length buffer) messageBytes
+
+-- 'asks 35 bytes of line buffer'
+abbrev pub noLine : List ℕ → Bool
+noLine line = ltb (length line) lineBytes
+
+-- 1 of a report: '(a report's too)'
+abbrev pub noReportRoom : List ℕ → List ℕ → List ℕ → Bool
+noReportRoom memory buffer line = noLine line || noRoom memory buffer
+
+-- 1 of a text line
+abbrev pub noLineRoom : List ℕ → List ℕ → Bool
+noLineRoom memory buffer = noLine buffer || not (eqb (length memory) capacity)
 
 -- 2: 'state not sound'
 abbrev pub unsound : State → Bool
@@ -87,9 +103,9 @@ abbrev pub badReport : ℕ → ℕ → Bool
 badReport kind reason = ltb TTRAP kind || (not (eqb reason 0) && not (eqb kind TRAP))
 
 -- 'A report is tested by 1, 2, 14, 7, 9 in that order'
-abbrev pub reportTests : State → ℕ → ℕ → ℕ → List ℕ → List Test
-reportTests s p kind reason buffer =
-    test 1 (noRoom (s .memory) buffer)
+abbrev pub reportTests : State → ℕ → ℕ → ℕ → List ℕ → List ℕ → List Test
+reportTests s p kind reason buffer line =
+    test 1 (noReportRoom (s .memory) buffer line)
     ∷ test 2 (unsound s)
     ∷ test 14 (badReport kind reason)
     ∷ test 7 (absent s p)
@@ -97,5 +113,34 @@ reportTests s p kind reason buffer =
     ∷ []
 
 -- the number of the first that fails
-unfoldable pub reportNumber : State → ℕ → ℕ → ℕ → List ℕ → ℕ
-reportNumber s p kind reason buffer = firstFailing (reportTests s p kind reason buffer)
+unfoldable pub reportNumber : State → ℕ → ℕ → ℕ → List ℕ → List ℕ → ℕ
+reportNumber s p kind reason buffer line = firstFailing (reportTests s p kind reason buffer line)
+
+-- 101, by the public part alone
+abbrev pub textOuterTests : Line → Public → List Test
+textOuterTests x u = test 101 (not (textRuleOf (x .letter) .right u)) ∷ []
+
+-- 'an answer owed, whatever is asked', 'wrong state or a register value over 65,535', 'outside or not aligned'
+abbrev pub textInnerTests : Line → Process → List Test
+textInnerTests x p =
+    test 116 (answerOwed p)
+    ∷ test 122 (not (textRuleOf (x .letter) .state x p))
+    ∷ test 114 (not (textRuleOf (x .letter) .range x (p .size)))
+    ∷ []
+
+-- 'Refusals: silent, 1 asks 35 bytes of line buffer .., 2, and 6 a PID or request that cannot be read; then .. 22 anything else in the line
+-- unreadable, 3 no such process, 1 no right, 16 an answer owed, whatever is asked, 22 wrong state or a register value over 65,535,
+-- 14 outside or not aligned .., in that order', 'the number being 100 more'
+abbrev pub textTests : State → List ℕ → List ℕ → List Test
+textTests s text buffer =
+    test 1 (noLineRoom (s .memory) buffer)
+    ∷ test 2 (unsound s)
+    ∷ test 6 (not (lineOf text .headed))
+    ∷ test 122 (not (lineOf text .whole))
+    ∷ test 103 (absent s (lineOf text .pid))
+    ∷ textOuterTests (lineOf text) (public (recordOf s (lineOf text .pid)))
+    ++ textInnerTests (lineOf text) (recordOf s (lineOf text .pid))
+
+-- the number of the first that fails
+unfoldable pub textNumber : State → List ℕ → List ℕ → ℕ
+textNumber s text buffer = firstFailing (textTests s text buffer)

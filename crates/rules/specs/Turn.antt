@@ -11,15 +11,19 @@ use Rattle.format.specs.Layout.{written, headerOf, stringOf, fixedRight}
 use Rattle.format.specs.Answer.{cantOf, createdOf, noticeOf}
 use Rattle.format.specs.Refusal.{layoutTests}
 use Rattle.ops.specs.Table.{requestForm}
-use Rattle.process.specs.Local.{local}
+use Rattle.process.specs.Local.{Local, local}
 use Rattle.process.specs.Request.{created}
 use Rattle.run_state.specs.RunState.{accepts}
-use Rattle.process.specs.Report.{reported, recipientOf}
+use Rattle.process.specs.Report.{reported, recipientOf, answerOf}
 use Rattle.state.specs.Records.{lowestAbsent}
 use Rattle.rules.specs.Rule.{Rule, ruleOf, names, creates, sizeAsked}
-use Rattle.rules.specs.Tests.{State, noRoom, unsound, outerTests, innerTests, noPlace, badReport}
-use Rattle.rules.specs.Access.{Access, Place, nowhere, atProcess, Turn}
-use Rattle.rules.specs.Step.{told, Call, request, report, store}
+use Rattle.rules.specs.TextRule.{textRuleOf, failure, owedLine}
+use Rattle.rules.specs.Tests.{State, noRoom, noReportRoom, noLineRoom, unsound, outerTests, innerTests, textOuterTests, textInnerTests, noPlace, badReport}
+use Rattle.rules.specs.Window.{Buffers}
+use Rattle.rules.specs.Access.{Access, alone, Place, nowhere, atProcess, Turn}
+use Rattle.rules.specs.Step.{told, Call, request, report, store, textLine}
+use Rattle.fields.specs.declared.read.Line.{Line}
+use Rattle.fields.specs.Read.{lineOf}
 
 -- ---- requests
 
@@ -32,7 +36,7 @@ unfoldable pub ruleAccess : Rule → Header → List ℕ → Access
 ruleAccess r h string = record {
   outer = λ u. test 7 (not (u .there)) ∷ outerTests r h u;
   inner = λ l. innerTests r h (l .process);
-  reply = λ l. written h (r .shown h l);
+  reply = λ l. alone (written h (r .shown h l));
   refusal = λ l. cantBytes h;
   effect = r .effect h string;
 }
@@ -42,7 +46,7 @@ unfoldable pub createAccess : Header → ℕ → Access
 createAccess h p = record {
   outer = λ u. [];
   inner = λ l. [];
-  reply = λ l. written (createdOf h p) [];
+  reply = λ l. alone (written (createdOf h p) []);
   refusal = λ l. cantBytes h;
   effect = λ l. created (h .host) (sizeAsked h);
 }
@@ -57,7 +61,7 @@ placeTests h s =
 unfoldable pub requestPlace : Header → List ℕ → State → Place
 requestPlace h string s =
     cond (names (h .cmd)) (atProcess (h .pid) (ruleAccess (ruleOf (h .cmd)) h string))
-    (cond (creates (h .cmd)) (atProcess (lowestAbsent (s .records)) (createAccess h (lowestAbsent (s .records)))) (nowhere (written h [])))
+    (cond (creates (h .cmd)) (atProcess (lowestAbsent (s .records)) (createAccess h (lowestAbsent (s .records)))) (nowhere (alone (written h []))))
 
 -- the tests 1 to 6 of a request
 abbrev pub messageTests : State → List ℕ → List ℕ → List Test
@@ -76,20 +80,25 @@ requestTurn m buffer s = record {
 
 -- ---- reports and stores
 
--- a report about a process; the notice goes to the host that debugs it
+-- the notice of a report to the host that it tells, if any
+abbrev pub noticeBytes : ℕ → ℕ → ℕ → List ℕ → Local → List ℕ
+noticeBytes p kind reason words l =
+    cond (told kind words l) (written (noticeOf (recipientOf kind words l) kind p reason) (lowFirst words)) []
+
+-- a report about a process; beside the notice goes the line that the process owes
 unfoldable pub reportAccess : ℕ → ℕ → ℕ → List ℕ → Access
 reportAccess p kind reason words = record {
   outer = λ u. test 7 (not (u .there)) ∷ [];
   inner = λ l. test 9 (not (accepts kind (l .process .run))) ∷ [];
-  reply = λ l. cond (told kind words l) (written (noticeOf (recipientOf kind words l) kind p reason) (lowFirst words)) [];
+  reply = λ l. record { own = noticeBytes p kind reason words l; line = owedLine p kind (answerOf kind words l) };
   refusal = λ l number. [];
   effect = reported kind words;
 }
 
 -- a report
-unfoldable pub reportTurn : ℕ → ℕ → ℕ → List ℕ → List ℕ → State → Turn
-reportTurn p kind reason words buffer s = record {
-  tests = test 1 (noRoom (s .memory) buffer)
+unfoldable pub reportTurn : ℕ → ℕ → ℕ → List ℕ → List ℕ → List ℕ → State → Turn
+reportTurn p kind reason words buffer line s = record {
+  tests = test 1 (noReportRoom (s .memory) buffer line)
       ∷ test 2 (unsound s)
       ∷ test 14 (badReport kind reason)
       ∷ test 7 (not (ltb p 8))
@@ -103,7 +112,7 @@ unfoldable pub storeAccess : ℕ → ℕ → Access
 storeAccess a v = record {
   outer = λ u. [];
   inner = λ l. [];
-  reply = λ l. [];
+  reply = λ l. alone [];
   refusal = λ l number. [];
   effect = λ l. local (l .process) (set (l .bytes) a v);
 }
@@ -113,7 +122,32 @@ unfoldable pub storeTurn : ℕ → ℕ → ℕ → Turn
 storeTurn p a v = record {
   tests = [];
   refusal = λ number. [];
-  place = cond (ltb p 8) (atProcess p (storeAccess a v)) (nowhere []);
+  place = cond (ltb p 8) (atProcess p (storeAccess a v)) (nowhere (alone []));
+}
+
+-- ---- text lines
+
+-- a text line at the process that it names, by the row of its letter
+unfoldable pub textAccess : Line → Access
+textAccess x = record {
+  outer = λ u. test 103 (not (u .there)) ∷ textOuterTests x u;
+  inner = λ l. textInnerTests x (l .process);
+  reply = λ l. alone (textRuleOf (x .letter) .reply x l);
+  refusal = λ l. failure x;
+  effect = textRuleOf (x .letter) .effect x;
+}
+
+-- a text line
+unfoldable pub textTurn : List ℕ → List ℕ → State → Turn
+textTurn text buffer s = record {
+  tests = test 1 (noLineRoom (s .memory) buffer)
+      ∷ test 2 (unsound s)
+      ∷ test 6 (not (lineOf text .headed))
+      ∷ test 122 (not (lineOf text .whole))
+      ∷ test 103 (not (ltb (lineOf text .pid) 8))
+      ∷ [];
+  refusal = failure (lineOf text);
+  place = atProcess (lineOf text .pid) (textAccess (lineOf text));
 }
 
 -- ---- any call
@@ -121,11 +155,17 @@ storeTurn p a v = record {
 -- each call in its parts
 unfoldable pub turnOf : State → Call → Turn
 turnOf s (request m buffer) = requestTurn m buffer s
-turnOf s (report p kind reason words buffer) = reportTurn p kind reason words buffer s
+turnOf s (report p kind reason words buffer line) = reportTurn p kind reason words buffer line s
 turnOf s (store p a v) = storeTurn p a v
+turnOf s (textLine text buffer) = textTurn text buffer s
 
--- the output buffer lent with a call
-unfoldable pub bufferOf : Call → List ℕ
-bufferOf (request m buffer) = buffer
-bufferOf (report p kind reason words buffer) = buffer
-bufferOf (store p a v) = []
+-- a buffer of its own, and no line buffer
+abbrev pub single : List ℕ → Buffers
+single buffer = record { own = buffer; line = [] }
+
+-- the output buffers lent with a call
+unfoldable pub buffersOf : Call → Buffers
+buffersOf (request m buffer) = single buffer
+buffersOf (report p kind reason words buffer line) = record { own = buffer; line = line }
+buffersOf (store p a v) = single []
+buffersOf (textLine text buffer) = single buffer

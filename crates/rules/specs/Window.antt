@@ -1,7 +1,7 @@
--- The state seen one process at a time: a process with its bytes is taken out, and put back. Words in quotation marks are a change
--- request's (K9).
+-- The state seen one process at a time: a process with its bytes is taken out, and put back. Words in quotation marks are
+-- document 01's and those of change requests (K9, K7).
 use mathlib.Core.Bool.{cond}
-use mathlib.Core.List.{List}
+use mathlib.Core.List.{List, []}
 use Prim.Native.Nat.{ℕ}
 use Rattle.format.specs.declared.outcome.Outcome.{Outcome}
 use Rattle.process.specs.Local.{Local, local}
@@ -9,10 +9,21 @@ use Rattle.state.specs.Records.{startOf, withProcess, withStart}
 use Rattle.state.specs.Layout.{extentAt, used, slot, withSlot, closed, startsWithout}
 use Rattle.rules.specs.Tests.{State, recordOf}
 
--- 'An answer is all that a call returns but the state .., and every byte of its output buffers after it.'
+-- the output buffers lent with a call: its own and, with a report, the one for a text line
+pub record Buffers : Type 0 where
+  pub own : List ℕ
+  pub line : List ℕ
+
+-- 'An answer is all that a call returns but the state .., and every byte of its output buffers after it.'; of a report 'both lengths told'
 pub record Answer : Type 0 where
   pub outcome : Outcome
   pub buffer : List ℕ
+  pub lineLength : ℕ
+  pub line : List ℕ
+
+-- the answer of a call that has no line buffer
+abbrev pub plainAnswer : Outcome → List ℕ → Answer
+plainAnswer o buffer = record { outcome = o; buffer = buffer; lineLength = 0; line = [] }
 
 -- an answer, and the state after it
 pub record StepResult : Type 0 where

@@ -1,6 +1,6 @@
 -- A call at one process, by the number of its tests. Assumes nothing.
 use mathlib.Core.Path.{_≡_, refl, sym, ap, _∙_}
-use mathlib.Core.List.{List}
+use mathlib.Core.List.{List, []}
 use mathlib.Core.Bool.{Bool, true, false, not, cond, true≢false}
 use Prim.Native.Nat.{ℕ, zero, suc, _≤_}
 use native.Mathlib.Omega.{arith}
@@ -16,6 +16,7 @@ use Rattle.process.specs.Local.{Local, local}
 use Rattle.process.specs.Record.{fresh}
 use Rattle.process.specs.Request.{created, cleared}
 use Rattle.rules.specs.Rule.{Public, public, rules, noRule, ruleOf}
+use Rattle.rules.specs.Step.{beside}
 use Rattle.rules.specs.Isolation.{publicThen}
 use Rattle.rules.proofs.RuleLaws.{rule-row}
 use Rattle.checks.specs.Decision.{processTests}
@@ -117,8 +118,8 @@ unfolding namedBy
 named-refused zero z h string buffer l = absurd (z refl)
 named-refused (suc n) z h string buffer l = refl
 
-pub report-refused : (n : ℕ) → (n ≡ 0 → ⊥) → (p kind reason : ℕ) (words buffer : List ℕ) (l : Local)
-    → reportBy n p kind reason words buffer l ≡ leaving (answer (Refused n) buffer) l
+pub report-refused : (n : ℕ) → (n ≡ 0 → ⊥) → (p kind reason : ℕ) (words buffer line : List ℕ) (l : Local)
+    → reportBy n p kind reason words buffer line l ≡ leaving (beside [] line (answer (Refused n) buffer)) l
 unfolding reportBy
-report-refused zero z p kind reason words buffer l = absurd (z refl)
-report-refused (suc n) z p kind reason words buffer l = refl
+report-refused zero z p kind reason words buffer line l = absurd (z refl)
+report-refused (suc n) z p kind reason words buffer line l = refl

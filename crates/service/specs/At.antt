@@ -1,5 +1,5 @@
 -- A call at the one process that it goes to: what is answered, and the process with its bytes after it.
-use mathlib.Core.Bool.{Bool, not, cond, _&&_}
+use mathlib.Core.Bool.{Bool, not, cond}
 use mathlib.Core.List.{List, [], _∷_}
 use Prim.Native.Nat.{ℕ, zero, suc}
 use lib.Dec.{eqb, ltb}
@@ -13,10 +13,10 @@ use Rattle.process.specs.declared.record.Process.{Process}
 use Rattle.process.specs.Local.{Local, local}
 use Rattle.process.specs.Request.{created}
 use Rattle.run_state.specs.RunState.{accepts}
-use Rattle.process.specs.Report.{reported, recipientOf}
+use Rattle.process.specs.Report.{reported}
 use Rattle.rules.specs.Rule.{ruleOf, creates, sizeAsked}
 use Rattle.rules.specs.Tests.{badReport}
-use Rattle.rules.specs.Step.{Answer, replyOf, noticeTo}
+use Rattle.rules.specs.Step.{Answer, plainAnswer, replyOf, beside, notified}
 use Rattle.checks.specs.Decision.{processTests}
 use Rattle.ops.specs.Codes.{EXAMINE}
 use Rattle.ops.specs.declared.table.Form.{Form}
@@ -34,7 +34,7 @@ leaving a l = record { answer = a; left = l }
 
 -- an outcome, and the output buffer after it
 abbrev pub answer : Outcome → List ℕ → Answer
-answer o buffer = record { outcome = o; buffer = buffer }
+answer o buffer = plainAnswer o buffer
 
 -- what a call at one process answered and left: its outcome, the record and the bytes of the process, the output buffer
 abbrev pub served : Outcome → Process → List ℕ → List ℕ → ProcessResult
@@ -79,16 +79,19 @@ createdAt p h buffer = leaving (replyOf (createdOf h p) [] buffer) (created (h .
 unfoldable pub reportAway : ℕ → ℕ → ℕ → ℕ
 reportAway p kind reason = firstFailing (test 14 (badReport kind reason) ∷ test 7 (not (ltb p 8)) ∷ [])
 
+-- what a report at one process answered and left: its outcome, the length of its line, the record and the bytes of the process, its two buffers
+abbrev pub reportServed : Outcome → ℕ → Process → List ℕ → List ℕ → List ℕ → ProcessResult
+reportServed o n p bytes buffer line = leaving (record { outcome = o; buffer = buffer; lineLength = n; line = line }) (local p bytes)
+
 -- a report about process p, by the number of its tests; 'a refused one writes nothing at all'
-unfoldable pub reportBy : ℕ → ℕ → ℕ → ℕ → List ℕ → List ℕ → Local → ProcessResult
-reportBy zero p kind reason words buffer l =
-    leaving (noticeTo (recipientOf kind words l) p kind reason words buffer) (reported kind words l)
-reportBy (suc n) p kind reason words buffer l = leaving (answer (outcome (suc n) 0) buffer) l
+unfoldable pub reportBy : ℕ → ℕ → ℕ → ℕ → List ℕ → List ℕ → List ℕ → Local → ProcessResult
+reportBy zero p kind reason words buffer line l = leaving (notified p kind reason words buffer line l) (reported kind words l)
+reportBy (suc n) p kind reason words buffer line l = leaving (beside [] line (answer (outcome (suc n) 0) buffer)) l
 
 -- the tests 7 and 9 of a process whose number is under 8
 unfoldable pub reportNumberAt : ℕ → Process → ℕ
 reportNumberAt kind p = firstFailing (test 7 (not (p .there)) ∷ test 9 (not (accepts kind (p .run))) ∷ [])
 
 -- a report about process p, by its tests 7 and 9
-unfoldable pub reportAt : ℕ → ℕ → ℕ → List ℕ → List ℕ → Local → ProcessResult
-reportAt p kind reason words buffer l = reportBy (reportNumberAt kind (l .process)) p kind reason words buffer l
+unfoldable pub reportAt : ℕ → ℕ → ℕ → List ℕ → List ℕ → List ℕ → Local → ProcessResult
+reportAt p kind reason words buffer line l = reportBy (reportNumberAt kind (l .process)) p kind reason words buffer line l

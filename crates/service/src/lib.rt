@@ -14,6 +14,7 @@ pub use report::report_for_process;
 pub use request::answer_create;
 pub use request::answer_for_process;
 pub use request::size_asked;
+pub use served::ReportServed;
 pub use served::ServiceResult;
 pub use target::Target;
 pub use target::target_of;

@@ -6,6 +6,7 @@ use lib.ListN.{getD, set}
 use Rattle.lists.specs.First.{first}
 use Rattle.process.specs.declared.record.Process.{Process}
 use Rattle.run_state.specs.declared.Run.the-variants.{Running}
+use Rattle.session.specs.Session.{noSession}
 
 -- the record of every process, in the order of their numbers, and where in memory the bytes of each begin
 pub record Records : Type 0 where
@@ -14,7 +15,7 @@ pub record Records : Type 0 where
 
 -- what is read past the eight records; nothing reads there
 abbrev pub nobody : Process
-nobody = record { there = false; host = 0; run = Running; size = 0; vector = []; breaks = [] }
+nobody = record { there = false; host = 0; run = Running; size = 0; vector = []; breaks = []; session = noSession }
 
 -- the record of process p
 abbrev pub processAt : Records → ℕ → Process

@@ -21,6 +21,8 @@ use Rattle.run_state.specs.declared.Run.the-variants.{Running, Stepping, Stoppe
 use Rattle.process.specs.declared.record.Process.{Process}
 use Rattle.run_state.specs.RunState.{isRunNumber, runNumber, runOf}
 use Rattle.run_state.proofs.RunLaws.{run-back, run-formed, run-forth}
+use Rattle.session.specs.Session.{isOwedNumber, sessionSound}
+use Rattle.session.proofs.SessionLaws.{owed-back, owed-formed, owed-forth}
 use Rattle.process.specs.Record.{noBreaks}
 use Rattle.process.specs.Sizes.{validSize}
 use Rattle.process.specs.Sound.{absentHasNoHost, entrySound, keepsRules}
@@ -30,7 +32,8 @@ use Rattle.state_bytes.specs.Chunk.{chunks, everyChunk}
 use Rattle.state_bytes.specs.Entry.{entryBytes, entryOf, entryFormed, entriesBits, flagsFormed}
 use Rattle.state_bytes.specs.Number.{flagOf}
 use Rattle.state_bytes.specs.Process.{headBytes, sizeOf, processBytes, processOf, headFormed, processFormed, headSound, processPlain, processSound}
-use Rattle.state_bytes.specs.Widths.{entryCount, entryWidth, thereAt, hostAt, runAt, sizeAt, headWidth, vectorAt, vectorWidth, entriesAt, entriesWidth, processWidth}
+use Rattle.state_bytes.specs.Session.{sessionOf, sessionFormed, sessionFits}
+use Rattle.state_bytes.specs.Widths.{entryCount, entryWidth, thereAt, hostAt, runAt, sizeAt, owedAt, headWidth, vectorAt, vectorWidth, entriesAt, entriesWidth, processWidth}
 use Rattle.state_bytes.proofs.ChunkLaws.{bytes-take, bytes-drop, length-joined, chunks-joined, every-joined, joined-chunks, chunks-same, every-weaker}
 use Rattle.state_bytes.proofs.EntryLaws.{&&-true, &&-false, &&-assoc, length-entryBytes, entry-back, entry-formed, entry-forth, entryZero, zero-bits, flags-bits, zero-free, zero-formed}
 use Rattle.state_bytes.proofs.NumberLaws.{flag-back, flag-formed, flag-forth, by-elements}
@@ -82,19 +85,21 @@ module _ (p : Process) (nine : length (p .vector) ≡ 9) (eight : length (p .bre
   pub process-back : processOf (processBytes p) ≡ p
   unfolding processOf processBytes
   process-back =
-      rw (flag-back (p .there), run-back (p .run), word-high-low (p .size), take-at (lowFirst (p .vector)) (joined entryBytes (p .breaks)) vectorWidth words-long, vector-back (p .vector) nine, entries-after, entries-back)
+      rw (flag-back (p .there), run-back (p .run), word-high-low (p .size), owed-back (p .session .owed), take-at (lowFirst (p .vector)) (joined entryBytes (p .breaks)) vectorWidth words-long, vector-back (p .vector) nine, entries-after, entries-back)
 
   pub process-formed : processFormed (processBytes p) ≡ true
   unfolding processFormed headFormed processBytes
-  process-formed = rw (flag-formed (p .there), run-formed (p .run), entries-after) entries-formed
+  process-formed = rw (flag-formed (p .there), run-formed (p .run), owed-formed (p .session .owed), entries-after) entries-formed
 
 pub process-forth : (m : List ℕ) → length m ≡ processWidth → Bytes m → processFormed m ≡ true → processBytes (processOf m) ≡ m
 unfolding processBytes processOf processFormed headFormed
 process-forth m size b e =
     let there = leb (getD m thereAt 0) 1 in
     let run = isRunNumber (getD m runAt 0) in
-    let head = &&-left (there && run) _ e in
-    let entries = &&-right (there && run) (everyChunk entryWidth entryFormed entryCount (drop entriesAt m)) e in
+    let owed = isOwedNumber (getD m owedAt 0) in
+    let head = &&-left (there && (run && owed)) _ e in
+    let rest = &&-right there (run && owed) head in
+    let entries = &&-right (there && (run && owed)) (everyChunk entryWidth entryFormed entryCount (drop entriesAt m)) e in
     let after : length (drop vectorAt m) ≡ vectorWidth + entriesWidth = simp length-drop (omega (arith, size)) in
     let long : length (take vectorWidth (drop vectorAt m)) ≡ vectorWidth = length-take-le vectorWidth (drop vectorAt m) (omega (arith, after)) in
     let last : length (drop entriesAt m) ≡ entriesWidth = simp length-drop (omega (arith, size)) in
@@ -102,7 +107,8 @@ process-forth m size b e =
     let front : take headWidth m ≡ elements (λ (i : ℕ). getD m i 0) headWidth = take-elements headWidth m (omega (arith, size)) in
     rw (
       flag-forth (getD m thereAt 0) (&&-left there _ head),
-      run-forth (getD m runAt 0) (&&-right there run head),
+      run-forth (getD m runAt 0) (&&-left run _ rest),
+      owed-forth (getD m owedAt 0) (&&-right run owed rest),
       low-word (getD m (sizeAt + 1) 0) (getD m sizeAt 0) (b sizeAt),
       high-word (getD m (sizeAt + 1) 0) (getD m sizeAt 0) (b sizeAt),
       vector-forth (take vectorWidth (drop vectorAt m)) long (bytes-take vectorWidth (drop vectorAt m) (bytes-drop vectorAt m b)),
@@ -114,12 +120,22 @@ process-forth m size b e =
 
 -- ---- soundness
 
--- a head is sound where it is formed, the size is valid and an absent process has no host
-head-both : (there host : ℕ) (run size : Bool) → run && (size && (eqb there 1 || (eqb there 0 && eqb host 0))) ≡ (leb there 1 && run) && (size && (flagOf there || eqb host 0))
-head-both zero host run size = refl
-head-both (suc zero) host run size = refl
-head-both (suc (suc there)) host run size =
-    rw (lt-leb (suc (suc there)) 1 (omega arith), ne-eqb (suc (suc there)) 1 (λ e. omega (arith, e)), ne-eqb (suc (suc there)) 0 (λ e. omega (arith, e)), &&-false size) (&&-false run)
+-- five tests in two orders
+head-tests : (run size owed fits host : Bool) → run && (size && ((owed && fits) && host)) ≡ (run && owed) && (size && (host && fits))
+head-tests false size owed fits host = refl
+head-tests true size false fits host = &&-false size
+head-tests true size true true true = refl
+head-tests true size true true false = refl
+head-tests true size true false true = refl
+head-tests true size true false false = refl
+
+-- a head is sound where it is formed, the size is valid, an absent process has no host and the host may be owed the answer
+head-both : (there host : ℕ) (run size owed fits : Bool)
+    → run && (size && ((owed && fits) && (eqb there 1 || (eqb there 0 && eqb host 0)))) ≡ (leb there 1 && (run && owed)) && (size && ((flagOf there || eqb host 0) && fits))
+head-both zero host run size owed fits = head-tests run size owed fits (eqb host 0)
+head-both (suc zero) host run size owed fits = head-tests run size owed fits true
+head-both (suc (suc there)) host run size owed fits =
+    rw (lt-leb (suc (suc there)) 1 (omega arith), ne-eqb (suc (suc there)) 1 (λ e. omega (arith, e)), ne-eqb (suc (suc there)) 0 (λ e. omega (arith, e)), &&-false (owed && fits), &&-false size) (&&-false run)
 
 no-breaks-sound : (p : Process) → p .breaks ≡ noBreaks → below (entrySound p) entryCount ≡ true
 unfolding entrySound
@@ -135,16 +151,22 @@ module _ (m : List ℕ) where
   abbrev sized : Bool
   sized = validSize (processOf m .size)
 
-  head-sound : headSound m ≡ headFormed m && (sized && absentHasNoHost (processOf m))
-  unfolding headSound headFormed absentHasNoHost processOf
-  head-sound = head-both (getD m thereAt 0) (getD m hostAt 0) (isRunNumber (getD m runAt 0)) (validSize (sizeOf m))
+  -- what the rules ask of a head
+  abbrev rules : Bool
+  rules = absentHasNoHost (processOf m) && sessionSound (processOf m .host) (processOf m .session)
+
+  head-sound : headSound m ≡ headFormed m && (sized && rules)
+  unfolding headSound headFormed sessionFits absentHasNoHost processOf
+  head-sound =
+      head-both (getD m thereAt 0) (getD m hostAt 0) (isRunNumber (getD m runAt 0)) (validSize (sizeOf m)) (sessionFormed m) (sessionSound (getD m hostAt 0) (sessionOf m))
 
   -- head, flags and entries, each by itself
   by-parts : processSound m ≡ headSound m && (flags && below (entrySound (processOf m)) entryCount)
   unfolding processSound processFormed soundProcess keepsRules
   by-parts =
       let entries = below (entrySound (processOf m)) entryCount in
-      rw (head-sound, ← &&-assoc sized (absentHasNoHost (processOf m)) entries) (&&-pairs (headFormed m) flags (sized && absentHasNoHost (processOf m)) entries)
+      let session = sessionSound (processOf m .host) (processOf m .session) in
+      rw (head-sound, ← &&-assoc (absentHasNoHost (processOf m)) session entries, ← &&-assoc sized rules entries) (&&-pairs (headFormed m) flags (sized && rules) entries)
 
   pub head-fails : headSound m ≡ false → processSound m ≡ false
   head-fails h = rw (by-parts, h)

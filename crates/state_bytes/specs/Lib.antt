@@ -4,6 +4,7 @@ pub mod Entry
 pub mod Layout
 pub mod Number
 pub mod Process
+pub mod Session
 pub mod State
 pub mod Theorems
 pub mod Widths

@@ -14,11 +14,12 @@ use Rattle.process.specs.Sound.{soundTest as soundProcess}
 use Rattle.state_bytes.specs.Chunk.{chunks, everyChunk}
 use Rattle.state_bytes.specs.Entry.{entryBytes, entryOf, entryFormed, entriesBits}
 use Rattle.state_bytes.specs.Number.{flagOf}
+use Rattle.state_bytes.specs.Session.{sessionBytes, sessionOf, sessionFormed, sessionFits}
 use Rattle.state_bytes.specs.Widths.{entryCount, entryWidth, thereAt, hostAt, runAt, sizeAt, vectorAt, vectorWidth, entriesAt}
 
--- there, host, run state, size
+-- there, host, run state, size, session
 abbrev pub headBytes : Process → List ℕ
-headBytes p = flag (p .there) ∷ p .host ∷ runNumber (p .run) ∷ low (p .size) ∷ high (p .size) ∷ []
+headBytes p = flag (p .there) ∷ p .host ∷ runNumber (p .run) ∷ low (p .size) ∷ high (p .size) ∷ sessionBytes (p .session)
 
 -- then the nine words, then the eight entries
 unfoldable pub processBytes : Process → List ℕ
@@ -37,13 +38,14 @@ processOf m = record {
   vector = vectorOf (take vectorWidth (drop vectorAt m));
   breaks = chunks entryWidth entryOf entryCount (drop entriesAt m);
   size = sizeOf m;
+  session = sessionOf m;
 }
 
 -- ---- bytes that are a process's
 
--- the flag is 0 or 1, and the run state one of the six; any size is formed
+-- the flag is 0 or 1, the run state one of the six, and the session formed; any size is
 unfoldable pub headFormed : List ℕ → Bool
-headFormed m = leb (getD m thereAt 0) 1 && isRunNumber (getD m runAt 0)
+headFormed m = leb (getD m thereAt 0) 1 && (isRunNumber (getD m runAt 0) && sessionFormed m)
 
 -- head and entries are
 unfoldable pub processFormed : List ℕ → Bool
@@ -51,11 +53,13 @@ processFormed m = headFormed m && everyChunk entryWidth entryFormed entryCount (
 
 -- ---- and of a sound record
 
--- the run state is one of the six, the size is valid, and the process is there, or absent with no host
+-- the run state is one of the six, the size is valid, the session fits, and the process is there, or absent with no host
 unfoldable pub headSound : List ℕ → Bool
 headSound m =
     isRunNumber (getD m runAt 0)
-    && (validSize (sizeOf m) && (eqb (getD m thereAt 0) 1 || (eqb (getD m thereAt 0) 0 && eqb (getD m hostAt 0) 0)))
+    && (validSize (sizeOf m)
+    && (sessionFits m
+    && (eqb (getD m thereAt 0) 1 || (eqb (getD m thereAt 0) 0 && eqb (getD m hostAt 0) 0))))
 
 -- a sound head, and no breakpoints
 unfoldable pub processPlain : List ℕ → Bool

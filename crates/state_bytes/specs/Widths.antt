@@ -33,9 +33,13 @@ runAt = 2
 abbrev pub sizeAt : ℕ
 sizeAt = 3
 
--- these four
+-- the number of the owed answer
+abbrev pub owedAt : ℕ
+owedAt = 5
+
+-- these five
 abbrev pub headWidth : ℕ
-headWidth = 5
+headWidth = 6
 
 -- ---- a process
 

@@ -3,6 +3,7 @@ use crate::entry::put_entries;
 use crate::entry::read_entries;
 use crate::widths::ENTRIES_AT;
 use crate::widths::HOST_AT;
+use crate::widths::OWED_AT;
 use crate::widths::RUN_AT;
 use crate::widths::SIZE_AT;
 use crate::widths::THERE_AT;
@@ -11,6 +12,9 @@ use process::Process;
 use process::valid_size;
 use run_state::is_run_number;
 use run_state::run_of;
+use session::LAST_OWED_NUMBER;
+use session::Session;
+use session::owed_of;
 use words::flag;
 use words::high_byte;
 use words::low_byte;
@@ -23,6 +27,7 @@ ghost use Rattle.lists.specs.Buffer.{overlay};
 ghost use Rattle.lists.specs.Word.{lowFirst, vectorOf};
 ghost use Rattle.process.specs.Local.{extent};
 ghost use Rattle.state_bytes.specs.Process.{headBytes, sizeOf, processBytes, processOf, headSound};
+ghost use Rattle.state_bytes.specs.Session.{sessionOf, sessionFits};
 ghost use Rattle.state_bytes.specs.Widths.{headWidth, vectorWidth, processWidth};
 
 // The nine words.
@@ -51,6 +56,15 @@ fn read_size(bytes: &[u8]) -> u16
     word_of(bytes[SIZE_AT + 1], bytes[SIZE_AT])
 }
 
+// The session in the head.
+fn read_session(bytes: &[u8]) -> Session
+    requires { ⌜ headWidth ≤ length (now bytes) ⌝ }
+    ensures { λ r. ⌜ r ≡ sessionOf (now (bytes .entry)) ⌝ }
+{
+    let owed = owed_of(bytes[OWED_AT]);
+    Session { owed: owed }
+}
+
 // How many bytes of memory the process has: its size, or none where it is absent.
 pub(crate) fn read_extent(bytes: &[u8]) -> u16
     requires { ⌜ headWidth ≤ length (now bytes) ⌝ }
@@ -71,6 +85,7 @@ pub(crate) fn read_process(bytes: &[u8]) -> Process
     let breaks = read_entries(&bytes[ENTRIES_AT..]);
     let run = run_of(bytes[RUN_AT]);
     let size = read_size(bytes);
+    let session = read_session(bytes);
     Process {
         there: bytes[THERE_AT] % 2 == 1,
         host: bytes[HOST_AT],
@@ -78,20 +93,24 @@ pub(crate) fn read_process(bytes: &[u8]) -> Process
         vector: vector,
         breaks: breaks,
         size: size,
+        session: session,
     }
 }
 
-// Writes whether it is there, host, run state and size.
+// Writes whether it is there, host, run state, size and session.
 fn put_head(p: Process, bytes: &mut [u8])
     requires { ⌜ headWidth ≤ length (now bytes) ⌝ }
     ensures { λ _. ⌜ now (bytes .exit) ≡ overlay (headBytes p) (now (bytes .entry)) ⌝ }
 {
     let run = p.run;
+    let session = p.session;
+    let owed = session.owed;
     bytes[THERE_AT] = flag(p.there);
     bytes[HOST_AT] = p.host;
     bytes[RUN_AT] = run.number();
     bytes[SIZE_AT] = low_byte(p.size);
     bytes[SIZE_AT + 1] = high_byte(p.size);
+    bytes[OWED_AT] = owed.number();
 }
 
 // Writes the nine words.
@@ -117,7 +136,21 @@ pub(crate) fn put_process(p: Process, bytes: &mut [u8])
     put_entries(breaks, &mut bytes[ENTRIES_AT..]);
 }
 
-// The run state is one of the six, the size is valid, and the process is there, or absent with no host.
+// The session in the head is formed, and the host there may be owed the answer. That nothing is owed is told first, by one comparison.
+fn session_fits(bytes: &[u8]) -> bool
+    requires { ⌜ headWidth ≤ length (now bytes) ⌝ }
+    ensures { λ r. ⌜ r ≡ sessionFits (now (bytes .entry)) ⌝ }
+{
+    if bytes[OWED_AT] == 0 {
+        return true;
+    }
+    if bytes[OWED_AT] > LAST_OWED_NUMBER {
+        return false;
+    }
+    read_session(bytes).sound(bytes[HOST_AT])
+}
+
+// The run state is one of the six, the size is valid, the session fits, and the process is there, or absent with no host.
 pub(crate) fn head_sound(bytes: &[u8]) -> bool
     requires { ⌜ headWidth ≤ length (now bytes) ⌝ }
     ensures { λ r. ⌜ r ≡ headSound (now (bytes .entry)) ⌝ }
@@ -126,6 +159,9 @@ pub(crate) fn head_sound(bytes: &[u8]) -> bool
         return false;
     }
     if !valid_size(read_size(bytes)) {
+        return false;
+    }
+    if !session_fits(bytes) {
         return false;
     }
     if bytes[THERE_AT] == 1 {

@@ -16,7 +16,9 @@ pub(crate) const RUN_AT: usize = 2;
 
 pub(crate) const SIZE_AT: usize = 3;
 
-pub(crate) const HEAD_BYTES: usize = 5;
+pub(crate) const OWED_AT: usize = 5;
+
+pub(crate) const HEAD_BYTES: usize = 6;
 
 // A process.
 pub(crate) const VECTOR_AT: usize = HEAD_BYTES;

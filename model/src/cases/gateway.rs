@@ -2,11 +2,12 @@
 
 use super::*;
 
-/// A gateway: a state, its memory and one reply buffer.
+/// A gateway: a state, its memory, one reply buffer and one line buffer.
 pub struct Gateway {
     pub state: State,
     pub memory: Vec<u8>,
     pub output: Vec<u8>,
+    pub line: Vec<u8>,
 }
 
 /// A byte that no case writes, to see which bytes are touched.
@@ -31,6 +32,7 @@ impl Gateway {
             state: fresh_start(there, sizes).unwrap(),
             memory: vec![0; MEMORY],
             output: vec![UNTOUCHED; LONGEST],
+            line: vec![UNTOUCHED; LONGEST_LINE],
         }
     }
 
@@ -61,9 +63,29 @@ impl Gateway {
 
     pub fn report(&mut self, process: u64, kind: impl Into<u64>, reason: u64, pc: u16) -> i64 {
         self.output.fill(UNTOUCHED);
-        let words = words_with(pc);
+        self.line.fill(UNTOUCHED);
+        let (words, kind) = (words_with(pc), kind.into());
         let (state, memory) = (&mut self.state, &mut self.memory);
-        report(state, memory, process, kind.into(), reason, &words, &mut self.output)
+        let (notice, line) = (&mut self.output, &mut self.line);
+        report(state, memory, process, kind, reason, &words, notice, line)
+    }
+
+    /// A line of the bench, without its newline.
+    pub fn line(&mut self, text: &str) -> i64 {
+        self.raw(format!("{text}\n").as_bytes())
+    }
+
+    pub fn raw(&mut self, text: &[u8]) -> i64 {
+        self.line.fill(UNTOUCHED);
+        line(&mut self.state, &mut self.memory, text, &mut self.line)
+    }
+
+    /// The line that was written, without its newline, and a test that no byte past it is
+    /// touched; nothing where none was written.
+    pub fn answered(&self) -> &str {
+        let length = self.line.iter().position(|&b| b == b'\n').map_or(0, |at| at + 1);
+        assert!(self.line[length..].iter().all(|&b| b == UNTOUCHED));
+        std::str::from_utf8(&self.line[..length]).unwrap().trim_end_matches('\n')
     }
 
     /// The bytes written, and a test that none past them is touched.

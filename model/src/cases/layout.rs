@@ -39,6 +39,7 @@ fn seen(g: &Gateway, p: u8) -> Vec<u8> {
         state: g.state.clone(),
         memory: g.memory.clone(),
         output: vec![UNTOUCHED; LONGEST],
+        line: vec![UNTOUCHED; LONGEST_LINE],
     };
     let Process { host, size, .. } = g.state.processes[usize::from(p)];
     let mut bytes = Vec::new();
@@ -60,7 +61,7 @@ fn k9_a_fresh_start_lays_them_in_number_order() {
     assert!(sound(&state));
     assert_eq!((used_bytes(&state), free_bytes(&state)), (9732, 6652));
     let bytes = encode(&state);
-    assert_eq!(bytes[696..712], [0, 0, 0, 0, 2, 0, 2, 6, 0, 0, 0, 22, 0, 0, 0, 38]);
+    assert_eq!(bytes[704..720], [0, 0, 0, 0, 2, 0, 2, 6, 0, 0, 0, 22, 0, 0, 0, 38]);
 }
 
 #[test]

@@ -1,9 +1,9 @@
 -- `c_api::calls::palustrode_request` meets its contract: that of the gateway's request. Assumes nothing.
 use mathlib.Core.Path.{_≡_, _∙_}
+use native.Mathlib.Omega.{arith}
 use mir.Syntax.{w64}
 use mir.Val.{toZ, ofZ}
 use Rattle.rules.specs.Step.{request}
-use Rattle.c_api.proofs.ShortLaws.{request-short}
 use Rattle.c_api.proofs.ReturnLaws.{call-short, call-returns}
 use Rattle.gateway.specs.Called.{Did}
 use borrow.Author.Needs.{needs}
@@ -17,7 +17,8 @@ signed-requires : tie.Need-signed-requires
 unfolding Did
 signed-requires c κs =
     let a = c .before .before .before .before .before .before .before .before .before .before .before .before .before .before .args in
-    call-short _ _ _ _ _ _ (request (a .message .now) (a .reply .now)) (c .before .before .before .before .before .before .request .ensures) (request-short (a .state .now) (a .memory .now) (a .message .now) (a .reply .now))
+    let v = c .before .before .before .before .before .before .request in
+    call-short _ _ _ _ _ _ (request (a .message .now) (a .reply .now)) (v .ensures) (omega (arith, v .kept .1 .1 .1 .0))
 
 same-length : tie.Need-same-length
 same-length c = search needs

@@ -13,10 +13,10 @@ use Rattle.c_api.proofs.StartLaws.{start-same}
 use Rattle.c_api.proofs.in_range.numbers_in_range.Statement.{statement}
 use Rattle.c_api.proofs.in_range.numbers_in_range.Tie as tie
 
-report-same : (state memory : List ℕ) (pid kind reason : ℕ) (words notice : List ℕ) → length words ≡ 18 → reason < 65536
-    → reportOn state memory pid kind reason words notice ≡ callOn state memory (report pid kind reason (vectorOf words) notice)
+report-same : (state memory : List ℕ) (pid kind reason : ℕ) (words notice line : List ℕ) → length words ≡ 18 → reason < 65536
+    → reportOn state memory pid kind reason words notice line ≡ callOn state memory (report pid kind reason (vectorOf words) notice line)
 unfolding reportOn kindOf
-report-same state memory pid kind reason words notice n r = rw (eq-eqb (length words) 18 n, lt-ltb reason 65536 r)
+report-same state memory pid kind reason words notice line n r = rw (eq-eqb (length words) 18 n, lt-ltb reason 65536 r)
 
 returns : tie.Need-returns
 returns c =

@@ -2,8 +2,8 @@
 use mathlib.Core.Path.{_≡_, refl, sym, ap, _∙_}
 use borrow.Author.Tests.{not-true, not-false}
 use native.Mathlib.Omega.{arith}
-use Rattle.calls.specs.Meaning.{requestEffect}
-use Rattle.calls.proofs.MeaningLaws.{does-as, does-right, does-wrong, pairs-made}
+use Rattle.calls.specs.Meaning.{requestMade, requestEffect}
+use Rattle.calls.proofs.MeaningLaws.{does-as, does-right, does-wrong, made-front, pairs-made}
 use borrow.Author.Needs.{needs}
 use Rattle.calls.proofs.call.answer_request.Statement.{statement}
 use Rattle.calls.proofs.call.answer_request.Tie as tie
@@ -54,7 +54,7 @@ returns-2 c =
     let a = c .before .before .before .before .before .before .before .before .before .before .before .before .before .before .before .before .before .args in
     let e = c .before .before .before .before .before .before .before .before .before .before .part .ensures in
     let n = c .before .before .before .before .before .before .before .before .before .before .before .before .new .ensures in
-    let same = pairs-made (c .before .before .before .before .before .before .before .before .before .before .before .before .new .result) (c .before .before .before .before .before .before .before .before .before .before .part .result) _ (a .pairs .now) _ _ (a .state .now) (a .memory .now) (n .0) (n .1) (e .1 .0) (e .1 .1) (c .before .before .before .before .before .before .before .at-most .ensures .0) (omega arith) in
+    let same = pairs-made 267 (λ x. requestMade x (a .state .now) (a .memory .now)) (λ n x h. made-front n x (a .state .now) (a .memory .now) h) (c .before .before .before .before .before .before .before .before .before .before .before .before .new .result) (c .before .before .before .before .before .before .before .before .before .before .part .result) _ (a .pairs .now) _ _ (n .0) (n .1) (e .1 .0) (e .1 .1) (c .before .before .before .before .before .before .before .at-most .ensures .0) (omega arith) in
     does-right _ _ _ _ _ _ _ _ _ (sym (c .before .before .before .before .before .before .before .before .before .before .before .before .before .before .is-full .ensures) ∙ not-false _ (c .before .before .before .before .before .before .before .before .before .before .before .before .before .if1 .left)) (does-as _ _ _ _ _ _ _ same (c .before .before .make-request .ensures))
 
 pub answer-request-spec : {M : Type 1} → statement M

@@ -1,7 +1,6 @@
 -- `calls::call::make_request` meets its contract: the line is the answer of the call. Assumes nothing.
 use Rattle.rules.specs.Step.{request}
 use Rattle.gateway.specs.Called.{callOn, Did}
-use Rattle.gateway.specs.Lengths.{replyLength}
 use Rattle.calls.specs.Meaning.{requestMade}
 use Rattle.calls.proofs.MeaningLaws.{does-answer}
 use borrow.Author.Needs.{needs}
@@ -48,7 +47,7 @@ returns c =
     let q = c .before .before .before .before .before .before .before .before .before .before in
     let a = c .before .before .before .before .before .before .before .before .before .before .before .before .before .before .before .before .before .args in
     rw (← c .before .before .before .before .before .before .before .before .before .before .before .before .before .before .zero-buffer .ensures)
-    (does-answer replyLength (q .request .result) (q .request .last .0) (q .request .last .1 .0) (q .request .last .1 .1 .1 .0) (callOn (a .state .now) (a .memory .now) (request (a .message .now) (c .before .before .before .before .before .before .before .before .before .before .before .before .before .before .zero-buffer .result))) (q .request .ensures) (c .before .before .before .before .before .number .result) (c .before .before .before .before .before .before .before .before .reply-length .result) (c .before .before .before .before .before .before .at-most .result) (c .before .before .put-answer .result) (a .out .now) (c .before .before .put-answer .last .1 .1 .0) (c .before .before .before .before .before .number .ensures) (c .before .before .before .before .before .before .before .before .reply-length .ensures) (c .before .before .before .before .before .before .at-most .ensures .0) (record { size = p .0; fits = p .1 .0; laid = p .1 .1 }))
+    (does-answer (q .request .result) (q .request .last .0) (q .request .last .1 .0) (q .request .last .1 .1 .1 .0) (callOn (a .state .now) (a .memory .now) (request (a .message .now) (c .before .before .before .before .before .before .before .before .before .before .before .before .before .before .zero-buffer .result))) (q .request .ensures) (c .before .before .before .before .before .number .result) (c .before .before .before .before .before .before .before .before .reply-length .result) (c .before .before .before .before .before .before .at-most .result) (c .before .before .put-answer .result) (a .out .now) (c .before .before .put-answer .last .1 .1 .0) (c .before .before .before .before .before .number .ensures) (c .before .before .before .before .before .before .before .before .reply-length .ensures) (c .before .before .before .before .before .before .at-most .ensures .0) (record { size = p .0; fits = p .1 .0; laid = p .1 .1 }))
 
 pub make-request-spec : {M : Type 1} → statement M
 make-request-spec =

@@ -7,7 +7,7 @@ use Rattle.rules.specs.Tests.{lent}
 use Rattle.state_bytes.specs.State.{stateOf}
 use Rattle.service.specs.declared.target.Target.the-variants.{Named, OutOfRange, New, Nowhere}
 use Rattle.gateway.proofs.AskedLaws.{request-found, carried-short, create-short, target-says, asked-beyond, asked-nowhere}
-use Rattle.gateway.proofs.LentLaws.{lent-formed, lent-fits}
+use Rattle.gateway.proofs.LentLaws.{request-fits}
 use Rattle.gateway.proofs.FinishLaws.{finished-unmoved}
 use borrow.Author.Needs.{needs}
 use Rattle.gateway.proofs.requests.answer.Statement.{statement}
@@ -38,7 +38,7 @@ refuse-requires : tie.Need-refuse-requires
 refuse-requires c κs =
     let s = c .before .before .before .before .before .before .before .before in
     let a = s .args in
-    (λ e. omega (arith, e), lent-fits (a .state .now) (a .memory .now) (a .reply .now) (s .pre .1) .room)
+    (λ e. omega (arith, e), request-fits (a .state .now) (a .memory .now) (a .reply .now) (s .pre .1) .room)
 
 enum-told-2 : tie.Need-enum-told-2
 enum-told-2 c = search needs
@@ -58,7 +58,7 @@ reply-plain-requires : tie.Need-reply-plain-requires
 reply-plain-requires c κs =
     let s = c .before .before .before .before .before .before .before .before in
     let a = s .args in
-    lent-fits (a .state .now) (a .memory .now) (a .reply .now) (s .pre .1) .room
+    request-fits (a .state .now) (a .memory .now) (a .reply .now) (s .pre .1) .room
 
 same-length : tie.Need-same-length
 same-length c = search needs
@@ -84,8 +84,8 @@ returns-2 c =
     let read = request-found (a .message .now) (a .h) (a .form) (s .pre .0) in
     let goes = target-says (a .h) (a .form) OutOfRange (read .1) (sym (c .before .before .before .before .enum-told .given .1) ∙ c .before .before .before .before .before .before .target-of .ensures) in
     let bytes : Bytes (a .state .now) = λ i. omega (arith, k .slice-known .given i) in
-    let formed = lent-formed (a .state .now) (a .memory .now) (a .reply .now) (s .pre .1) in
-    finished-unmoved (a .state .now) (a .memory .now) bytes formed _ _ _ (c .before .before .refuse .ensures) _ (asked-beyond (a .h) (stringOf (a .message .now)) (a .reply .now) st goes)
+    let formed = request-fits (a .state .now) (a .memory .now) (a .reply .now) (s .pre .1) .formed in
+    finished-unmoved (a .state .now) (a .memory .now) bytes formed _ _ (c .before .before .refuse .ensures) _ (asked-beyond (a .h) (stringOf (a .message .now)) (a .reply .now) st goes)
 
 same-length-5 : tie.Need-same-length-5
 same-length-5 c = search needs
@@ -111,8 +111,8 @@ returns-4 c =
     let read = request-found (a .message .now) (a .h) (a .form) (s .pre .0) in
     let goes = target-says (a .h) (a .form) Nowhere (read .1) (sym (c .before .before .before .before .enum-told3 .given .1) ∙ c .before .before .before .before .before .before .target-of .ensures) in
     let bytes : Bytes (a .state .now) = λ i. omega (arith, k .slice-known .given i) in
-    let formed = lent-formed (a .state .now) (a .memory .now) (a .reply .now) (s .pre .1) in
-    finished-unmoved (a .state .now) (a .memory .now) bytes formed _ _ _ (c .before .before .reply-plain .ensures) _ (asked-nowhere (a .h) (stringOf (a .message .now)) (a .reply .now) st goes)
+    let formed = request-fits (a .state .now) (a .memory .now) (a .reply .now) (s .pre .1) .formed in
+    finished-unmoved (a .state .now) (a .memory .now) bytes formed _ _ (c .before .before .reply-plain .ensures) _ (asked-nowhere (a .h) (stringOf (a .message .now)) (a .reply .now) st goes)
 
 pub answer-spec : {M : Type 1} → statement M
 answer-spec =

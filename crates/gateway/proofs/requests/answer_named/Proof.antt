@@ -13,7 +13,7 @@ use Rattle.service.specs.At.{ProcessResult}
 use Rattle.service.proofs.AtLaws.{unchanged, granted-there, refused-left, destroyed-gone, others-stay}
 use Rattle.gateway.proofs.PartLaws.{part-count, part-begins, part-inside, part-back, part-long, local-part, tested-part, gone-back}
 use Rattle.gateway.proofs.AskedLaws.{asked-named}
-use Rattle.gateway.proofs.LentLaws.{lent-formed, lent-fits, lent-long, lent-sound, lent-ready}
+use Rattle.gateway.proofs.LentLaws.{request-fits}
 use Rattle.gateway.proofs.FinishLaws.{finished-served, finished-removed, finished-kept}
 use borrow.Author.Needs.{needs}
 use Rattle.gateway.proofs.requests.answer_named.Statement.{statement}
@@ -23,7 +23,7 @@ read-process-at-requires : tie.Need-read-process-at-requires
 read-process-at-requires c κs =
     let s = c .before .before .before .before .before in
     let a = s .args in
-    (s .pre .0 .2, omega (arith, lent-long (a .state .now) (a .memory .now) (a .reply .now) (s .pre .1 .0)))
+    (s .pre .0 .2, omega (arith, request-fits (a .state .now) (a .memory .now) (a .reply .now) (s .pre .1 .0) .long))
 
 extent-requires : tie.Need-extent-requires
 extent-requires c κs = search needs
@@ -32,7 +32,7 @@ start-of-requires : tie.Need-start-of-requires
 start-of-requires c κs =
     let s = c .before .before .before .before .before .before .before .before in
     let a = s .args in
-    (s .pre .0 .2, omega (arith, lent-long (a .state .now) (a .memory .now) (a .reply .now) (s .pre .1 .0)))
+    (s .pre .0 .2, omega (arith, request-fits (a .state .now) (a .memory .now) (a .reply .now) (s .pre .1 .0) .long))
 
 add-end : tie.Need-add-end
 add-end c =
@@ -42,7 +42,7 @@ add-end c =
     let s = c .before .before .before .before .before .before .before .before .before in
     let a = s .args in
     let st = lent (stateOf (a .state .now)) (a .memory .now) in
-    let ready = lent-ready (a .state .now) (a .memory .now) (a .reply .now) (s .pre .1 .0) in
+    let ready = request-fits (a .state .now) (a .memory .now) (a .reply .now) (s .pre .1 .0) .ready in
     omega (arith, ready .memory, part-inside st ready (a .pid) (t .result) (x .result) (q .result) (s .pre .0 .2) (t .ensures) (q .ensures) (x .ensures))
 
 sub-answer-for-process : tie.Need-sub-answer-for-process
@@ -59,7 +59,7 @@ part-answer-for-process-end c =
     let s = c .before .before .before .before .before .before .before .before .before in
     let a = s .args in
     let st = lent (stateOf (a .state .now)) (a .memory .now) in
-    let ready = lent-ready (a .state .now) (a .memory .now) (a .reply .now) (s .pre .1 .0) in
+    let ready = request-fits (a .state .now) (a .memory .now) (a .reply .now) (s .pre .1 .0) .ready in
     part-inside st ready (a .pid) (t .result) (x .result) (q .result) (s .pre .0 .2) (t .ensures) (q .ensures) (x .ensures)
 
 answer-for-process-requires : tie.Need-answer-for-process-requires
@@ -70,8 +70,8 @@ answer-for-process-requires c κs =
     let s = c .before .before .before .before .before .before .before .before .before .before .before in
     let a = s .args in
     let st = lent (stateOf (a .state .now)) (a .memory .now) in
-    let ready = lent-ready (a .state .now) (a .memory .now) (a .reply .now) (s .pre .1 .0) in
-    (tested-part st ready (a .pid) (t .result) (x .result) (q .result) (s .pre .0 .2) (t .ensures) (q .ensures) (x .ensures), (s .pre .1 .1, lent-fits (a .state .now) (a .memory .now) (a .reply .now) (s .pre .1 .0) .room))
+    let ready = request-fits (a .state .now) (a .memory .now) (a .reply .now) (s .pre .1 .0) .ready in
+    (tested-part st ready (a .pid) (t .result) (x .result) (q .result) (s .pre .0 .2) (t .ensures) (q .ensures) (x .ensures), (s .pre .1 .1, request-fits (a .state .now) (a .memory .now) (a .reply .now) (s .pre .1 .0) .room))
 
 remove-requires : tie.Need-remove-requires
 remove-requires c κs =
@@ -82,14 +82,14 @@ remove-requires c κs =
     let s = c .before .before .before .before .before .before .before .before .before .before .before .before .before .before .before .before .before .before .before .before .before in
     let a = s .args in
     let st = lent (stateOf (a .state .now)) (a .memory .now) in
-    let ready = lent-ready (a .state .now) (a .memory .now) (a .reply .now) (s .pre .1 .0) in
+    let ready = request-fits (a .state .now) (a .memory .now) (a .reply .now) (s .pre .1 .0) .ready in
     let does = rw (local-part st ready (a .pid) (t .result) (x .result) (q .result) (s .pre .0 .2) (t .ensures) (q .ensures) (x .ensures)) at (v .ensures) in
     let there : isGranted (v .result .outcome) ≡ true → recordOf st (a .pid) .there ≡ true = λ g.
     granted-there (a .h) (a .string .now) (a .reply .now) (localOf st (a .pid)) (ap (λ (z : ProcessResult). isGranted (z .answer .outcome)) (sym does) ∙ g) in (
       (there, s .pre .0 .2),
       (
         (λ g. part-begins st ready (a .pid) (t .result) (x .result) (q .result) (s .pre .0 .2) (t .ensures) (q .ensures) (x .ensures) (ap (λ (z : Process). z .there) (q .ensures) ∙ there g), part-count st ready (a .pid) (t .result) (x .result) (q .result) (s .pre .0 .2) (t .ensures) (q .ensures) (x .ensures)),
-        (lent-sound (a .state .now) (a .memory .now) (a .reply .now) (s .pre .1 .0), part-long st ready (a .pid) (t .result) (x .result) (q .result) (s .pre .0 .2) (t .ensures) (q .ensures) (x .ensures) (v .last .1 .1 .0) (v .kept .1 .1 .0) ∙ ready .memory),
+        (request-fits (a .state .now) (a .memory .now) (a .reply .now) (s .pre .1 .0) .sound, part-long st ready (a .pid) (t .result) (x .result) (q .result) (s .pre .0 .2) (t .ensures) (q .ensures) (x .ensures) (v .last .1 .1 .0) (v .kept .1 .1 .0) ∙ ready .memory),
       ),
     )
 
@@ -112,15 +112,15 @@ returns c =
     let s = c .before .before .before .before .before .before .before .before .before .before .before .before .before .before .before .before .before .before .before .before .before .before .before .before .before .before in
     let a = s .args in
     let st = lent (stateOf (a .state .now)) (a .memory .now) in
-    let ready = lent-ready (a .state .now) (a .memory .now) (a .reply .now) (s .pre .1 .0) in
+    let ready = request-fits (a .state .now) (a .memory .now) (a .reply .now) (s .pre .1 .0) .ready in
     let bytes : Bytes (a .state .now) = λ i. omega (arith, c .before .before .before .before .before .before .before .before .before .before .before .before .before .before .before .before .before .before .before .before .before .before .before .before .before .slice-known .given i) in
-    let formed = lent-formed (a .state .now) (a .memory .now) (a .reply .now) (s .pre .1 .0) in
+    let formed = request-fits (a .state .now) (a .memory .now) (a .reply .now) (s .pre .1 .0) .formed in
     let does = rw (local-part st ready (a .pid) (t .result) (x .result) (q .result) (s .pre .0 .2) (t .ensures) (q .ensures) (x .ensures)) at (v .ensures) in
     let outcome = ap (λ (z : ProcessResult). isGranted (z .answer .outcome)) (sym does) in
     let left = localOf st (a .pid) in
     let there : isGranted (v .result .outcome) ≡ true → recordOf st (a .pid) .there ≡ true = λ g. granted-there (a .h) (a .string .now) (a .reply .now) left (outcome ∙ g) in
     rw (o .ensures .0, o .ensures .1)
-    (finished-removed (a .state .now) (a .memory .now) bytes formed (a .pid) _ _ _ _ _ does _ (asked-named (a .h) (a .string .now) (a .reply .now) st (a .pid) (s .pre .0)) _ (part-back st ready (a .pid) (t .result) (x .result) (q .result) (s .pre .0 .2) (t .ensures) (q .ensures) (x .ensures) (v .last .1 .1 .0) (v .kept .1 .1 .0))
+    (finished-removed (a .state .now) (a .memory .now) bytes formed (a .pid) _ _ _ _ does _ (asked-named (a .h) (a .string .now) (a .reply .now) st (a .pid) (s .pre .0)) _ (part-back st ready (a .pid) (t .result) (x .result) (q .result) (s .pre .0 .2) (t .ensures) (q .ensures) (x .ensures) (v .last .1 .1 .0) (v .kept .1 .1 .0))
     (λ g. (
       there g,
       ap (λ (z : ProcessResult). z .left .process .there) does ∙ destroyed-gone (a .h) (a .string .now) (a .reply .now) left (c .before .before .before .before .before .before .before .if1 .taken) (outcome ∙ g),
@@ -135,7 +135,7 @@ keep-requires : tie.Need-keep-requires
 keep-requires c κs =
     let s = c .before .before .before .before .before .before .before .before .before .before .before .before .before .before .before .before .before .before .before .before .before .before in
     let a = s .args in
-    (s .pre .0 .2, lent-long (a .state .now) (a .memory .now) (a .reply .now) (s .pre .1 .0))
+    (s .pre .0 .2, request-fits (a .state .now) (a .memory .now) (a .reply .now) (s .pre .1 .0) .long)
 
 same-length-4 : tie.Need-same-length-4
 same-length-4 c = search needs
@@ -156,13 +156,13 @@ returns-2 c =
     let s = c .before .before .before .before .before .before .before .before .before .before .before .before .before .before .before .before .before .before .before .before .before .before .before .before .before in
     let a = s .args in
     let st = lent (stateOf (a .state .now)) (a .memory .now) in
-    let ready = lent-ready (a .state .now) (a .memory .now) (a .reply .now) (s .pre .1 .0) in
+    let ready = request-fits (a .state .now) (a .memory .now) (a .reply .now) (s .pre .1 .0) .ready in
     let bytes : Bytes (a .state .now) = λ i. omega (arith, c .before .before .before .before .before .before .before .before .before .before .before .before .before .before .before .before .before .before .before .before .before .before .before .before .slice-known .given i) in
-    let formed = lent-formed (a .state .now) (a .memory .now) (a .reply .now) (s .pre .1 .0) in
+    let formed = request-fits (a .state .now) (a .memory .now) (a .reply .now) (s .pre .1 .0) .formed in
     let does = rw (local-part st ready (a .pid) (t .result) (x .result) (q .result) (s .pre .0 .2) (t .ensures) (q .ensures) (x .ensures)) at (v .ensures) in
     let stays = ap (λ (z : ProcessResult). z .left .process .there) does ∙ others-stay (a .h) (a .string .now) (a .reply .now) (localOf st (a .pid)) (c .before .before .before .before .before .before .if1 .left) in
     rw (f .ensures, part-back st ready (a .pid) (t .result) (x .result) (q .result) (s .pre .0 .2) (t .ensures) (q .ensures) (x .ensures) (v .last .1 .1 .0) (v .kept .1 .1 .0))
-    (finished-served (a .state .now) (a .memory .now) bytes formed (a .pid) _ _ _ _ _ does _ (asked-named (a .h) (a .string .now) (a .reply .now) st (a .pid) (s .pre .0)) (s .pre .0 .2) stays)
+    (finished-served (a .state .now) (a .memory .now) bytes formed (a .pid) _ _ _ _ does _ (asked-named (a .h) (a .string .now) (a .reply .now) st (a .pid) (s .pre .0)) (s .pre .0 .2) stays)
 
 same-length-7 : tie.Need-same-length-7
 same-length-7 c = search needs
@@ -182,13 +182,13 @@ returns-3 c =
     let s = c .before .before .before .before .before .before .before .before .before .before .before .before .before .before .before .before .before .before .before .before .before in
     let a = s .args in
     let st = lent (stateOf (a .state .now)) (a .memory .now) in
-    let ready = lent-ready (a .state .now) (a .memory .now) (a .reply .now) (s .pre .1 .0) in
+    let ready = request-fits (a .state .now) (a .memory .now) (a .reply .now) (s .pre .1 .0) .ready in
     let bytes : Bytes (a .state .now) = λ i. omega (arith, c .before .before .before .before .before .before .before .before .before .before .before .before .before .before .before .before .before .before .before .before .slice-known .given i) in
-    let formed = lent-formed (a .state .now) (a .memory .now) (a .reply .now) (s .pre .1 .0) in
+    let formed = request-fits (a .state .now) (a .memory .now) (a .reply .now) (s .pre .1 .0) .formed in
     let does = rw (local-part st ready (a .pid) (t .result) (x .result) (q .result) (s .pre .0 .2) (t .ensures) (q .ensures) (x .ensures)) at (v .ensures) in
     let same = unchanged (a .h) (a .string .now) (a .reply .now) (localOf st (a .pid)) (sym (c .before .changes .ensures) ∙ c .if2 .left) in
     rw (part-back st ready (a .pid) (t .result) (x .result) (q .result) (s .pre .0 .2) (t .ensures) (q .ensures) (x .ensures) (v .last .1 .1 .0) (v .kept .1 .1 .0))
-    (finished-kept (a .state .now) (a .memory .now) bytes formed (a .pid) _ _ _ _ _ does _ (asked-named (a .h) (a .string .now) (a .reply .now) st (a .pid) (s .pre .0)) same)
+    (finished-kept (a .state .now) (a .memory .now) bytes formed (a .pid) _ _ _ _ does _ (asked-named (a .h) (a .string .now) (a .reply .now) st (a .pid) (s .pre .0)) same)
 
 pub answer-named-spec : {M : Type 1} → statement M
 answer-named-spec = tie.close (tie.spec read-process-at-requires extent-requires start-of-requires add-end sub-answer-for-process part-answer-for-process-start part-answer-for-process-end answer-for-process-requires remove-requires same-length same-length-2 same-length-3 returns changes-requires keep-requires same-length-4 same-length-5 same-length-6 returns-2 same-length-7 same-length-8 same-length-9 returns-3)

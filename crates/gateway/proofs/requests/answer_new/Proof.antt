@@ -12,7 +12,7 @@ use Rattle.rules.specs.Tests.{lent}
 use Rattle.rules.proofs.StateLaws.{layout-of}
 use Rattle.state_bytes.specs.State.{stateOf}
 use Rattle.gateway.proofs.AskedLaws.{asked-full}
-use Rattle.gateway.proofs.LentLaws.{lent-formed, lent-fits, lent-long, lent-ready}
+use Rattle.gateway.proofs.LentLaws.{request-fits}
 use Rattle.gateway.proofs.FinishLaws.{finished-unmoved}
 use borrow.Author.Needs.{needs}
 use Rattle.gateway.proofs.requests.answer_new.Statement.{statement}
@@ -22,13 +22,13 @@ lowest-absent-requires : tie.Need-lowest-absent-requires
 lowest-absent-requires c κs =
     let s = c .before .before .before .before in
     let a = s .args in
-    omega (arith, lent-long (a .state .now) (a .memory .now) (a .reply .now) (s .pre .1))
+    omega (arith, request-fits (a .state .now) (a .memory .now) (a .reply .now) (s .pre .1) .long)
 
 used-bytes-requires : tie.Need-used-bytes-requires
 used-bytes-requires c κs =
     let s = c .before .before .before .before .before .before in
     let a = s .args in
-    omega (arith, lent-long (a .state .now) (a .memory .now) (a .reply .now) (s .pre .1))
+    omega (arith, request-fits (a .state .now) (a .memory .now) (a .reply .now) (s .pre .1) .long)
 
 size-asked-requires : tie.Need-size-asked-requires
 size-asked-requires c κs = search needs
@@ -38,13 +38,13 @@ no-place-requires c κs =
     let s = c .before .before .before .before .before .before .before .before in
     let a = s .args in
     let st = lent (stateOf (a .state .now)) (a .memory .now) in
-    rw (c .before .used-bytes .ensures) (layout-of st (lent-ready (a .state .now) (a .memory .now) (a .reply .now) (s .pre .1)) .fits)
+    rw (c .before .used-bytes .ensures) (layout-of st (request-fits (a .state .now) (a .memory .now) (a .reply .now) (s .pre .1) .ready) .fits)
 
 refuse-requires : tie.Need-refuse-requires
 refuse-requires c κs =
     let s = c .before .before .before .before .before .before .before .before .before .before .before in
     let a = s .args in
-    (λ e. omega (arith, e), lent-fits (a .state .now) (a .memory .now) (a .reply .now) (s .pre .1) .room)
+    (λ e. omega (arith, e), request-fits (a .state .now) (a .memory .now) (a .reply .now) (s .pre .1) .room)
 
 same-length : tie.Need-same-length
 same-length c = search needs
@@ -60,9 +60,9 @@ returns c =
     let a = s .args in
     let st = lent (stateOf (a .state .now)) (a .memory .now) in
     let bytes : Bytes (a .state .now) = λ i. omega (arith, c .before .before .before .before .before .before .before .before .before .before .before .before .before .slice-known .given i) in
-    let formed = lent-formed (a .state .now) (a .memory .now) (a .reply .now) (s .pre .1) in
+    let formed = request-fits (a .state .now) (a .memory .now) (a .reply .now) (s .pre .1) .formed in
     let full = rw (c .before .before .before .before .before .before .before .before .before .lowest-absent .ensures, c .before .before .before .before .before .before .before .used-bytes .ensures, c .before .before .before .before .before .before .size-asked .ensures) at (n .ensures) in
-    finished-unmoved (a .state .now) (a .memory .now) bytes formed _ _ _ (c .before .before .refuse .ensures) _ (asked-full (a .h) string (a .reply .now) st (s .pre .0 .0, s .pre .0 .1) (sym full ∙ c .before .before .before .before .if1 .taken))
+    finished-unmoved (a .state .now) (a .memory .now) bytes formed _ _ (c .before .before .refuse .ensures) _ (asked-full (a .h) string (a .reply .now) st (s .pre .0 .0, s .pre .0 .1) (sym full ∙ c .before .before .before .before .if1 .taken))
 
 create-last-requires : tie.Need-create-last-requires
 create-last-requires c κs =
@@ -73,7 +73,7 @@ create-last-requires c κs =
     let s = c .before .before .before .before .before .before .before .before .before .before .before .before .before in
     let a = s .args in
     let st = lent (stateOf (a .state .now)) (a .memory .now) in
-    let laid = layout-of st (lent-ready (a .state .now) (a .memory .now) (a .reply .now) (s .pre .1)) in
+    let laid = layout-of st (request-fits (a .state .now) (a .memory .now) (a .reply .now) (s .pre .1) .ready) in
     let free = sym (n .ensures) ∙ c .before .before .before .if1 .left in
     let low = ltb-true (p .result) 8 (not-false _ (||-left (not (ltb (p .result) 8)) (ltb (capacity - u .result) (z .result)) free)) in
     let room = ltb-false (capacity - u .result) (z .result) (||-right (not (ltb (p .result) 8)) (ltb (capacity - u .result) (z .result)) free) in

@@ -1,11 +1,13 @@
 -- `gateway::requests::request` meets its contract, stage by stage. Assumes nothing.
-use mathlib.Core.Path.{_≡_, sym, _∙_}
-use Rattle.rules.specs.Tests.{lent}
+use mathlib.Core.Path.{sym, _∙_}
+use Rattle.rules.specs.Tests.{lent, noRoom}
+use Rattle.rules.specs.Step.{request, step}
+use Rattle.rules.specs.Turn.{single}
 use Rattle.state_bytes.specs.State.{stateOf}
 use Rattle.gateway.specs.Called.{Did}
 use Rattle.gateway.proofs.AskedLaws.{request-found, refused-found}
 use Rattle.gateway.proofs.StageLaws.{request-read, request-asked}
-use Rattle.gateway.proofs.LentLaws.{lent-passes, finished-refused, request-unfit, request-fit}
+use Rattle.gateway.proofs.LentLaws.{lent-passes, finished-refused, request-fits, request-unfit, call-fit}
 use borrow.Author.Needs.{needs}
 use Rattle.gateway.proofs.requests.request.Statement.{statement}
 use Rattle.gateway.proofs.requests.request.Tie as tie
@@ -26,7 +28,7 @@ returns : tie.Need-returns
 unfolding Did
 returns c =
     let a = c .before .before .before .before .before .before .before .before .before .args in
-    request-unfit (a .state .now) (a .memory .now) (a .reply .now) (a .message .now) _ (c .before .check-buffers-and-state .ensures) (c .if1 .taken)
+    request-unfit (a .state .now) (a .memory .now) (a .message .now) (a .reply .now) _ (c .before .check-buffers-and-state .ensures) (c .if1 .taken)
 
 read-request-requires : tie.Need-read-request-requires
 read-request-requires c κs = search needs
@@ -50,14 +52,14 @@ same-length-6 : tie.Need-same-length-6
 same-length-6 c = search needs
 
 returns-2 : tie.Need-returns-2
-unfolding Did
+unfolding Did step
 returns-2 c =
     let a = c .before .before .before .before .before .before .before .before .before .before .before .before .before .before .before .before .before .before .before .before .before .before .before .args in
     let zero = sym (c .before .before .before .before .before .before .before .before .before .before .before .before .before .before .before .check-buffers-and-state .ensures) ∙ c .before .before .before .before .before .before .before .before .before .before .before .before .before .before .if1 .left in
     let st = lent (stateOf (a .state .now)) (a .memory .now) in
-    let passes = lent-passes (a .state .now) (a .memory .now) (a .reply .now) zero in
+    let passes = lent-passes (a .state .now) (noRoom (a .memory .now) (a .reply .now)) (a .memory .now) zero in
     let read = request-found (a .message .now) _ _ (sym (c .before .before .before .before .before .before .before .before .before .before .before .incoming .given .1) ∙ c .before .before .before .before .before .before .before .before .before .before .before .before .before .read-request .ensures) in
-    rw (request-fit (a .state .now) (a .memory .now) (a .reply .now) zero (a .message .now), request-asked st (a .message .now) (a .reply .now) _ passes (sym (read .0)))
+    rw (call-fit (a .state .now) (a .memory .now) (request-fits (a .state .now) (a .memory .now) (a .reply .now) zero .formed) (request (a .message .now) (a .reply .now)), request-asked st (a .message .now) (a .reply .now) _ passes (sym (read .0)))
     (c .before .before .before .before .before .before .answer .ensures)
 
 same-length-7 : tie.Need-same-length-7
@@ -70,15 +72,15 @@ same-length-9 : tie.Need-same-length-9
 same-length-9 c = search needs
 
 returns-3 : tie.Need-returns-3
-unfolding Did
+unfolding Did step
 returns-3 c =
     let a = c .before .before .before .before .before .before .before .before .before .before .before .before .before .args in
     let zero = sym (c .before .before .before .before .before .check-buffers-and-state .ensures) ∙ c .before .before .before .before .if1 .left in
     let st = lent (stateOf (a .state .now)) (a .memory .now) in
-    let passes = lent-passes (a .state .now) (a .memory .now) (a .reply .now) zero in
+    let passes = lent-passes (a .state .now) (noRoom (a .memory .now) (a .reply .now)) (a .memory .now) zero in
     let read = refused-found (a .message .now) _ (sym (c .before .incoming2 .given .1) ∙ c .before .before .before .read-request .ensures) in
-    rw (request-fit (a .state .now) (a .memory .now) (a .reply .now) zero (a .message .now), request-read st (a .message .now) (a .reply .now) _ passes (sym read))
-    (sym (finished-refused (a .state .now) (a .memory .now) (a .reply .now) _))
+    rw (call-fit (a .state .now) (a .memory .now) (request-fits (a .state .now) (a .memory .now) (a .reply .now) zero .formed) (request (a .message .now) (a .reply .now)), request-read st (a .message .now) (a .reply .now) _ passes (sym read))
+    (sym (finished-refused (a .state .now) (a .memory .now) (single (a .reply .now)) _))
 
 pub request-spec : {M : Type 1} → statement M
 request-spec =

@@ -1,7 +1,5 @@
 -- `recording::line::answer_command` meets its contract, by the word of the line. Assumes nothing.
 use mathlib.Core.Path.{_≡_, refl, sym, ap, _∙_}
-use Prim.Native.Nat.{ℕ, _-_}
-use lib.ListN.{length, take, drop}
 use Rattle.recording.specs.Line.{commandEffect}
 use Rattle.recording.proofs.LineLaws.{rest-of-line}
 use borrow.Author.Needs.{needs}
@@ -10,6 +8,12 @@ use Rattle.recording.proofs.line.answer_command.Tie as tie
 
 at-most-requires : tie.Need-at-most-requires
 at-most-requires c κs = search needs
+
+at-most-requires-2 : tie.Need-at-most-requires-2
+at-most-requires-2 c κs = search needs
+
+at-most-requires-3 : tie.Need-at-most-requires-3
+at-most-requires-3 c κs = search needs
 
 enum-told : tie.Need-enum-told
 enum-told c = search needs
@@ -65,6 +69,36 @@ answer-process-requires c κs = search needs
 enum-told-8 : tie.Need-enum-told-8
 enum-told-8 c = search needs
 
+sub-answer-text : tie.Need-sub-answer-text
+sub-answer-text c = search needs
+
+part-answer-text-start : tie.Need-part-answer-text-start
+part-answer-text-start c = search needs
+
+part-answer-text-end : tie.Need-part-answer-text-end
+part-answer-text-end c = search needs
+
+answer-text-requires : tie.Need-answer-text-requires
+answer-text-requires c κs = search needs
+
+enum-told-9 : tie.Need-enum-told-9
+enum-told-9 c = search needs
+
+sub-answer-raw : tie.Need-sub-answer-raw
+sub-answer-raw c = search needs
+
+part-answer-raw-start : tie.Need-part-answer-raw-start
+part-answer-raw-start c = search needs
+
+part-answer-raw-end : tie.Need-part-answer-raw-end
+part-answer-raw-end c = search needs
+
+answer-raw-requires : tie.Need-answer-raw-requires
+answer-raw-requires c κs = search needs
+
+enum-told-10 : tie.Need-enum-told-10
+enum-told-10 c = search needs
+
 answer-unknown-requires : tie.Need-answer-unknown-requires
 answer-unknown-requires c κs = search needs
 
@@ -80,9 +114,7 @@ same-length-2 c = search needs
 
 returns-2 : tie.Need-returns-2
 unfolding commandEffect
-returns-2 c =
-    let line = c .before .before .before .before .before .before .before .before .before .before .before .before .args .line .now in
-    rw (c .before .before .before .before .before .before .before .enum-told2 .given .1) (rw (ap (λ (j : ℕ). take (length line - j) (drop j line)) (c .before .before .before .before .before .before .before .before .before .at-most .ensures .0) ∙ rest-of-line line) at (c .before .before .answer-request .ensures))
+returns-2 c = rw (c .before .before .before .before .before .before .before .enum-told2 .given .1) (rw (rest-of-line 8 _ (c .before .before .before .before .before .before .before .before .before .before .before .before .before .before .args .line .now) (c .before .before .before .before .before .before .before .before .before .before .before .at-most .ensures .0)) at (c .before .before .answer-request .ensures))
 
 same-length-3 : tie.Need-same-length-3
 same-length-3 c = search needs
@@ -124,13 +156,29 @@ same-length-8 c = search needs
 
 returns-8 : tie.Need-returns-8
 unfolding commandEffect
-returns-8 c = rw (c .before .before .before .before .before .before .before .before .enum-told8 .given .1) (c .before .before .answer-unknown .ensures)
+returns-8 c = rw (c .before .before .before .before .before .before .before .enum-told8 .given .1) (rw (rest-of-line 5 _ (c .before .before .before .before .before .before .before .before .before .before .before .before .before .before .args .line .now) (c .before .before .before .before .before .before .before .before .before .before .at-most2 .ensures .0)) at (c .before .before .answer-text .ensures))
+
+same-length-9 : tie.Need-same-length-9
+same-length-9 c = search needs
+
+returns-9 : tie.Need-returns-9
+unfolding commandEffect
+returns-9 c = rw (c .before .before .before .before .before .before .before .enum-told9 .given .1) (rw (rest-of-line 4 _ (c .before .before .before .before .before .before .before .before .before .before .before .before .before .before .args .line .now) (c .before .before .before .before .before .before .before .before .before .at-most3 .ensures .0)) at (c .before .before .answer-raw .ensures))
+
+same-length-10 : tie.Need-same-length-10
+same-length-10 c = search needs
+
+returns-10 : tie.Need-returns-10
+unfolding commandEffect
+returns-10 c = rw (c .before .before .before .before .before .before .before .before .enum-told10 .given .1) (c .before .before .answer-unknown .ensures)
 
 pub answer-command-spec : {M : Type 1} → statement M
 answer-command-spec =
     tie.close
     (tie.spec
     at-most-requires
+    at-most-requires-2
+    at-most-requires-3
     enum-told
     answer-start-requires
     enum-told-2
@@ -149,6 +197,16 @@ answer-command-spec =
     enum-told-7
     answer-process-requires
     enum-told-8
+    sub-answer-text
+    part-answer-text-start
+    part-answer-text-end
+    answer-text-requires
+    enum-told-9
+    sub-answer-raw
+    part-answer-raw-start
+    part-answer-raw-end
+    answer-raw-requires
+    enum-told-10
     answer-unknown-requires
     same-length
     returns
@@ -165,4 +223,8 @@ answer-command-spec =
     same-length-7
     returns-7
     same-length-8
-    returns-8)
+    returns-8
+    same-length-9
+    returns-9
+    same-length-10
+    returns-10)

@@ -20,6 +20,12 @@ command-of-requires c κs = search needs
 answer-command-requires : tie.Need-answer-command-requires
 answer-command-requires c κs = search needs
 
+enum-told-3 : tie.Need-enum-told-3
+enum-told-3 c = search needs
+
+answer-at-door-requires : tie.Need-answer-at-door-requires
+answer-at-door-requires c κs = search needs
+
 same-length : tie.Need-same-length
 same-length c = search needs
 
@@ -34,6 +40,12 @@ returns-2 : tie.Need-returns-2
 unfolding lineEffect
 returns-2 c = rw (c .before .before .before .before .before .before .before .enum-told2 .given .1) (rw (c .before .before .before .before .before .before .command-of .ensures) at (c .before .before .answer-command .ensures))
 
+same-length-3 : tie.Need-same-length-3
+same-length-3 c = search needs
+
+returns-3 : tie.Need-returns-3
+returns-3 c = rw (c .before .before .before .before .before .before .enum-told3 .given .1) (c .before .before .answer-at-door .ensures)
+
 pub answer-line-spec : {M : Type 1} → statement M
 answer-line-spec =
     tie.close
@@ -43,7 +55,11 @@ answer-line-spec =
     enum-told-2
     command-of-requires
     answer-command-requires
+    enum-told-3
+    answer-at-door-requires
     same-length
     returns
     same-length-2
-    returns-2)
+    returns-2
+    same-length-3
+    returns-3)

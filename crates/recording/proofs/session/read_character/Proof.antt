@@ -1,32 +1,32 @@
 -- `recording::session::read_character` meets its contract, by whether the character is a newline. Assumes nothing.
 use mathlib.Core.Path.{_≡_, refl, sym, ap, _∙_}
 use native.Mathlib.Omega.{arith}
-use borrow.Author.Needs.{needs}
 use borrow.Author.Tests.{eq-eqb, ne-eqb}
 use lib.ListN.{length}
 use Rattle.lists.specs.Buffer.{overlay}
-use Rattle.recording.specs.Session.{typed, session, stepped}
+use Rattle.recording.specs.Session.{reading, stepped}
 use Rattle.recording.proofs.SessionLaws.{pairs-within, waits-room, steps-ended}
 use borrow.Author.Needs.{needs}
 use Rattle.recording.proofs.session.read_character.Statement.{statement}
 use Rattle.recording.proofs.session.read_character.Tie as tie
 
-pairs-at-requires : tie.Need-pairs-at-requires
-pairs-at-requires c κs = search needs
+pairs-begin-requires : tie.Need-pairs-begin-requires
+pairs-begin-requires c κs = search needs
 
 push-requires : tie.Need-push-requires
 push-requires c κs =
-    let size : length (c .before .before .before .before .args .line .now) ≡ 1025 = search needs in
-    omega (arith, size, c .before .pairs-at .ensures, pairs-within (c .before .before .before .before .args .language))
+    let a = c .before .before .before .before .before .before .args in
+    let size : length (a .line .now) ≡ 1025 = search needs in
+    omega (arith, size, c .before .pairs-begin .ensures, pairs-within (a .language) (reading (a .partial) (a .line .now) .line))
 
 returns : tie.Need-returns
 unfolding stepped overlay
 returns c =
-    let a = c .before .before .before .before .before .args in
+    let a = c .before .before .before .before .before .before .before .args in
     let size : length (a .line .now) ≡ 1025 = search needs in
-    rw (ne-eqb _ _ (c .before .before .before .if1 .taken))
+    rw (ne-eqb _ _ (c .before .before .before .before .before .if1 .taken))
     (record {
-      session = rw (c .push .ensures, c .before .before .pairs-at .ensures, size) refl;
+      session = rw (c .push .ensures, c .before .before .pairs-begin .ensures, size) refl;
       text = record { size = refl; fits = omega arith; laid = refl };
     })
 
@@ -47,7 +47,7 @@ pub read-character-spec : {M : Type 1} → statement M
 read-character-spec =
     tie.close
     (tie.spec
-    pairs-at-requires
+    pairs-begin-requires
     push-requires
     returns
     end-line-requires

@@ -1,4 +1,4 @@
--- `state_bytes::process_form::put_head` meets its contract: five stores. Assumes nothing.
+-- `state_bytes::process_form::put_head` meets its contract: six stores. Assumes nothing.
 use native.Mathlib.Omega.{arith}
 use borrow.Author.Needs.{needs}
 use lib.ListN.{length-set}
@@ -37,16 +37,23 @@ add-bytes c = search needs
 slice-write-bytes-5 : tie.Need-slice-write-bytes-5
 slice-write-bytes-5 c = simp length-set (omega arith)
 
+number-requires-2 : tie.Need-number-requires-2
+number-requires-2 c κs = search needs
+
+slice-write-bytes-6 : tie.Need-slice-write-bytes-6
+slice-write-bytes-6 c = simp length-set (omega arith)
+
 same-length : tie.Need-same-length
 same-length c = search needs
 
 returns : tie.Need-returns
 returns c =
-    let l = c .before in
+    let h = c .before in
+    let l = h .before in
     let n = l .before in
     let f = n .before in
-    let s = f .before .before in
-    rw (f .flag .ensures, n .number .ensures, l .low-byte .ensures, c .high-byte .ensures) (sets-overlay (headBytes (s .args .p)) (s .args .bytes .now) (s .pre))
+    let s = f .before .before .before in
+    rw (f .flag .ensures, n .number .ensures, l .low-byte .ensures, h .high-byte .ensures, c .number2 .ensures) (sets-overlay (headBytes (s .args .p)) (s .args .bytes .now) (s .pre))
 
 pub put-head-spec : {M : Type 1} → statement M
 put-head-spec =
@@ -62,5 +69,7 @@ put-head-spec =
     high-byte-requires
     add-bytes
     slice-write-bytes-5
+    number-requires-2
+    slice-write-bytes-6
     same-length
     returns)

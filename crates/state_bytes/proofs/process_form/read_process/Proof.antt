@@ -41,21 +41,25 @@ run-of-requires c κs = search needs
 read-size-requires : tie.Need-read-size-requires
 read-size-requires c κs = search needs
 
-shared-slice-read-t14 : tie.Need-shared-slice-read-t14
-shared-slice-read-t14 c = search needs
+read-session-requires : tie.Need-read-session-requires
+read-session-requires c κs = search needs
 
-shared-slice-read-t19 : tie.Need-shared-slice-read-t19
-shared-slice-read-t19 c = search needs
+shared-slice-read-t15 : tie.Need-shared-slice-read-t15
+shared-slice-read-t15 c = search needs
+
+shared-slice-read-t20 : tie.Need-shared-slice-read-t20
+shared-slice-read-t20 c = search needs
 
 returns : tie.Need-returns
 unfolding processOf
 returns c =
-    let z = c .before .before in
+    let s = c .before .before in
+    let z = s .before in
     let r = z .before in
     let e = r .before .before in
     let v = e .before .before in
     let m = v .before .before .before .args .bytes .now in
-    rw (r .run-of .ensures, v .read-vector .ensures, e .read-entries .ensures, z .read-size .ensures, tail-part entriesAt m)
+    rw (r .run-of .ensures, v .read-vector .ensures, e .read-entries .ensures, z .read-size .ensures, s .read-session .ensures, tail-part entriesAt m)
 
 pub read-process-spec : {M : Type 1} → statement M
 read-process-spec =
@@ -72,6 +76,7 @@ read-process-spec =
     shared-slice-read-run-of
     run-of-requires
     read-size-requires
-    shared-slice-read-t14
-    shared-slice-read-t19
+    read-session-requires
+    shared-slice-read-t15
+    shared-slice-read-t20
     returns)

@@ -1,7 +1,7 @@
--- `process::record::Process::end_debug` meets its contract: the exchange leaves what is seen in memory, and the entries go. Assumes nothing.
+-- `process::record::Process::end_debug` meets its contract: the exchange leaves what is seen in memory, and the entries and the session go. Assumes nothing.
 use mathlib.Core.Path.{refl}
-use borrow.Author.Needs.{needs}
 use Rattle.process.specs.Request.{endDebugged}
+use borrow.Author.Needs.{needs}
 use Rattle.process.proofs.record.Process.end_debug.Statement.{statement}
 use Rattle.process.proofs.record.Process.end_debug.Tie as tie
 
@@ -13,6 +13,9 @@ exchange-requires c κs = search needs
 
 without-breaks-requires : tie.Need-without-breaks-requires
 without-breaks-requires c κs = search needs
+
+without-session-requires : tie.Need-without-session-requires
+without-session-requires c κs = search needs
 
 with-host-requires : tie.Need-with-host-requires
 with-host-requires c κs = search needs
@@ -27,10 +30,11 @@ returns : tie.Need-returns
 unfolding endDebugged
 returns c =
     let h = c .before in
-    let w = h .before in
+    let s = h .before in
+    let w = s .before in
     let e = w .before .before .before in
     let r = e .before .before in
-    rw (c .with-run .ensures, h .with-host .ensures, w .without-breaks .ensures, e .exchange .ensures .0, r .released .ensures)
+    rw (c .with-run .ensures, h .with-host .ensures, s .without-session .ensures, w .without-breaks .ensures, e .exchange .ensures .0, r .released .ensures)
     (refl, e .exchange .ensures .1)
 
 pub end-debug-spec : {M : Type 1} → statement M
@@ -40,6 +44,7 @@ end-debug-spec =
     released-requires
     exchange-requires
     without-breaks-requires
+    without-session-requires
     with-host-requires
     with-run-requires
     same-length

@@ -14,6 +14,7 @@ use Rattle.process.specs.Find.{find}
 use Rattle.process.proofs.FindLaws.{find-next}
 use Rattle.breakpoints.specs.declared.entry.Breakpoint.{Breakpoint}
 use Rattle.breakpoints.specs.Entry.{free}
+use Rattle.session.specs.Session.{sessionSound}
 use Rattle.process.specs.Sound.{absentHasNoHost, entrySound, keepsRules}
 use Rattle.lists.specs.Every.{below}
 use Rattle.lists.proofs.Every.{below-more, below-fails}
@@ -21,7 +22,7 @@ use Rattle.process.proofs.record.Process.keeps_rules.Statement.{stateme
 use Rattle.process.proofs.record.Process.keeps_rules.Tie as tie
 
 abbrev Inv-loop : tie.InvT-loop
-Inv-loop self breaks earlier₀ k₀ earlier k = (k ≤ 8) × (length breaks ≡ 8) × (breaks ≡ self .breaks) × (absentHasNoHost self ≡ true) × (below (entrySound self) k ≡ true) × (earlier ≡ ltb (find Lifted self) k)
+Inv-loop self breaks earlier₀ k₀ earlier k = (k ≤ 8) × (length breaks ≡ 8) × (breaks ≡ self .breaks) × (absentHasNoHost self ≡ true) × (sessionSound (self .host) (self .session) ≡ true) × (below (entrySound self) k ≡ true) × (earlier ≡ ltb (find Lifted self) k)
 
 abbrev μ-loop : tie.MeasureT-loop
 μ-loop self breaks earlier₀ k₀ earlier k = 8 - k
@@ -33,11 +34,32 @@ returns : tie.Need-returns Inv-loop μ-loop
 unfolding keepsRules
 returns c = rw (← c .before .absent-has-no-host .ensures, not-true (c .before .absent-has-no-host .result) (c .if1 .taken))
 
+sound-requires : tie.Need-sound-requires Inv-loop μ-loop
+sound-requires c κs = search needs
+
+returns-2 : tie.Need-returns-2 Inv-loop μ-loop
+unfolding keepsRules
+returns-2 c =
+    let n = c .before in
+    let e = n .before .before in
+    let h = e .before in
+    let there = sym (h .absent-has-no-host .ensures) ∙ not-false (h .absent-has-no-host .result) (e .if1 .left) in
+    rw (there, ← n .sound .ensures, not-true (n .sound .result) (c .if2 .taken))
+
 loop-holds : tie.Need-loop-holds Inv-loop μ-loop
 loop-holds c =
-    let h = c .before .before in
-    let eight = simp length-map at (h .before .good .0 .1 .1 .1 .1 .1 .1 .0 .1 .0 .1) in
-    (omega arith, eight, refl, sym (h .absent-has-no-host .ensures) ∙ not-false (h .absent-has-no-host .result) (c .before .if1 .left), refl, sym (le-ltb (find Lifted (h .before .args .self)) 0 (omega arith)))
+    let n = c .before .before in
+    let e = n .before .before in
+    let h = e .before in
+    let eight = simp length-map at (h .before .good .0 .1 .1 .1 .1 .1 .1 .0 .1 .0 .1) in (
+      omega arith,
+      eight,
+      refl,
+      sym (h .absent-has-no-host .ensures) ∙ not-false (h .absent-has-no-host .result) (e .if1 .left),
+      sym (n .sound .ensures) ∙ not-false (n .sound .result) (c .before .if2 .left),
+      refl,
+      sym (le-ltb (find Lifted (h .before .args .self)) 0 (omega arith)),
+    )
 
 mul-b : tie.Need-mul-b Inv-loop μ-loop
 mul-b c = search needs
@@ -48,16 +70,16 @@ array-copy-out-b c = search needs
 entry-sound-requires : tie.Need-entry-sound-requires Inv-loop μ-loop
 entry-sound-requires c κs =
     let l = c .before .before in
-    (omega arith, (ap (λ (bs : List Breakpoint). getD bs (l .loop .k) free) (l .loop .inv .2), l .loop .inv .5))
+    (omega arith, (ap (λ (bs : List Breakpoint). getD bs (l .loop .k) free) (l .loop .inv .2), l .loop .inv .6))
 
-returns-2 : tie.Need-returns-2 Inv-loop μ-loop
+returns-3 : tie.Need-returns-3 Inv-loop μ-loop
 unfolding keepsRules
-returns-2 c =
+returns-3 c =
     let e = c .before in
     let l = e .before .before .before in
-    let p = l .before .before .before .before .args .self in
-    let fails = sym (e .entry-sound .ensures) ∙ not-true (e .entry-sound .result) (c .if2 .taken) in
-    rw (l .loop .inv .3, below-fails (entrySound p) 8 (l .loop .k) (e .before .before .loop-test .taken) fails)
+    let p = l .before .before .before .before .before .before .before .args .self in
+    let fails = sym (e .entry-sound .ensures) ∙ not-true (e .entry-sound .result) (c .if3 .taken) in
+    rw (l .loop .inv .3, l .loop .inv .4, below-fails (entrySound p) 8 (l .loop .k) (e .before .before .loop-test .taken) fails)
 
 lifted-or-requires : tie.Need-lifted-or-requires Inv-loop μ-loop
 lifted-or-requires c κs = search needs
@@ -73,20 +95,20 @@ loop-again c =
     let i = c .before in
     let e = i .before in
     let l = e .before .before .before in
-    let p = l .before .before .before .before .args .self in
+    let p = l .before .before .before .before .before .before .before .args .self in
     let k = l .loop .k in
-    let holds = sym (e .entry-sound .ensures) ∙ not-false (e .entry-sound .result) (i .if2 .left) in
+    let holds = sym (e .entry-sound .ensures) ∙ not-false (e .entry-sound .result) (i .if3 .left) in
     let eight = ap length (sym (l .loop .inv .2)) ∙ l .loop .inv .1 in
     let here = ap (λ (bs : List Breakpoint). l .loop .earlier || matches Lifted (getD bs k free)) (l .loop .inv .2) in
-    let next = c .lifted-or .ensures ∙ here ∙ find-next Lifted p eight k (omega arith) (l .loop .earlier) (l .loop .inv .5) in
-    (omega arith, l .loop .inv .1, l .loop .inv .2, l .loop .inv .3, below-more (entrySound p) k (l .loop .inv .4) holds, next)
+    let next = c .lifted-or .ensures ∙ here ∙ find-next Lifted p eight k (omega arith) (l .loop .earlier) (l .loop .inv .6) in
+    (omega arith, l .loop .inv .1, l .loop .inv .2, l .loop .inv .3, l .loop .inv .4, below-more (entrySound p) k (l .loop .inv .5) holds, next)
 
-returns-3 : tie.Need-returns-3 Inv-loop μ-loop
+returns-4 : tie.Need-returns-4 Inv-loop μ-loop
 unfolding keepsRules
-returns-3 c =
+returns-4 c =
     let l = c .before in
     let end : l .loop .k ≡ 8 = omega arith in
-    rw (l .loop .inv .3, rw end at (l .loop .inv .4))
+    rw (l .loop .inv .3, l .loop .inv .4, rw end at (l .loop .inv .5))
 
 pub keeps-rules-spec : {M : Type 1} → statement M
 keeps-rules-spec =
@@ -96,13 +118,15 @@ keeps-rules-spec =
     μ-loop
     absent-has-no-host-requires
     returns
+    sound-requires
+    returns-2
     loop-holds
     mul-b
     array-copy-out-b
     entry-sound-requires
-    returns-2
+    returns-3
     lifted-or-requires
     add-k
     loop-less
     loop-again
-    returns-3)
+    returns-4)

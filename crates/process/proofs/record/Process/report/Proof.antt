@@ -1,9 +1,12 @@
 -- `process::record::Process::report` meets its contract, by the verdict. Assumes nothing.
-use mathlib.Core.Path.{_≡_, refl, sym, _∙_}
+use mathlib.Core.Path.{_≡_, refl, sym, ap, _∙_}
 use lib.ListN.{length-map}
 use Rattle.process.specs.Local.{local}
 use Rattle.process.specs.Record.{withVector}
-use Rattle.process.specs.Report.{storeVectorAndReplant, recipientOf, reported}
+use Rattle.process.specs.Report.{storeVectorAndReplant, recipientOf, answerOf, reported}
+use Rattle.process.specs.declared.record.Process.{Process}
+use Rattle.process.proofs.KeptLaws.{same-host, shape-stored}
+use Rattle.process.proofs.AnswerLaws.{owed-stored}
 use Rattle.process.proofs.ReportLaws.{counts-low, counts-count}
 use Rattle.process.proofs.PlantingLaws.{inside-replanted}
 use Rattle.process.proofs.TestedLaws.{tested-inside}
@@ -20,14 +23,8 @@ verdict-requires c κs = search needs
 enum-told : tie.Need-enum-told
 enum-told c = search needs
 
-after-requires : tie.Need-after-requires
-after-requires c κs = search needs
-
-with-run-requires : tie.Need-with-run-requires
-with-run-requires c κs = search needs
-
-telling-requires : tie.Need-telling-requires
-telling-requires c κs = search needs
+stopping-requires : tie.Need-stopping-requires
+stopping-requires c κs = search needs
 
 enum-known-verdict : tie.Need-enum-known-verdict
 enum-known-verdict c = search needs
@@ -49,42 +46,43 @@ pass-requires c κs =
       counts-count (a .kind) p _ counted,
     )
 
-telling-requires-2 : tie.Need-telling-requires-2
-telling-requires-2 c κs = search needs
+quietly-requires : tie.Need-quietly-requires
+quietly-requires c κs = search needs
 
 enum-told-2 : tie.Need-enum-told-2
 enum-told-2 c = search needs
 
-with-run-requires-2 : tie.Need-with-run-requires-2
-with-run-requires-2 c κs = search needs
+with-run-requires : tie.Need-with-run-requires
+with-run-requires c κs = search needs
 
-telling-requires-3 : tie.Need-telling-requires-3
-telling-requires-3 c κs = search needs
+quietly-requires-2 : tie.Need-quietly-requires-2
+quietly-requires-2 c κs = search needs
 
 same-length : tie.Need-same-length
 same-length c = search needs
 
 returns : tie.Need-returns
-unfolding reported recipientOf
+unfolding reported recipientOf answerOf
 returns c =
-    let w = c .before in
-    let k = w .before in
-    let e = k .before in
+    let e = c .before in
     let q = e .before .before in
     let r = q .before .before .before in
     let s = r .before .before .before in
     let a = s .args in
+    let l = local (a .self) (a .bytes .now) in
     let p = r .store-vector-and-replant .result in
     let stops = sym (q .verdict .ensures) ∙ e .enum-told .given .1 in
     let whole : storeVectorAndReplant (a .vector) (local (a .self) (a .bytes .now)) ≡ local p (r .store-vector-and-replant .last .1 .1 .0) =
     rw (r .store-vector-and-replant .ensures .0, r .store-vector-and-replant .ensures .1) in
-    rw (whole, stops) (c .telling .ensures .0 ∙ (rw (k .after .ensures) at (w .with-run .ensures)), (c .telling .ensures .1, refl))
+    let host = ap (λ (x : Process). x .host) (r .store-vector-and-replant .ensures .0) ∙ same-host (shape-stored (a .vector) l) in
+    let owed = ap (λ (x : Process). x .session .owed) (r .store-vector-and-replant .ensures .0) ∙ owed-stored (a .vector) l in
+    rw (whole, stops) (c .stopping .ensures .0, (c .stopping .ensures .1 ∙ host, (c .stopping .ensures .2 ∙ owed, refl)))
 
 same-length-2 : tie.Need-same-length-2
 same-length-2 c = search needs
 
 returns-2 : tie.Need-returns-2
-unfolding reported recipientOf
+unfolding reported recipientOf answerOf
 returns-2 c =
     let w = c .before .before .before in
     let v = w .before .before .before in
@@ -96,13 +94,13 @@ returns-2 c =
     let counted = sym (q .verdict .ensures) ∙ v .verdict2 .given .1 in
     let whole : storeVectorAndReplant (a .vector) (local (a .self) (a .bytes .now)) ≡ local p (r .store-vector-and-replant .last .1 .1 .0) =
     rw (r .store-vector-and-replant .ensures .0, r .store-vector-and-replant .ensures .1) in
-    rw (whole, counted) (c .telling2 .ensures .0 ∙ w .pass .ensures .0, (c .telling2 .ensures .1, w .pass .ensures .1))
+    rw (whole, counted) (c .quietly .ensures .0 ∙ w .pass .ensures .0, (c .quietly .ensures .1, (c .quietly .ensures .2, w .pass .ensures .1)))
 
 same-length-3 : tie.Need-same-length-3
 same-length-3 c = search needs
 
 returns-3 : tie.Need-returns-3
-unfolding reported recipientOf
+unfolding reported recipientOf answerOf
 returns-3 c =
     let w = c .before in
     let e = w .before in
@@ -114,7 +112,7 @@ returns-3 c =
     let goes = sym (q .verdict .ensures) ∙ e .enum-told2 .given .1 in
     let whole : storeVectorAndReplant (a .vector) (local (a .self) (a .bytes .now)) ≡ local p (r .store-vector-and-replant .last .1 .1 .0) =
     rw (r .store-vector-and-replant .ensures .0, r .store-vector-and-replant .ensures .1) in
-    rw (whole, goes) (c .telling3 .ensures .0 ∙ w .with-run2 .ensures, (c .telling3 .ensures .1, refl))
+    rw (whole, goes) (c .quietly2 .ensures .0 ∙ w .with-run .ensures, (c .quietly2 .ensures .1, (c .quietly2 .ensures .2, refl)))
 
 pub report-spec : {M : Type 1} → statement M
 report-spec =
@@ -123,15 +121,13 @@ report-spec =
     store-vector-and-replant-requires
     verdict-requires
     enum-told
-    after-requires
-    with-run-requires
-    telling-requires
+    stopping-requires
     enum-known-verdict
     pass-requires
-    telling-requires-2
+    quietly-requires
     enum-told-2
-    with-run-requires-2
-    telling-requires-3
+    with-run-requires
+    quietly-requires-2
     same-length
     returns
     same-length-2

@@ -1,19 +1,15 @@
--- `process::record::Process::stop` meets its contract, by whether the process moves. Assumes nothing.
+-- `process::record::Process::stop` meets its contract: that of stopping, and nothing is owed. Assumes nothing.
 use mathlib.Core.Path.{refl}
-use borrow.Author.Needs.{needs}
 use Rattle.process.specs.Request.{stopped}
-use Rattle.process.proofs.TestedLaws.{tested-inside}
+use borrow.Author.Needs.{needs}
 use Rattle.process.proofs.record.Process.stop.Statement.{statement}
 use Rattle.process.proofs.record.Process.stop.Tie as tie
 
-moving-requires : tie.Need-moving-requires
-moving-requires c κs = search needs
+bring-to-stop-requires : tie.Need-bring-to-stop-requires
+bring-to-stop-requires c κs = search needs
 
-replant-requires : tie.Need-replant-requires
-replant-requires c κs = let s = c .before .before .before .before in tested-inside (s .args .self) (s .args .bytes .now) (s .pre)
-
-with-run-requires : tie.Need-with-run-requires
-with-run-requires c κs = search needs
+owing-requires : tie.Need-owing-requires
+owing-requires c κs = search needs
 
 same-length : tie.Need-same-length
 same-length c = search needs
@@ -21,15 +17,8 @@ same-length c = search needs
 returns : tie.Need-returns
 unfolding stopped
 returns c =
-    let r = c .before .before .before in
-    let i = r .before .before in
-    rw (← i .before .moving .ensures, i .if1 .taken, c .with-run .ensures, r .replant .ensures .0) (refl, r .replant .ensures .1)
-
-returns-2 : tie.Need-returns-2
-unfolding stopped
-returns-2 c = rw (← c .before .moving .ensures, c .if1 .left) (refl, refl)
+    let h = c .before .before .before in
+    rw (c .owing .ensures, h .bring-to-stop .ensures .0) (refl, h .bring-to-stop .ensures .1)
 
 pub stop-spec : {M : Type 1} → statement M
-stop-spec =
-    tie.close
-    (tie.spec moving-requires replant-requires with-run-requires same-length returns returns-2)
+stop-spec = tie.close (tie.spec bring-to-stop-requires owing-requires same-length returns)

@@ -1,0 +1,20 @@
+-- `checks::rights::may_look` meets its contract: nobody may look, and any other host where it debugs the process. Assumes nothing.
+use borrow.Author.Tests.{eq-eqb, ne-eqb}
+use borrow.Author.Needs.{needs}
+use Rattle.rules.specs.Rule.{insider}
+use Rattle.checks.proofs.rights.may_look.Statement.{statement}
+use Rattle.checks.proofs.rights.may_look.Tie as tie
+
+returns : tie.Need-returns
+unfolding insider
+returns c = rw (eq-eqb _ _ (c .if1 .taken))
+
+debugs-requires : tie.Need-debugs-requires
+debugs-requires c κs = search needs
+
+returns-2 : tie.Need-returns-2
+unfolding insider
+returns-2 c = rw (ne-eqb _ _ (c .before .if1 .left)) (c .debugs .ensures)
+
+pub may-look-spec : {M : Type 1} → statement M
+may-look-spec = tie.close (tie.spec returns debugs-requires returns-2)

@@ -1,0 +1,38 @@
+-- What STOP, `c`, `s` and DEBUG leave of a process is again a sound record with eight entries and its bytes. Assumes nothing.
+use mathlib.Core.Path.{_≡_, sym, _∙_}
+use mathlib.Core.Bool.{true}
+use mathlib.Core.Logic.{_⊎_}
+use Prim.Native.Nat.{ℕ}
+use Rattle.run_state.specs.RunState.{stoppedOrAtBreak}
+use Rattle.session.specs.Session.{textHost}
+use Rattle.process.specs.Record.{withHost}
+use Rattle.process.specs.Sound.{Sound}
+use Rattle.process.specs.Local.{Local, extent, Proper}
+use Rattle.process.specs.Request.{debugged, stopped, continued, steppedFrom}
+use Rattle.process.proofs.SoundTestLaws.{sound-passes}
+use Rattle.process.proofs.TestedLaws.{tested-sound}
+use Rattle.process.proofs.KeptLaws.{shape, same-there, same-size, same-entries, same-bytes, shape-stopped, shape-continued, shape-steppedFrom}
+use Rattle.process.proofs.TheoremLaws.{sound-stays}
+
+-- a sound process of the shape of a proper one
+pub shape-proper : (k l : Local) → shape k ≡ shape l → Sound (k .process) → Proper l → Proper k
+shape-proper k l e s g =
+    let eight = same-entries e ∙ g .eight in
+    let asked : extent (k .process) ≡ extent (l .process) = rw (same-there e, same-size e) in
+    record { tested = record { sound = sound-passes (k .process) eight s; size = same-bytes e ∙ g .tested .size ∙ sym asked }; eight = eight }
+
+module _ (l : Local) (g : Proper l) where
+  pub stopped-proper : Proper (stopped l)
+  stopped-proper = shape-proper (stopped l) l (shape-stopped l) (sound-stays .stop l g) g
+
+  pub continued-proper : (a : ℕ) → stoppedOrAtBreak (l .process .run) ≡ true → l .process .host ≡ textHost → Proper (continued a l)
+  continued-proper a e h = shape-proper (continued a l) l (shape-continued a l) (sound-stays .continue a l g e h) g
+
+  pub stepped-from-proper : (a : ℕ) → stoppedOrAtBreak (l .process .run) ≡ true → l .process .host ≡ textHost → Proper (steppedFrom a l)
+  stepped-from-proper a e h = shape-proper (steppedFrom a l) l (shape-steppedFrom a l) (sound-stays .step-from a l g e h) g
+
+  -- the asker debugs it, where nobody or he did before
+  pub debugged-proper : (host : ℕ) → l .process .there ≡ true → (host ≡ 0 → ⊥) → (l .process .host ≡ 0) ⊎ (l .process .host ≡ host) → Proper (debugged host l)
+  debugged-proper host t n b =
+      let s = sound-stays .debug host (l .process) (tested-sound (l .process) (l .bytes) (g .tested)) t n b in
+      record { tested = record { sound = sound-passes (withHost host (l .process)) (g .eight) s; size = g .tested .size }; eight = g .eight }

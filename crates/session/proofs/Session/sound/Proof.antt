@@ -1,0 +1,20 @@
+-- `session::Session::sound` meets its contract, by whether an answer is owed. Assumes nothing.
+use borrow.Author.Tests.{not-true, not-false}
+use borrow.Author.Needs.{needs}
+use Rattle.session.specs.Session.{sessionSound}
+use Rattle.session.proofs.Session.sound.Statement.{statement}
+use Rattle.session.proofs.Session.sound.Tie as tie
+
+owes-requires : tie.Need-owes-requires
+owes-requires c κs = search needs
+
+returns : tie.Need-returns
+unfolding sessionSound
+returns c = rw (← c .before .owes .ensures, not-true (c .before .owes .result) (c .if1 .taken))
+
+returns-2 : tie.Need-returns-2
+unfolding sessionSound
+returns-2 c = rw (← c .before .owes .ensures, not-false (c .before .owes .result) (c .if1 .left))
+
+pub sound-spec : {M : Type 1} → statement M
+sound-spec = tie.close (tie.spec owes-requires returns returns-2)
