@@ -1,11 +1,11 @@
--- `recording::session::end_line` meets its contract. Assumes nothing.
+-- `recording::feeding::end_line` meets its contract. Assumes nothing.
 use mathlib.Core.Path.{_≡_, refl, sym, ap, _∙_}
 use Prim.Native.Nat.{ℕ}
 use lib.ListN.{take}
 use Rattle.calls.proofs.MeaningLaws.{take-at-most}
 use borrow.Author.Needs.{needs}
-use Rattle.recording.proofs.session.end_line.Statement.{statement}
-use Rattle.recording.proofs.session.end_line.Tie as tie
+use Rattle.recording.proofs.feeding.end_line.Statement.{statement}
+use Rattle.recording.proofs.feeding.end_line.Tie as tie
 
 at-most-requires : tie.Need-at-most-requires
 at-most-requires c κs = search needs

@@ -1,4 +1,4 @@
--- `recording::session::pairs_begin` meets its contract. Assumes nothing.
+-- `recording::feeding::pairs_begin` meets its contract. Assumes nothing.
 use mathlib.Core.Path.{_≡_, refl, sym, ap, _∙_}
 use mathlib.Core.List.{List}
 use Prim.Native.Nat.{ℕ}
@@ -6,8 +6,8 @@ use lib.ListN.{take}
 use Rattle.recording.specs.Line.{pairsFrom}
 use Rattle.calls.proofs.MeaningLaws.{take-at-most}
 use borrow.Author.Needs.{needs}
-use Rattle.recording.proofs.session.pairs_begin.Statement.{statement}
-use Rattle.recording.proofs.session.pairs_begin.Tie as tie
+use Rattle.recording.proofs.feeding.pairs_begin.Statement.{statement}
+use Rattle.recording.proofs.feeding.pairs_begin.Tie as tie
 
 at-most-requires : tie.Need-at-most-requires
 at-most-requires c κs = search needs

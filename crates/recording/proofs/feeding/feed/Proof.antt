@@ -1,4 +1,4 @@
--- `recording::session::feed` meets its contract. The loop's invariant: what is left of the block leads where all of it leads, and the text so far
+-- `recording::feeding::feed` meets its contract. The loop's invariant: what is left of the block leads where all of it leads, and the text so far
 -- stands in front of the buffer. Assumes nothing.
 use mathlib.Core.Path.{_≡_, refl, sym, ap, _∙_}
 use mathlib.Core.List.{List, []}
@@ -9,8 +9,8 @@ use lib.ListN.{length, take, drop, getD, length-drop}
 use lib.Seq.{length-take-le}
 use Rattle.recording.specs.Session.{reading, session, waits, fed}
 use Rattle.recording.proofs.SessionLaws.{turn, feeds-wait, feeds-all}
-use Rattle.recording.proofs.session.feed.Statement.{statement}
-use Rattle.recording.proofs.session.feed.Tie as tie
+use Rattle.recording.proofs.feeding.feed.Statement.{statement}
+use Rattle.recording.proofs.feeding.feed.Tie as tie
 
 abbrev Inv-loop : tie.InvT-loop
 Inv-loop language state₀ memory₀ line₀ block out₀ now₀ len₀ at₀ state memory line out now len at =

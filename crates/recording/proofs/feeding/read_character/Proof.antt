@@ -1,4 +1,4 @@
--- `recording::session::read_character` meets its contract, by whether the character is a newline. Assumes nothing.
+-- `recording::feeding::read_character` meets its contract, by whether the character is a newline. Assumes nothing.
 use mathlib.Core.Path.{_≡_, refl, sym, ap, _∙_}
 use native.Mathlib.Omega.{arith}
 use borrow.Author.Tests.{eq-eqb, ne-eqb}
@@ -7,8 +7,8 @@ use Rattle.lists.specs.Buffer.{overlay}
 use Rattle.recording.specs.Session.{reading, stepped}
 use Rattle.recording.proofs.SessionLaws.{pairs-within, waits-room, steps-ended}
 use borrow.Author.Needs.{needs}
-use Rattle.recording.proofs.session.read_character.Statement.{statement}
-use Rattle.recording.proofs.session.read_character.Tie as tie
+use Rattle.recording.proofs.feeding.read_character.Statement.{statement}
+use Rattle.recording.proofs.feeding.read_character.Tie as tie
 
 pairs-begin-requires : tie.Need-pairs-begin-requires
 pairs-begin-requires c κs = search needs

@@ -1,9 +1,9 @@
--- `recording::session::must_wait` meets its contract. Assumes nothing.
+-- `recording::feeding::must_wait` meets its contract. Assumes nothing.
 use mathlib.Core.Path.{_≡_, refl, sym, ap, _∙_}
 use borrow.Author.Tests.{eq-eqb, ne-eqb}
 use Rattle.recording.specs.Session.{waits}
-use Rattle.recording.proofs.session.must_wait.Statement.{statement}
-use Rattle.recording.proofs.session.must_wait.Tie as tie
+use Rattle.recording.proofs.feeding.must_wait.Statement.{statement}
+use Rattle.recording.proofs.feeding.must_wait.Tie as tie
 
 returns : tie.Need-returns
 unfolding waits
