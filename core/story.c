@@ -5,16 +5,21 @@
 #include <string.h>
 
 enum {
-    HEATING = 0,          /* a process below the vents, which branches to itself for ever; and its size */
+    HEATING = 0,           /* a process below the vents, which branches to itself for ever; and its size */
     HEATING_SIZE = 2048,
     BRANCH_TO_SELF = 0000777,
-    NO_SUCH_MEMORY = 0250 /* the vector of a store outside of the process's memory */
+    NO_SUCH_MEMORY = 0250, /* the vector of a store outside of the process's memory */
+    NO_RIGHT = 8,          /* the numbers of refusals */
+    WRONG_RUN_STATE = 9,
+    ANOTHER_SET_IT = 16
 };
 
 /* The reports of the story, by what they are to the reader. */
-static void met(unsigned turn) {
-    core(PALUSTRODE_KIND_BPT, 0, STORE, turn * DEGREES, PALUSTRODE_AT_BREAKPOINT, BPT_WORD, "the desk");
+static void met_and_told(unsigned turn, const char *told) {
+    core(PALUSTRODE_KIND_BPT, 0, STORE, turn * DEGREES, PALUSTRODE_AT_BREAKPOINT, BPT_WORD, told);
 }
+
+static void met(unsigned turn) { met_and_told(turn, "the desk"); }
 
 static void lifted_silently(unsigned turn, unsigned run_state) {
     core(PALUSTRODE_KIND_BPT, 0, STORE, turn * DEGREES, run_state, STORE_WORD, "nobody");
@@ -27,6 +32,14 @@ static void stepped_to(unsigned pc, unsigned turn) {
 }
 
 /* The requests of the story. */
+static void desk(const char *what, unsigned cmd, unsigned arg1, unsigned arg2, unsigned run_state, unsigned word) {
+    granted(DESK, what, cmd, arg1, arg2, run_state, word);
+}
+
+static void owner(const char *what, unsigned cmd, unsigned arg1, unsigned run_state, unsigned word) {
+    granted(OWNER, what, cmd, arg1, 0, run_state, word);
+}
+
 static void proceed(void) { desk("PROCEED BPT", PALUSTRODE_PROCEED, 0, 0, PALUSTRODE_PASSING, STORE_WORD); }
 static void resume(unsigned word) { desk("RESUME", PALUSTRODE_RESUME, 0, 0, PALUSTRODE_RUNNING, word); }
 static void step(unsigned word) { desk("SINGLE STEP", PALUSTRODE_SINGLE_STEP, 0, 0, PALUSTRODE_STEPPING, word); }
@@ -35,7 +48,7 @@ static void step(unsigned word) { desk("SINGLE STEP", PALUSTRODE_SINGLE_STEP, 0,
 static void log_has(unsigned turns) {
     uint8_t log[LOG_BYTES] = {0};
     for (unsigned i = 0; i < turns; i++) put_word(log + 2 * i, (i + 1) * DEGREES);
-    require(memcmp(of_vents(LOG), log, LOG_BYTES) == 0 && sees(LOG, log, LOG_BYTES), "a log with each turn so far, once");
+    require(memcmp(of_vents(LOG), log, LOG_BYTES) == 0 && sees(DESK, LOG, log, LOG_BYTES), "a log with each turn so far, once");
 }
 
 static void ended(unsigned word, const char *told) {
@@ -46,8 +59,8 @@ static void ended(unsigned word, const char *told) {
     printf(".\n");
 }
 
-/* A new process with the program in it, stopped at its beginning with SP at its end, and the breakpoint with this count. */
-static void load(unsigned count, const char *what) {
+/* A new process with the program in it, stopped at its beginning with SP at its end. */
+static void create(void) {
     uint8_t sp_and_pc[4];
     put_word(sp_and_pc, VENTS_SIZE);
     put_word(sp_and_pc + 2, LOOP);
@@ -55,6 +68,11 @@ static void load(unsigned count, const char *what) {
     vents = fields[PALUSTRODE_PID];
     require(ask(PALUSTRODE_DEPOSIT, vents, LOOP, PROGRAM_BYTES, deposited, PROGRAM_BYTES) >= 0, "DEPOSITED");
     require(ask(PALUSTRODE_DEPOSIT_VECTOR, vents, CORE_SP, sizeof sp_and_pc, sp_and_pc, sizeof sp_and_pc) >= 0, "DEPOSITED STATE VECTOR");
+}
+
+/* The same, and the desk's breakpoint with this count. */
+static void load(unsigned count, const char *what) {
+    create();
     desk(what, PALUSTRODE_BREAK, STORE, count, PALUSTRODE_STOPPED, BPT_WORD);
 }
 
@@ -155,9 +173,9 @@ static void while_passing(void) {
     passed(1);
     met(2);
     proceed();
-    desk_refused("RESUME", PALUSTRODE_RESUME, PALUSTRODE_PASSING, STORE_WORD);
-    desk_refused("SINGLE STEP", PALUSTRODE_SINGLE_STEP, PALUSTRODE_PASSING, STORE_WORD);
-    desk_refused("PROCEED BPT", PALUSTRODE_PROCEED, PALUSTRODE_PASSING, STORE_WORD);
+    refused(DESK, WRONG_RUN_STATE, "RESUME", PALUSTRODE_RESUME, 0, PALUSTRODE_PASSING, STORE_WORD);
+    refused(DESK, WRONG_RUN_STATE, "SINGLE STEP", PALUSTRODE_SINGLE_STEP, 0, PALUSTRODE_PASSING, STORE_WORD);
+    refused(DESK, WRONG_RUN_STATE, "PROCEED BPT", PALUSTRODE_PROCEED, 0, PALUSTRODE_PASSING, STORE_WORD);
     desk("STOP", PALUSTRODE_STOP, 0, 0, PALUSTRODE_STOPPED, BPT_WORD);
     resume(BPT_WORD);
     met(2);
@@ -202,6 +220,36 @@ static void trap_while_passing(void) {
     unload();
 }
 
+/* END WATCH comes while the desk lets the vents execute the one instruction. */
+static void end_watch(void) {
+    proceed();
+    owner("END WATCH", PALUSTRODE_END_WATCH, 0, PALUSTRODE_PASSING, STORE_WORD);
+    require(ask_as(OWNER, PALUSTRODE_EXAMINE, vents, LOOP, PROGRAM_BYTES, deposited, 0) == -NO_RIGHT, "an owner that may no longer look");
+    core(PALUSTRODE_KIND_TTRAP, 0, AFTER, 2 * DEGREES, PALUSTRODE_RUNNING, STORE_WORD, "nobody");
+    log_has(2);
+}
+
+static void owner_watches(void) {
+    chapter("7. The owner watches, and its breakpoint stops the vents.",
+            "The notice goes to the owner, host 7, who set it. Only the owner can remove it, and only the desk can let the vents go on.\n"
+            "END WATCH takes it away, here while it is lifted.");
+    create();
+    owner("WATCH", PALUSTRODE_WATCH, 0, PALUSTRODE_STOPPED, STORE_WORD);
+    require(ask_as(OWNER, PALUSTRODE_EXAMINE, vents, LOOP, PROGRAM_BYTES, deposited, 0) >= 0, "an owner that may look");
+    owner("BREAK 000420, count 0", PALUSTRODE_BREAK, STORE, PALUSTRODE_STOPPED, BPT_WORD);
+    resume(BPT_WORD);
+    met_and_told(1, "the owner");
+    refused(OWNER, NO_RIGHT, "PROCEED BPT", PALUSTRODE_PROCEED, 0, PALUSTRODE_AT_BREAKPOINT, BPT_WORD);
+    refused(DESK, ANOTHER_SET_IT, "UNBREAK 000420", PALUSTRODE_UNBREAK, STORE, PALUSTRODE_AT_BREAKPOINT, BPT_WORD);
+    proceed();
+    passed(1);
+    met_and_told(2, "the owner");
+    log_has(1);
+    end_watch();
+    ended(STORE_WORD, "the desk");
+    unload();
+}
+
 /* Shows the program, and puts its words together as they are deposited. */
 static void show_program(void) {
     unsigned at = LOOP;
@@ -221,8 +269,8 @@ int main(void) {
            "anew in each chapter but the fifth, deposits this program and sets PC to its beginning. Below it in memory lies the heating,\n"
            "which runs beside it. Numbers of six digits are octal.\n\n");
     show_program();
-    printf("\nEach line says what the desk asks or how the core traps, and then how the vents are, which word memory holds at 000420, whatever\n"
-           "the desk sees there, and who is told of the trap.\n");
+    printf("\nEach line says what the desk or the owner asks or how the core traps, and then how the vents are, which word memory holds at 000420,\n"
+           "whatever the two see there, and who is told of the trap.\n");
     put_word(memory, BRANCH_TO_SELF);
     require(firmware_start(1 << HEATING, sizes) == 0, "a fresh start");
     ten_turns();
@@ -231,6 +279,7 @@ int main(void) {
     while_passing();
     end_debug();
     trap_while_passing();
+    owner_watches();
     printf("\nAll of it is as it should be.\n");
     return 0;
 }

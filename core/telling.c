@@ -29,21 +29,25 @@ void require(int holds, const char *expected) {
 
 const uint8_t *of_vents(unsigned address) { return memory + palustrode_start(state, vents) + address; }
 
-int64_t ask(unsigned cmd, unsigned pid, unsigned arg1, unsigned arg2, const uint8_t *string, size_t length) {
+int64_t ask_as(unsigned host, unsigned cmd, unsigned pid, unsigned arg1, unsigned arg2, const uint8_t *string, size_t length) {
     uint8_t message[PALUSTRODE_MESSAGE_BYTES];
-    int64_t written = palustrode_write_request(DESK, cmd, pid, arg1, arg2, string, length, message, sizeof message);
-    require(written > 0, "a request that the desk can write");
+    int64_t written = palustrode_write_request(host, cmd, pid, arg1, arg2, string, length, message, sizeof message);
+    require(written > 0, "a request that can be written");
     int64_t result = firmware_request(message, (size_t)written, reply);
     require(result >= 0 || result <= -7, "a reply or a CAN'T");
     size_t answered = result < 0 ? PALUSTRODE_HEADER_BYTES : (size_t)result;
     int64_t carried = palustrode_read_answer(reply, answered, fields, PALUSTRODE_FIELDS);
-    require(carried >= 0 && fields[PALUSTRODE_HOST] == DESK, "an answer to the desk");
+    require(carried >= 0 && fields[PALUSTRODE_HOST] == host, "an answer to the host that asked");
     require(fields[PALUSTRODE_CMD] == (result < 0 ? cmd + PALUSTRODE_CANT : cmd), "a CAN'T if it is refused, else a reply");
     return result;
 }
 
-int sees(unsigned address, const uint8_t *bytes, unsigned count) {
-    int64_t result = ask(PALUSTRODE_EXAMINE, vents, address, count, bytes, 0);
+int64_t ask(unsigned cmd, unsigned pid, unsigned arg1, unsigned arg2, const uint8_t *string, size_t length) {
+    return ask_as(DESK, cmd, pid, arg1, arg2, string, length);
+}
+
+int sees(unsigned host, unsigned address, const uint8_t *bytes, unsigned count) {
+    int64_t result = ask_as(host, PALUSTRODE_EXAMINE, vents, address, count, bytes, 0);
     return result == -8 || (result == PALUSTRODE_HEADER_BYTES + count && memcmp(reply + PALUSTRODE_HEADER_BYTES, bytes, count) == 0);
 }
 
@@ -58,37 +62,43 @@ static void format_now(char *line, const char *who, const char *what, const char
     format(line, who, what, degrees, palustrode_process(state, vents)[PALUSTRODE_RUN_STATE_AT], get_word(of_vents(STORE)), told);
 }
 
-/* A line as it should be, and as it is. Whatever stands in memory, the desk sees the program that it deposited. */
+/* A line as it should be, and as it is. Whatever stands in memory, the desk and the owner see the program that the desk deposited. */
 static void tell(const char *expected, const char *got) {
     if (strcmp(expected, got) != 0) deviate(expected, got);
-    if (!sees(LOOP, deposited, PROGRAM_BYTES)) deviate("the desk sees the program that it deposited", got);
+    if (!sees(DESK, LOOP, deposited, PROGRAM_BYTES)) deviate("the desk sees the program that it deposited", got);
+    if (!sees(OWNER, LOOP, deposited, PROGRAM_BYTES)) deviate("the owner sees the program that the desk deposited", got);
     printf("%s\n", got);
 }
 
-static void tell_request(const char *what, int64_t result, unsigned run_state, unsigned word, const char *answer) {
-    char expected[LINE], got[LINE];
-    format(expected, "desk", what, "", run_state, word, answer);
-    format_now(got, "desk", what, "", result >= 0 ? "" : result == -9 ? "CAN'T" : "refused, but not with 9");
+static const char *name_of(unsigned host) { return host == DESK ? "desk" : "owner"; }
+
+/* A request, refused with this number or, if it is 0, granted. */
+static void tell_request(unsigned host, const char *what, int64_t result, unsigned number, unsigned run_state, unsigned word) {
+    char expected[LINE], got[LINE], otherwise[LINE];
+    snprintf(otherwise, sizeof otherwise, "refused with %d", (int)-result);
+    format(expected, name_of(host), what, "", run_state, word, number == 0 ? "" : "CAN'T");
+    format_now(got, name_of(host), what, "", result >= 0 ? "" : result == -(int64_t)number ? "CAN'T" : otherwise);
     tell(expected, got);
 }
 
-void desk(const char *what, unsigned cmd, unsigned arg1, unsigned arg2, unsigned run_state, unsigned word) {
-    tell_request(what, ask(cmd, vents, arg1, arg2, deposited, 0), run_state, word, "");
+void granted(unsigned host, const char *what, unsigned cmd, unsigned arg1, unsigned arg2, unsigned run_state, unsigned word) {
+    tell_request(host, what, ask_as(host, cmd, vents, arg1, arg2, deposited, 0), 0, run_state, word);
 }
 
-void desk_refused(const char *what, unsigned cmd, unsigned run_state, unsigned word) {
-    tell_request(what, ask(cmd, vents, 0, 0, deposited, 0), run_state, word, "CAN'T");
+void refused(unsigned host, unsigned number, const char *what, unsigned cmd, unsigned arg1, unsigned run_state, unsigned word) {
+    tell_request(host, what, ask_as(host, cmd, vents, arg1, 0, deposited, 0), number, run_state, word);
 }
 
-/* Who was told of a report: nobody, or the desk, by a notice of its kind and reason and with the vents' nine words. */
+/* Who was told of a report: nobody, or the desk or the owner, by a notice of its kind and reason and with the vents' nine words. */
 static const char *who_was_told(const struct slice *slice) {
     if (slice->result == 0) return "nobody";
     if (slice->result < 0) return "the report was refused";
     int64_t carried = palustrode_read_answer(slice->notice, palustrode_notice_length(slice->result), fields, PALUSTRODE_FIELDS);
-    int right = carried == CORE_WORDS && fields[PALUSTRODE_HOST] == DESK && fields[PALUSTRODE_CMD] == PALUSTRODE_NOTICE + slice->kind &&
+    unsigned host = fields[PALUSTRODE_HOST];
+    int right = carried == CORE_WORDS && (host == DESK || host == OWNER) && fields[PALUSTRODE_CMD] == PALUSTRODE_NOTICE + slice->kind &&
                 fields[PALUSTRODE_PID] == vents && fields[PALUSTRODE_ARG1] == slice->reason &&
                 memcmp(slice->notice + PALUSTRODE_HEADER_BYTES, firmware_words(vents), CORE_WORDS) == 0;
-    return right ? "the desk" : "a wrong notice";
+    return !right ? "a wrong notice" : host == DESK ? "the desk" : "the owner";
 }
 
 /* All processes get the core in turn until the vents trap. */

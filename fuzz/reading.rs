@@ -35,7 +35,8 @@ fn pick(by: u8, records: &State, test: impl Fn(&Process) -> bool) -> Option<u8> 
 
 /// The address of one of a process's breakpoints, if it has any.
 fn used_address(by: u8, process: &Process) -> Option<u16> {
-    let used: Vec<u16> = process.breakpoints.iter().filter(|b| b.used).map(|b| b.address).collect();
+    let used: Vec<u16> =
+        process.breakpoints.iter().filter(|b| b.used()).map(|b| b.address).collect();
     used.get(usize::from(by) % used.len().max(1)).copied()
 }
 
@@ -62,7 +63,8 @@ fn size_from(first: u8, n: u16, free: usize) -> u16 {
     }
 }
 
-/// A request; with bit 6 the host that debugs a process asks for it, and UNBREAK names one of its breakpoints.
+/// A request; with bit 6 the host that debugs a process asks for it, or, where the second byte is odd, the one that watches it, if one does; and UNBREAK
+/// names one of its breakpoints.
 pub fn request_from(r: [u8; 8], records: &State) -> Call {
     let free = MEMORY.saturating_sub(used_bytes(records));
     let (any, near, longer) = (r[0] & 128 != 0, r[0] & 8 != 0, r[0] & 16 != 0);
@@ -70,7 +72,7 @@ pub fn request_from(r: [u8; 8], records: &State) -> Call {
     let (mut arg1, mut arg2) = (moved(r[0], word(r[4], r[5])), moved(r[0], word(r[6], r[7])));
     if !any {
         let processes = if near { 2 } else { 8 };
-        (host, cmd, pid) = ([5, 5, 6, TEXT_HOST][usize::from(host) % 4], cmd % 14, pid % processes);
+        (host, cmd, pid) = ([5, 5, 6, TEXT_HOST][usize::from(host) % 4], cmd % 16, pid % processes);
         if matches!(cmd, NOP | CREATE_PROCESS) {
             pid = 0;
         }
@@ -86,7 +88,11 @@ pub fn request_from(r: [u8; 8], records: &State) -> Call {
     let debugged = pick(r[3], records, |process| process.host != NOBODY).filter(|_| r[0] & 64 != 0);
     if let (Some(p), false) = (debugged, any || matches!(cmd, NOP | CREATE_PROCESS)) {
         let process = &records.processes[usize::from(p)];
-        (host, pid) = (process.host, p);
+        let watching = r[1] % 2 == 1 && process.watcher != NOBODY;
+        pid = p;
+        if watching || cmd != WATCH {
+            host = if watching { process.watcher } else { process.host };
+        }
         if cmd == UNBREAK {
             arg1 = used_address(r[5], process).unwrap_or(arg1);
         }
@@ -128,11 +134,11 @@ pub fn report_from(r: [u8; 8], records: &State) -> Call {
     Call::Report { process, kind, reason: reason.into(), words }
 }
 
-/// A line; with bit 6 to a process that host 253 debugs.
+/// A line; with bit 6 to a process that host 253 debugs or watches.
 pub fn line_from(r: [u8; 8], records: &State) -> Call {
     let (any, near) = (r[0] & 128 != 0, r[0] & 8 != 0);
     let request = if any { r[2] } else { LETTERS[usize::from(r[2]) % LETTERS.len()] };
-    let ours = |process: &Process| process.there && process.host == TEXT_HOST;
+    let ours = |process: &Process| [process.host, process.watcher].contains(&TEXT_HOST);
     let p = match pick(r[1], records, ours).filter(|_| r[0] & 64 != 0) {
         Some(p) => p,
         None if any => r[1],

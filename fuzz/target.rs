@@ -17,7 +17,7 @@
 //! fields as they come; otherwise they are brought into the range where calls are granted. Bit 3 brings processes and addresses close
 //! together, bit 4 makes the string a byte too long, bit 5 takes the arguments from the edges of the ranges, and the size of a CREATE from
 //! those of the free bytes too; of damage, it makes an entry, or moves one process alone. Bit 6 brings a request to a process from the host
-//! that debugs it, a line to a process of host 253, and makes a report one that the run state makes likely.
+//! that debugs or watches it, a line to a process of host 253, and makes a report one that the run state makes likely.
 #![no_main]
 
 #[path = "../model/compare/answers.rs"]
@@ -35,6 +35,8 @@ mod sides;
 #[allow(dead_code)] // how deep it is gone is not asked here
 #[path = "../model/compare/stack.rs"]
 mod stack;
+#[path = "../model/compare/watching.rs"]
+mod watching;
 
 use layout::{lay_out, order, out_of_order};
 use model::*;
@@ -62,23 +64,29 @@ fn compare(call: &Call, pair: &mut Pair) {
 
 /// The library is not instrumented. The fuzzer also counts as new what it answers to which call in which condition of the process.
 /// After the calls come CREATE and DESTROY once more, in the layout that they find, and then the letters of lines, and lines with none.
-const CALLS: usize = 25 + LETTERS.len() + 1;
-const LINES: usize = 25;
-const ANSWERS: usize = 18;
-/// Six run states with three conditions of breakpoints and three of what is owed; those of a layout are fewer.
-const CONDITIONS: usize = 6 * 3 * 3;
+const CALLS: usize = LINES + LETTERS.len() + 1;
+const LINES: usize = 27;
+const ANSWERS: usize = 19;
+/// Six run states with three conditions of breakpoints, three of what is owed and three of who watches; those of a layout are fewer.
+const CONDITIONS: usize = 6 * 3 * 3 * 3;
 
 #[link_section = "__libfuzzer_extra_counters"]
 static mut SEEN: [u8; CALLS * ANSWERS * CONDITIONS] = [0; CALLS * ANSWERS * CONDITIONS];
 
-/// Run state, whether there is no breakpoint, none lifted, or one lifted, and what is owed.
+/// Run state, whether there is no breakpoint, none lifted, or one lifted, what is owed, and whether nobody watches, one without breakpoints, or one with
+/// some.
 fn condition(state: &[u8], p: u8) -> usize {
     let at = RECORD_BYTES * (usize::from(p) % PROCESSES);
     let Some(record) = state.get(at..at + RECORD_BYTES) else { return 0 };
-    let entries = || record[ENTRIES_AT..].chunks_exact(ENTRY_BYTES).filter(|e| e[0] == 1);
-    let lifted = entries().any(|e| e[1] == 1);
+    let entries = || record[ENTRIES_AT..].chunks_exact(ENTRY_BYTES).filter(|e| e[1] != NOBODY);
+    let lifted = entries().any(|e| e[0] != 0);
     let breaks = if lifted { 2 } else { usize::from(entries().next().is_some()) };
-    (usize::from(record[2]).min(5) * 3 + breaks) * 3 + usize::from(record[OWED_AT]).min(2)
+    let watch = match record[WATCHER_AT] {
+        NOBODY => 0,
+        watcher => 1 + usize::from(entries().any(|e| e[1] == watcher)),
+    };
+    let found = usize::from(record[2]).min(5) * 3 + breaks;
+    (found * 3 + usize::from(record[OWED_AT]).min(2)) * 3 + watch
 }
 
 /// The condition of the process that a call names.
@@ -105,16 +113,16 @@ fn layout_for(call: &Call, state: &[u8]) -> Option<(usize, usize)> {
                 None => 0,
                 Some(new) => 1 + usize::from((new..PROCESSES).any(there)),
             };
-            Some((23, 3 * room as usize + number))
+            Some((25, 3 * room as usize + number))
         }
         DESTROY_PROCESS => {
             let gone = state.processes.get(usize::from(m[5]))?;
             let above = |p: &&Process| p.there && p.begin > gone.begin;
             let moved = state.processes.iter().filter(above);
-            let points = moved.clone().flat_map(|p| &p.breakpoints).filter(|b| b.used);
+            let points = moved.clone().flat_map(|p| &p.breakpoints).filter(|b| b.used());
             let kinds = points.map(|b| 1 + usize::from(b.lifted)).max().unwrap_or(0);
             let order = usize::from(out_of_order(&state));
-            Some((24, moved.count().min(2) * 3 + kinds + 9 * order))
+            Some((26, moved.count().min(2) * 3 + kinds + 9 * order))
         }
         _ => None,
     }
@@ -122,20 +130,20 @@ fn layout_for(call: &Call, state: &[u8]) -> Option<(usize, usize)> {
 
 fn note(call: &Call, found: usize, laid: Option<(usize, usize)>, answer: i64) {
     let what = match call {
-        Call::Request { message: m } if m.len() >= HEAD => usize::from(m[4]).min(14),
-        Call::Request { .. } => 15,
-        Call::Report { kind, .. } => 16 + (*kind).min(3) as usize,
-        Call::Write { .. } => 20,
-        Call::Read { .. } => 21,
-        Call::FreshStart { .. } => 22,
+        Call::Request { message: m } if m.len() >= HEAD => usize::from(m[4]).min(16),
+        Call::Request { .. } => 17,
+        Call::Report { kind, .. } => 18 + (*kind).min(3) as usize,
+        Call::Write { .. } => 22,
+        Call::Read { .. } => 23,
+        Call::FreshStart { .. } => 24,
         Call::Line { text } => LINES + letter_of(text),
     };
     let answered = match answer {
         // of a report, with a line
-        256.. if matches!(call, Call::Report { .. }) => 17,
+        256.. if matches!(call, Call::Report { .. }) => 18,
         1.. => 0,
         0 => 1,
-        -99.. => 1 + (-answer).min(15) as usize,
+        -99.. => 1 + (-answer).min(16) as usize,
         // of a line: 101, 103, 114, 116, 122
         _ => 8 + (-answer - 100) as usize / 3,
     };
@@ -200,7 +208,8 @@ impl Spoiled {
             return;
         }
         let entry = record + ENTRIES_AT + ENTRY_BYTES * (usize::from(r[2]) % BREAKPOINTS);
-        let bytes = [1, r[3] & 1, r[4] % 20, 0, r[5], 0, r[6], r[7]];
+        let setter = [5, 6, TEXT_HOST, NOBODY][usize::from(r[3] >> 1) % 4];
+        let bytes = [r[3] & 1, setter, r[4] % 20, 0, r[5], 0, r[6], r[7]];
         self.damage.extend(bytes.into_iter().enumerate().map(|(i, b)| (entry + i, b)));
     }
 

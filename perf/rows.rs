@@ -18,6 +18,8 @@ const OWNER: u8 = 5;
 /// The process that the text debugger asks for, of 1,024 bytes.
 const BENCH: u8 = 3;
 const STRANGER: u8 = 6;
+/// The one who watches process 2 in some rows.
+const WATCHER: u8 = 7;
 /// Where EXAMINE, DEPOSIT and breakpoints are.
 const AT: u16 = 256;
 
@@ -159,6 +161,7 @@ pub fn rows() -> Vec<Row> {
     rows.push(row("notice", "TRAP report with notice", vec![], back, 28));
     let turn = vec![ask(STRANGER, EXAMINE, P, AT, 16, 0)];
     rows.push(row("stranger", "EXAMINE of 16 by a stranger, refused", vec![], turn, -8));
+    rows.extend(watching());
     let turn = vec![Step::Write([5, DEPOSIT.into(), 2, AT.into(), 16], vec![7; 16])];
     rows.push(row("write", "the desk writes DEPOSIT of 16", vec![], turn, 26));
     let Step::Request(head) = ask(OWNER, EXAMINE, P, AT, 16, 0) else { unreachable!() };
@@ -181,6 +184,17 @@ pub fn rows() -> Vec<Row> {
     rows.push(row("session", "a debugging session of 11 calls", ended, session, 8 * 10 + 3 * 28));
     rows.extend(lines());
     rows
+}
+
+/// What a watcher asks.
+fn watching() -> [Row; 2] {
+    use model::{EXAMINE, WATCH};
+    let watch = || vec![ask(WATCHER, WATCH, P, 0, 0, 0)];
+    let look = vec![ask(WATCHER, EXAMINE, P, AT, 16, 0)];
+    [
+        row("watch", "WATCH, again by the same host", watch(), watch(), 10),
+        row("watcher", "EXAMINE of 16 by the watcher", watch(), look, 26),
+    ]
 }
 
 /// Lines of the text debugger, and the report that answers one of them. A number in an answer has eight digits, an answered line 16 bytes.

@@ -5,13 +5,14 @@ use model::*;
 
 /// What a call is about: the process, PC as the call finds or brings it, and the
 /// range from ARG1 of ARG2 bytes. `cmd` is that of a request that passes tests
-/// 3, 4 and 5. Of a line in which PID and request can be read, `line` is what can be
+/// 3, 4 and 5, `asker` its host. Of a line in which PID and request can be read, `line` is what can be
 /// read, and the range is that of the word at ADDR.
 pub struct About<'a> {
     pub state: &'a State,
     pub memory: &'a [u8],
     pub length: usize,
     pub cmd: Option<u8>,
+    pub asker: u8,
     pub kind: Option<u8>,
     pub line: Option<LineRead>,
     pub pid: u8,
@@ -27,7 +28,7 @@ fn cmd_of(m: &[u8]) -> Option<u8> {
     let right = (HEAD..=LONGEST).contains(&m.len())
         && [m[0], m[2], m[3]] == [0, 255, 0]
         && m[1] != NOBODY
-        && m[4] <= DESTROY_PROCESS;
+        && m[4] <= END_WATCH;
     right.then(|| m[4])
 }
 
@@ -44,14 +45,16 @@ impl<'a> About<'a> {
                 let byte = |at: usize| if cmd.is_some() { m[at] } else { 0 };
                 let word = |at: usize| usize::from(byte(at)) << 8 | usize::from(byte(at + 1));
                 let about = About::process(state, memory, byte(5));
-                About { length: m.len(), cmd, first: word(6), count: word(8), ..about }
+                let (length, asker) = (m.len(), byte(1));
+                About { length, cmd, asker, first: word(6), count: word(8), ..about }
             }
             Call::Line { text } => {
                 let line = read_line(text);
                 let pid = line.map_or(0, |line| line.pid.min(255) as u8);
                 let first =
                     line.and_then(|line| line.arguments).map_or(0, |(addr, _)| addr as usize);
-                About { line, first, count: 4, ..About::process(state, memory, pid) }
+                let about = About::process(state, memory, pid);
+                About { line, asker: TEXT_HOST, first, count: 4, ..about }
             }
             _ => About::process(state, memory, 0),
         }
@@ -61,8 +64,8 @@ impl<'a> About<'a> {
         let p = usize::from(pid) % PROCESSES;
         let process = &state.processes[p];
         let (cmd, kind, line, pc) = (None, None, None, process.vector[PC]);
-        let (length, first, count) = (0, 0, 0);
-        About { state, memory, length, cmd, kind, line, pid, p, process, pc, first, count }
+        let (asker, length, first, count) = (NOBODY, 0, 0, 0);
+        About { state, memory, length, cmd, asker, kind, line, pid, p, process, pc, first, count }
     }
 
     pub fn is(&self, cmd: u8) -> bool {
@@ -96,11 +99,11 @@ impl<'a> About<'a> {
     }
 
     pub fn some(&self, test: impl Fn(&Breakpoint) -> bool) -> bool {
-        self.process.breakpoints.iter().any(|b| b.used && test(b))
+        self.process.breakpoints.iter().any(|b| b.used() && test(b))
     }
 
     pub fn used(&self) -> usize {
-        self.process.breakpoints.iter().filter(|b| b.used).count()
+        self.process.breakpoints.iter().filter(|b| b.used()).count()
     }
 
     pub fn lifted(&self) -> bool {
@@ -154,11 +157,11 @@ impl<'a> About<'a> {
 
     /// Whether a free entry stands before one in use.
     pub fn gap(&self) -> bool {
-        self.process.breakpoints.windows(2).any(|pair| !pair[0].used && pair[1].used)
+        self.process.breakpoints.windows(2).any(|pair| !pair[0].used() && pair[1].used())
     }
 
     pub fn lowest_free(&self) -> Option<&Breakpoint> {
-        self.process.breakpoints.iter().find(|b| !b.used)
+        self.process.breakpoints.iter().find(|b| !b.used())
     }
 
     /// The number that CREATE gives.
@@ -208,7 +211,7 @@ impl<'a> About<'a> {
     pub fn moves(&self, test: impl Fn(&Process, &Breakpoint) -> bool) -> bool {
         let has = |p: &usize| {
             let process = &self.state.processes[*p];
-            process.breakpoints.iter().any(|b| b.used && test(process, b))
+            process.breakpoints.iter().any(|b| b.used() && test(process, b))
         };
         self.is(DESTROY_PROCESS) && self.above().iter().any(has)
     }
@@ -225,5 +228,5 @@ pub fn has_bytes(b: &Breakpoint) -> bool {
 
 /// Whether a free entry of the process is not all zero.
 pub fn old(process: &Process) -> bool {
-    process.breakpoints.iter().any(|b| !b.used && has_bytes(b))
+    process.breakpoints.iter().any(|b| !b.used() && has_bytes(b))
 }

@@ -5,6 +5,7 @@ use crate::random::Random;
 use crate::reports::{any_telling, make_report};
 use crate::sides::Call;
 use crate::sizes::size_to_create;
+use crate::watchers::{asker, fits_watch, lifted_of_watcher};
 use model::*;
 
 /// Hosts that meet at the same processes.
@@ -26,50 +27,59 @@ const RANGES: [(u16, u16); 3] = [(65535, 2), (0, 256), (0, 257)];
 /// The same of the vector.
 const VECTOR_RANGES: [(u16, u16); 6] = [(0, 18), (16, 2), (17, 2), (18, 0), (18, 1), (65535, 2)];
 
-/// What a list tends to: the weights of the fourteen op codes, how many of sixteen
+/// What a list tends to: the weights of the sixteen op codes, how many of sixteen
 /// calls are reports and how many lines, whether the reports are such as a machine makes
 /// in the run state at hand, and whether host 253 asks rather than another.
 pub struct Mood {
-    weights: [usize; 14],
+    weights: [usize; 16],
     reports: usize,
     lines: usize,
     machine: bool,
-    bench: bool,
+    pub bench: bool,
 }
 
 /// A list without lines.
-const fn mood(weights: [usize; 14], reports: usize, machine: bool) -> Mood {
+const fn mood(weights: [usize; 16], reports: usize, machine: bool) -> Mood {
     Mood { weights, reports, lines: 0, machine, bench: false }
 }
 
 /// A list of host 253, with so many lines.
-const fn bench(weights: [usize; 14], reports: usize, lines: usize) -> Mood {
+const fn bench(weights: [usize; 16], reports: usize, lines: usize) -> Mood {
     Mood { weights, reports, lines, machine: true, bench: true }
 }
 
-pub const MOODS: [Mood; 11] = [
+pub const MOODS: [Mood; 16] = [
     // a little of everything
-    mood([1, 6, 2, 2, 4, 3, 4, 2, 5, 2, 3, 3, 2, 2], 4, false),
+    mood([1, 6, 2, 2, 4, 3, 4, 2, 5, 2, 3, 3, 2, 2, 3, 2], 4, false),
     // all eight breakpoints of a process
-    mood([1, 6, 0, 1, 3, 2, 3, 1, 26, 2, 1, 9, 1, 1], 5, true),
+    mood([1, 6, 0, 1, 3, 2, 3, 1, 26, 2, 1, 9, 1, 1, 1, 0], 5, true),
     // all eight processes
-    mood([1, 2, 1, 1, 1, 1, 1, 1, 1, 1, 1, 1, 5, 2], 2, false),
+    mood([1, 2, 1, 1, 1, 1, 1, 1, 1, 1, 1, 1, 5, 2, 1, 1], 2, false),
     // running, stepping, proceeding
-    mood([1, 6, 1, 4, 3, 9, 3, 2, 8, 2, 9, 9, 2, 2], 8, false),
+    mood([1, 6, 1, 4, 3, 9, 3, 2, 8, 2, 9, 9, 2, 2, 1, 1], 8, false),
     // processes come and go, with breakpoints
-    mood([1, 5, 1, 1, 2, 3, 2, 1, 9, 1, 2, 3, 14, 9], 3, false),
+    mood([1, 5, 1, 1, 2, 3, 2, 1, 9, 1, 2, 3, 14, 9, 3, 1], 3, false),
     // breakpoints in loops
-    mood([1, 6, 1, 3, 3, 6, 3, 2, 8, 3, 5, 14, 2, 1], 9, true),
+    mood([1, 6, 1, 3, 3, 6, 3, 2, 8, 3, 5, 14, 2, 1, 1, 1], 9, true),
     // and such as are taken away while a process passes them
-    mood([1, 6, 8, 9, 2, 6, 2, 2, 12, 18, 4, 14, 1, 1], 8, true),
+    mood([1, 6, 8, 9, 2, 6, 2, 2, 12, 18, 4, 14, 1, 1, 0, 0], 8, true),
     // a little of everything, and lines
-    Mood { lines: 3, ..mood([1, 6, 2, 2, 4, 3, 4, 2, 5, 2, 3, 3, 2, 2], 4, false) },
+    Mood { lines: 3, ..mood([1, 6, 2, 2, 4, 3, 4, 2, 5, 2, 3, 3, 2, 2, 3, 2], 4, false) },
     // the bench's text debugger: continuing and stepping
-    bench([1, 8, 1, 4, 1, 1, 1, 1, 8, 1, 1, 1, 1, 1], 6, 7),
+    bench([1, 8, 1, 4, 1, 1, 1, 1, 8, 1, 1, 1, 1, 1, 1, 0], 6, 7),
     // looking and storing, breakpoints planted
-    bench([1, 6, 1, 3, 2, 1, 2, 2, 9, 2, 1, 1, 2, 1], 3, 10),
+    bench([1, 6, 1, 3, 2, 1, 2, 2, 9, 2, 1, 1, 2, 1, 1, 1], 3, 10),
     // and answers that are owed are cancelled, and breakpoints taken away
-    bench([1, 8, 8, 9, 1, 4, 1, 2, 14, 18, 2, 12, 2, 4], 6, 4),
+    bench([1, 8, 8, 9, 1, 4, 1, 2, 14, 18, 2, 12, 2, 4, 0, 0], 6, 4),
+    // two hosts at a process, each with as many breakpoints as he may have
+    mood([1, 5, 1, 1, 2, 3, 3, 1, 30, 3, 1, 6, 1, 1, 6, 1], 4, true),
+    // watches come and go, with breakpoints planted and lifted
+    mood([1, 6, 2, 2, 2, 5, 3, 1, 20, 5, 6, 12, 1, 2, 8, 9], 7, true),
+    // both at breakpoints in loops
+    mood([1, 6, 1, 2, 2, 6, 2, 1, 12, 3, 4, 14, 1, 1, 5, 1], 9, true),
+    // and the bench's text debugger is one of the two, more often the one who debugs
+    bench([1, 8, 1, 3, 1, 1, 1, 1, 16, 2, 1, 1, 1, 1, 8, 2], 5, 5),
+    bench([1, 8, 0, 1, 1, 1, 1, 1, 18, 1, 1, 2, 1, 0, 10, 1], 6, 5),
 ];
 
 pub fn make_call(random: &mut Random, state: &State, mood: &Mood) -> Call {
@@ -114,6 +124,12 @@ fn process_for(random: &mut Random, state: &State, cmd: u8) -> u8 {
     if any_is(&passing_bare) && random.one_in(2) {
         return some_process(random, state, passing_bare);
     }
+    if any_is(&lifted_of_watcher) && random.one_in(if cmd == END_WATCH { 1 } else { 8 }) {
+        return some_process(random, state, lifted_of_watcher);
+    }
+    if matches!(cmd, WATCH | END_WATCH) && random.one_in(2) {
+        return some_process(random, state, |p| fits_watch(p, cmd));
+    }
     if any_is(&has_lifted) && (random.one_in(2) || cmd == UNBREAK) {
         return some_process(random, state, has_lifted);
     }
@@ -128,7 +144,8 @@ fn process_for(random: &mut Random, state: &State, cmd: u8) -> u8 {
         RESUME | SINGLE_STEP => named(p) && p.run.waits(),
         PROCEED_BPT => named(p) && p.run == Run::AtBreakpoint,
         DESTROY_PROCESS => named(p) && (any_destroyed || p.run == Run::Ended),
-        BREAK | UNBREAK | EXAMINE | DEPOSIT => p.breakpoints.iter().any(|b| b.used),
+        WATCH | END_WATCH => fits_watch(p, cmd),
+        BREAK | UNBREAK | EXAMINE | DEPOSIT => p.breakpoints.iter().any(|b| b.used()),
         _ => named(p),
     };
     match any_is(&fits) && !random.one_in(4) {
@@ -138,7 +155,7 @@ fn process_for(random: &mut Random, state: &State, cmd: u8) -> u8 {
 }
 
 fn has_lifted(process: &Process) -> bool {
-    process.breakpoints.iter().any(|b| b.used && b.lifted)
+    process.breakpoints.iter().any(|b| b.used() && b.lifted)
 }
 
 /// Whether a process passes a breakpoint that is gone.
@@ -148,22 +165,24 @@ pub fn passing_bare(process: &Process) -> bool {
 
 /// Whether PROCEED BPT would lift a breakpoint.
 fn lifts(process: &Process) -> bool {
-    let at_pc = |b: &Breakpoint| b.used && b.address == process.vector[PC];
+    let at_pc = |b: &Breakpoint| b.used() && b.address == process.vector[PC];
     process.run == Run::AtBreakpoint && process.breakpoints.iter().any(at_pc)
 }
 
 /// A well-formed request, mostly one that can be granted.
 pub fn make_request(random: &mut Random, state: &State, mood: &Mood) -> Vec<u8> {
-    let cmd = random.weighted(&mood.weights) as u8;
+    // a watch seldom ends just then
+    let lifted = state.processes.iter().any(lifted_of_watcher);
+    let cmd = match lifted && random.one_in(10) {
+        true => END_WATCH,
+        false => random.weighted(&mood.weights) as u8,
+    };
     let pid = match cmd {
         NOP | CREATE_PROCESS => 0,
         _ => process_for(random, state, cmd),
     };
     let process = &state.processes[usize::from(pid) % PROCESSES];
-    let host = match mood.bench && process.host == NOBODY && !random.one_in(4) {
-        true => TEXT_HOST,
-        false => some_host(random, process.host),
-    };
+    let host = asker(random, process, cmd, mood);
     let (arg1, arg2, string) = match cmd {
         CREATE_PROCESS => (size_to_create(random, state), 0, Vec::new()),
         _ => make_arguments(random, process, cmd),
@@ -176,7 +195,7 @@ pub fn make_request(random: &mut Random, state: &State, mood: &Mood) -> Vec<u8> 
 }
 
 /// Mostly the host that debugs the process.
-fn some_host(random: &mut Random, debugging: u8) -> u8 {
+pub fn some_host(random: &mut Random, debugging: u8) -> u8 {
     match random.below(24) {
         0 => random.pick(&[0, 1, 4, 8, 254, 255]),
         1 => random.free_byte(),
@@ -215,7 +234,7 @@ fn make_arguments(random: &mut Random, process: &Process, cmd: u8) -> (u16, u16,
             (address, count, Vec::new())
         }
         UNBREAK if has_lifted(process) && !random.one_in(4) => {
-            let lifted = process.breakpoints.iter().find(|b| b.used && b.lifted);
+            let lifted = process.breakpoints.iter().find(|b| b.used() && b.lifted);
             (lifted.map_or(0, |b| b.address), 0, Vec::new())
         }
         UNBREAK if !random.one_in(3) => (used_address(random, process), 0, Vec::new()),
@@ -318,7 +337,7 @@ fn some_vector_range(random: &mut Random) -> (u16, u16) {
 /// the lifted one.
 pub fn used_address(random: &mut Random, process: &Process) -> u16 {
     let addresses = |test: &dyn Fn(&Breakpoint) -> bool| -> Vec<u16> {
-        process.breakpoints.iter().filter(|b| b.used && test(b)).map(|b| b.address).collect()
+        process.breakpoints.iter().filter(|b| b.used() && test(b)).map(|b| b.address).collect()
     };
     let (used, lifted) = (addresses(&|_| true), addresses(&|b| b.lifted));
     if used.is_empty() {
@@ -384,8 +403,8 @@ pub fn spoil_message(random: &mut Random, message: &mut Vec<u8>) {
         3 => message[1] = byte(&[0]),
         4 => message[2] = byte(&[0, 1, 127, 254]),
         5 => message[3] = byte(&[1, 2, 128, 255]),
-        6 => message[4] = byte(&[14, 15, 16, 63, 64, 66, 127, 128, 129, 141, 142, 255]),
-        7 => message[4] = random.below(14) as u8,
+        6 => message[4] = byte(&[16, 17, 18, 63, 64, 66, 127, 128, 129, 143, 144, 255]),
+        7 => message[4] = random.below(16) as u8,
         8 => message[5] = byte(&[0, 1, 7, 8, 255]),
         9 | 10 => {
             let at = if choice == 9 { 6 } else { 8 };

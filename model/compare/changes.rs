@@ -109,7 +109,7 @@ pub fn as_if(mut made: Made, cause: Cause, from: Run, to: Run) -> i64 {
 
 fn plant(process: &mut Process, memory: &mut [u8]) {
     let begin = process.place().start;
-    for b in process.breakpoints.iter_mut().filter(|b| b.used && b.lifted) {
+    for b in process.breakpoints.iter_mut().filter(|b| b.used() && b.lifted) {
         let word = &mut memory[begin + usize::from(b.address)..][..2];
         b.saved.copy_from_slice(word);
         word.copy_from_slice(&BPT_WORD);

@@ -1,7 +1,9 @@
 //! Changes to a state's bytes, after which they are sound, not sound, or no state at all.
 
 use crate::calls::new_host;
-use crate::layout::{close_gaps, order};
+use crate::damage_places::*;
+use crate::damage_watches::*;
+use crate::layout::close_gaps;
 use crate::random::Random;
 use crate::sizes::{shared, some_size, wrong_size};
 use crate::states::{lay_in_any_order, some_run};
@@ -11,7 +13,7 @@ use model::*;
 type Damage = fn(&mut Random, &mut [u8]);
 
 /// Every kind, and how often it is done.
-const DAMAGES: [(usize, Damage); 28] = [
+const DAMAGES: [(usize, Damage); 34] = [
     (4, some_bytes),
     (2, another_begin),
     (1, same_begin),
@@ -40,14 +42,20 @@ const DAMAGES: [(usize, Damage); 28] = [
     (2, owed_to_another),
     (2, owed),
     (1, another_host_of_one_that_owes),
+    (3, a_watcher),
+    (1, watcher_is_the_host),
+    (1, watcher_with_no_host),
+    (1, another_watcher),
+    (2, another_setter),
+    (1, many_of_one),
 ];
 
 /// The first so many of these touch the layout, and it is left as they leave it.
 const LAYOUT_DAMAGES: usize = 8;
 
-/// Wrong lengths of a state's bytes. Without what is owed there would be 712, without the
-/// begins 704.
-pub const STATE_LENGTHS: [usize; 9] = [0, 1, 88, 696, 704, 712, 719, 721, 1440];
+/// Wrong lengths of a state's bytes. Without the watchers there would be 720, without the
+/// begins 712.
+pub const STATE_LENGTHS: [usize; 9] = [0, 1, 89, 704, 712, 720, 727, 729, 1456];
 
 /// Changes a state's bytes by one kind of damage, or their number. Where that opens a gap,
 /// since a size is another or a process is there or not, it is mostly closed again.
@@ -175,13 +183,16 @@ fn wrong_run(random: &mut Random, state: &mut [u8]) {
     state[some_record(random) + 2] = random.pick(&[6, 6, 7, 128, 255, any, any]);
 }
 
-/// A flag that is neither 0 nor 1.
+/// A process that is neither there nor not, or an entry, free or in use, that is neither
+/// lifted nor not.
 fn wrong_flag(random: &mut Random, state: &mut [u8]) {
     let record = some_record(random);
     let entry = some_entry(random, record);
-    let at = random.pick(&[record, entry, entry + 1]);
-    let any = random.free_byte().max(2);
-    state[at] = random.pick(&[2, 3, 128, 255, any, any]);
+    let any = random.free_byte();
+    match random.below(3) {
+        0 => state[record] = random.pick(&[2, 3, 128, 255, any.max(2)]),
+        _ => state[entry] = random.pick(&[2, 3, 128, 255, any.max(2), any.max(2)]),
+    }
 }
 
 fn absent_with_host(random: &mut Random, state: &mut [u8]) {
@@ -194,6 +205,7 @@ fn breakpoint_with_no_host(random: &mut Random, state: &mut [u8]) {
     let record = some_record(random);
     state[record..record + 2].copy_from_slice(&[random.below(2) as u8, NOBODY]);
     put_entry(state, some_entry(random, record), 0, 0);
+    state[record + WATCHER_AT] = NOBODY;
 }
 
 fn wrong_address(random: &mut Random, state: &mut [u8]) {
@@ -239,19 +251,15 @@ fn another_run(random: &mut Random, state: &mut [u8]) {
     state[record + 2] = run as u8;
 }
 
-fn has_lifted(state: &[u8], record: usize) -> bool {
-    let entries = &state[record + ENTRIES_AT..record + RECORD_BYTES];
-    entries.chunks_exact(ENTRY_BYTES).any(|entry| entry[..2] == [1, 1])
-}
-
 /// Sound: the process passes, and its lifted breakpoint is gone or planted.
 fn passing_with_none_lifted(random: &mut Random, state: &mut [u8]) {
     let record = some_debugged(random, state);
     state[record + 2] = Run::Passing as u8;
-    let used = random.below(2) as u8;
+    let gone = random.one_in(2);
     let entries = &mut state[record + ENTRIES_AT..record + RECORD_BYTES];
-    for entry in entries.chunks_exact_mut(ENTRY_BYTES).filter(|entry| entry[..2] == [1, 1]) {
-        entry[..2].copy_from_slice(&[used, 0]);
+    for entry in entries.chunks_exact_mut(ENTRY_BYTES).filter(|e| in_use(e) && e[0] == 1) {
+        entry[0] = 0;
+        entry[1] = if gone { NOBODY } else { entry[1] };
     }
 }
 
@@ -265,23 +273,33 @@ fn no_host(random: &mut Random, state: &mut [u8]) {
     let there = u8::from(!random.one_in(4));
     state[record..record + 3].copy_from_slice(&[there, NOBODY, run as u8]);
     state[record + OWED_AT] = 0;
+    state[record + WATCHER_AT] = NOBODY;
     random.fill(&mut state[record + VECTOR_AT..record + ENTRIES_AT]);
     state[record + ENTRIES_AT..record + RECORD_BYTES].fill(0);
 }
 
-/// Sound: bytes in the free entries of a process.
+/// Sound: bytes in the free entries of a process, but none of who set them; at times the
+/// address and the count of a breakpoint.
 fn old_bytes(random: &mut Random, state: &mut [u8]) {
     let record = some_record(random);
     let entries = &mut state[record + ENTRIES_AT..record + RECORD_BYTES];
-    for entry in entries.chunks_exact_mut(ENTRY_BYTES).filter(|entry| entry[0] == 0) {
-        entry[1] = random.below(2) as u8;
+    for entry in entries.chunks_exact_mut(ENTRY_BYTES).filter(|entry| !in_use(entry)) {
+        entry[0] = random.below(2) as u8;
         random.fill(&mut entry[2..]);
+    }
+    let (free, like) = (some_entry(random, record), some_entry(random, record));
+    if !in_use(&state[free..]) {
+        state.copy_within(like + 2..like + ENTRY_BYTES, free + 2);
     }
 }
 
-/// Sound where the process is there.
+/// Sound where the process is there; at times without what he set.
 fn another_host(random: &mut Random, state: &mut [u8]) {
-    state[some_record(random) + 1] = new_host(random);
+    let (record, host) = (some_record(random), new_host(random));
+    match random.one_in(4) {
+        true => state[record + 1] = host,
+        false => put_host(state, record, host),
+    }
 }
 
 /// Mostly sound: a planted breakpoint more.
@@ -294,7 +312,7 @@ fn one_more_breakpoint(random: &mut Random, state: &mut [u8]) {
 /// What is owed is none that there is.
 fn wrong_owed(random: &mut Random, state: &mut [u8]) {
     let record = some_debugged(random, state);
-    state[record + 1] = random.pick(&[state[record + 1], TEXT_HOST]);
+    put_host(state, record, random.pick(&[state[record + 1], TEXT_HOST]));
     let any = random.free_byte().max(3);
     state[record + OWED_AT] = random.pick(&[3, 3, 4, 99, 115, 128, 255, any, any]);
 }
@@ -303,9 +321,10 @@ fn wrong_owed(random: &mut Random, state: &mut [u8]) {
 fn owed_to_another(random: &mut Random, state: &mut [u8]) {
     let record = some_debugged(random, state);
     let any = random.free_byte();
-    state[record + 1] = random.pick(&[state[record + 1], NOBODY, 252, 254, 255, 5, any]);
+    put_host(state, record, random.pick(&[state[record + 1], NOBODY, 252, 254, 255, 5, any]));
     if state[record + 1] == NOBODY {
         state[record] = random.below(2) as u8;
+        state[record + WATCHER_AT] = NOBODY;
         state[record + ENTRIES_AT..record + RECORD_BYTES].fill(0);
     }
     state[record + OWED_AT] = random.pick(&[1, 2]);
@@ -314,7 +333,7 @@ fn owed_to_another(random: &mut Random, state: &mut [u8]) {
 /// Sound: host 253 debugs the process, and an answer is owed or not, in any run state.
 fn owed(random: &mut Random, state: &mut [u8]) {
     let record = some_debugged(random, state);
-    state[record + 1] = TEXT_HOST;
+    put_host(state, record, TEXT_HOST);
     state[record + OWED_AT] = random.pick(&[0, 1, 1, 2, 2]);
     if !has_lifted(state, record) && random.one_in(2) {
         state[record + 2] = some_run(random) as u8;
@@ -326,78 +345,6 @@ fn another_host_of_one_that_owes(random: &mut Random, state: &mut [u8]) {
     let records = (0..PROCESSES).map(|p| RECORD_BYTES * p);
     let owing: Vec<usize> = records.filter(|&record| state[record + OWED_AT] != 0).collect();
     if !owing.is_empty() {
-        state[random.pick(&owing) + 1] = new_host(random);
+        put_host(state, random.pick(&owing), new_host(random));
     }
-}
-
-/// Where some process's record begins in a state's bytes.
-fn some_record(random: &mut Random) -> usize {
-    RECORD_BYTES * random.below(PROCESSES)
-}
-
-/// Where one of a record's entries begins.
-fn some_entry(random: &mut Random, record: usize) -> usize {
-    record + ENTRIES_AT + ENTRY_BYTES * random.below(BREAKPOINTS)
-}
-
-/// Where the record of a process that is there begins, if any is.
-fn some_there(random: &mut Random, state: &[u8]) -> usize {
-    let records = (0..PROCESSES).map(|p| RECORD_BYTES * p);
-    let there: Vec<usize> = records.filter(|&record| state[record] == 1).collect();
-    if there.is_empty() {
-        return some_record(random);
-    }
-    random.pick(&there)
-}
-
-/// That of the one that lies last.
-fn last_there(state: &[u8]) -> usize {
-    let last = decode(state).and_then(|records| order(&records).last().copied());
-    RECORD_BYTES * last.unwrap_or(0)
-}
-
-/// Makes a process there, if it is not; with few bytes, so that there mostly is room.
-fn make_there(random: &mut Random, state: &mut [u8], record: usize) {
-    if state[record] != 1 {
-        state[record] = 1;
-        put_size(state, record, 2 * (1 + random.below(64) as u16));
-    }
-}
-
-/// A record, after its process is made there and debugged.
-fn some_debugged(random: &mut Random, state: &mut [u8]) -> usize {
-    let record = if random.one_in(4) { some_record(random) } else { some_there(random, state) };
-    make_there(random, state, record);
-    if state[record + 1] == NOBODY {
-        state[record + 1] = new_host(random);
-    }
-    record
-}
-
-/// Where the begin of a record's process stands in a state's bytes.
-fn begin_at(record: usize) -> usize {
-    BEGINS_AT + 2 * (record / RECORD_BYTES)
-}
-
-fn begin_of(state: &[u8], record: usize) -> u16 {
-    let at = begin_at(record);
-    u16::from_le_bytes([state[at], state[at + 1]])
-}
-
-fn put_begin(state: &mut [u8], record: usize, begin: u16) {
-    let at = begin_at(record);
-    state[at..at + 2].copy_from_slice(&begin.to_le_bytes());
-}
-
-fn size_of(state: &[u8], record: usize) -> u16 {
-    u16::from_le_bytes([state[record + SIZE_AT], state[record + SIZE_AT + 1]])
-}
-
-fn put_size(state: &mut [u8], record: usize, size: u16) {
-    state[record + SIZE_AT..record + OWED_AT].copy_from_slice(&size.to_le_bytes());
-}
-
-fn put_entry(state: &mut [u8], entry: usize, lifted: u8, address: u16) {
-    let [low, high] = address.to_le_bytes();
-    state[entry..entry + ENTRY_BYTES].copy_from_slice(&[1, lifted, low, high, 1, 0, 65, 66]);
 }

@@ -62,7 +62,7 @@ fn spoil_field(random: &mut Random, fields: &mut [u64; FIELDS]) {
     let i = random.below(FIELDS);
     fields[i] = match random.below(5) {
         0 => 0,
-        1 => random.pick(&[1, 7, 13, 14, 128, 255, 256, 65_535, 65_536]),
+        1 => random.pick(&[1, 7, 15, 16, 128, 255, 256, 65_535, 65_536]),
         2 => random.free(BITS[i]),
         3 => random.beyond(BITS[i], fields[i]),
         _ => random.free(64),
@@ -71,7 +71,7 @@ fn spoil_field(random: &mut Random, fields: &mut [u64; FIELDS]) {
 
 /// The fields that an answer uses, by the paper, and its string's length.
 fn make_answer(random: &mut Random) -> Vec<u8> {
-    let kinds = [0..14, 0..14, 129..142, 64..68].map(Vec::from_iter);
+    let kinds = [0..16, 0..16, 129..144, 64..68].map(Vec::from_iter);
     let cmds = &kinds[random.below(4)];
     let cmd = random.pick(cmds);
     let host = random.free_byte().max(1);

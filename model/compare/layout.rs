@@ -75,7 +75,7 @@ pub fn fault_alone(state: &State) -> bool {
 
 /// The highest address of a process's breakpoints.
 pub fn last_word(process: &Process) -> Option<u16> {
-    process.breakpoints.iter().filter(|b| b.used).map(|b| b.address).max()
+    process.breakpoints.iter().filter(|b| b.used()).map(|b| b.address).max()
 }
 
 // ---------------------------------------------------------------- what calls may change

@@ -4,6 +4,7 @@
 use crate::calls::{some_address, some_process, used_address};
 use crate::random::Random;
 use crate::sides::Call;
+use crate::watchers::at_his;
 use model::*;
 
 /// How often each letter of `LETTERS` is asked.
@@ -64,13 +65,21 @@ fn process_for(random: &mut Random, state: &State, request: u8) -> u8 {
     if random.one_in(8) {
         return some_process(random, state, owes);
     }
+    let watches = |p: &Process| p.there && p.watcher == TEXT_HOST;
+    if state.processes.iter().any(watches) && random.one_in(3) {
+        return some_process(random, state, watches);
+    }
+    let at_watchers = |p: &Process| ours(p) && !owes(p) && at_his(p);
+    if state.processes.iter().any(at_watchers) && !random.one_in(4) {
+        return some_process(random, state, at_watchers);
+    }
     let fits = |p: &Process| match request {
         b'c' | b's' => ours(p) && !owes(p) && p.run.waits(),
         _ => ours(p) && !owes(p),
     };
     let telling = |p: &Process| match request {
         b'c' | b's' => fits(p) && p.run == Run::AtBreakpoint,
-        _ => fits(p) && p.breakpoints.iter().any(|b| b.used),
+        _ => fits(p) && p.breakpoints.iter().any(|b| b.used()),
     };
     let any_is = |test: &dyn Fn(&Process) -> bool| state.processes.iter().any(test);
     if any_is(&telling) && random.one_in(2) {
@@ -104,6 +113,7 @@ fn some_addr(random: &mut Random, process: &Process, request: u8) -> u32 {
 fn new_pc(random: &mut Random, process: &Process) -> u32 {
     match random.below(8) {
         0..=2 => 1,
+        _ if at_his(process) && random.one_in(2) => 1,
         3 | 4 => used_address(random, process).into(),
         5 => near_end(random, process),
         6 => random.pick(&[0, 2, 3, 65_536, 65_538, u32::MAX]),

@@ -22,6 +22,8 @@ mod calls;
 #[cfg(feature = "standin")]
 mod changes;
 mod damage;
+mod damage_places;
+mod damage_watches;
 mod desk;
 mod layout;
 mod library;
@@ -36,6 +38,8 @@ mod passages_layout;
 mod passages_lines;
 mod passages_owed;
 mod passages_passing;
+mod passages_watches;
+mod passages_watching;
 mod passing;
 mod random;
 mod reports;
@@ -49,17 +53,25 @@ mod states;
 mod sweeps;
 mod sweeps_lines;
 mod sweeps_runs;
+mod sweeps_watches;
 mod table;
 mod values;
 mod values_layout;
 mod values_lines;
 mod values_passing;
+mod values_watches;
+#[cfg(feature = "standin")]
+mod watched;
+mod watchers;
+mod watching;
 #[cfg(feature = "standin")]
 mod wrong;
 #[cfg(feature = "standin")]
 mod wrong_answers;
 #[cfg(feature = "standin")]
 mod wrong_create;
+#[cfg(feature = "standin")]
+mod wrong_end_watch;
 #[cfg(feature = "standin")]
 mod wrong_going;
 #[cfg(feature = "standin")]
@@ -71,16 +83,22 @@ mod wrong_owed;
 #[cfg(feature = "standin")]
 mod wrong_passing;
 #[cfg(feature = "standin")]
+mod wrong_setters;
+#[cfg(feature = "standin")]
 mod wrong_sizes;
 #[cfg(feature = "standin")]
 mod wrong_text;
+#[cfg(feature = "standin")]
+mod wrong_told;
+#[cfg(feature = "standin")]
+mod wrong_watches;
 
 use run::Comparison;
 use std::process::ExitCode;
 
 /// The stack that include/palustrode.h says a call needs. The model in the library's
 /// place may need any.
-const STACK: usize = if cfg!(feature = "standin") { usize::MAX } else { 1280 };
+const STACK: usize = if cfg!(feature = "standin") { usize::MAX } else { 1408 };
 
 fn main() -> ExitCode {
     let mut arguments = std::env::args().skip(1);

@@ -185,11 +185,11 @@ impl About<'_> {
 
     fn eighth_at_pc(&self) -> bool {
         let b = self.process.breakpoints[BREAKPOINTS - 1];
-        b.used && b.address == self.pc
+        b.used() && b.address == self.pc
     }
 
     /// Whether memory holds another word than the one that was put back by lifting.
-    fn changed_while_lifted(&self, b: &Breakpoint) -> bool {
+    pub fn changed_while_lifted(&self, b: &Breakpoint) -> bool {
         let at = usize::from(b.address);
         self.memory[self.process.place()][at..at + 2] != b.saved
     }

@@ -10,7 +10,7 @@ pub fn broken_passing(call: &Call, before: &Side, after: &Side) -> Option<&'stat
     let p = changed(call, after)?;
     let was = decode(before.state.bytes())?.processes[p];
     let is = decode(after.state.bytes())?.processes[p];
-    let lifted = is.breakpoints.iter().any(|b| b.used && b.lifted);
+    let lifted = is.breakpoints.iter().any(|b| b.used() && b.lifted);
     if is.run == Run::Passing && was.run != Run::Passing && !lifted {
         return Some("both: passing is entered, and no breakpoint was lifted");
     }
@@ -29,8 +29,9 @@ pub fn broken_passing(call: &Call, before: &Side, after: &Side) -> Option<&'stat
     None
 }
 
-/// The requests that change the run state alone, and lift or plant for that.
-const RUNS: [u8; 4] = [STOP, RESUME, SINGLE_STEP, PROCEED_BPT];
+/// The requests that store nothing: those that change the run state alone, and lift or
+/// plant for that, and K5's two.
+const RUNS: [u8; 6] = [STOP, RESUME, SINGLE_STEP, PROCEED_BPT, WATCH, END_WATCH];
 
 /// The letters of lines that store a word.
 fn stores(request: u8) -> bool {

@@ -50,7 +50,7 @@ fn by_kind(random: &mut Random, state: &State) -> (u8, u8) {
     let narrow = random.one_in(2);
     let process = some_process(random, state, |p| {
         let fits = p.run.accepts(kind);
-        p.there && fits && (!narrow || p.breakpoints.iter().any(|b| b.used))
+        p.there && fits && (!narrow || p.breakpoints.iter().any(|b| b.used()))
     });
     (process, kind)
 }
@@ -58,7 +58,7 @@ fn by_kind(random: &mut Random, state: &State) -> (u8, u8) {
 /// Whether a process runs and can come to a breakpoint, or is passing one, or owes an
 /// answer.
 fn telling(process: &Process) -> bool {
-    let broken = process.breakpoints.iter().any(|b| b.used);
+    let broken = process.breakpoints.iter().any(|b| b.used());
     let owes = process.owed != Owed::Nothing;
     process.there && process.run.goes() && (broken || process.run == Run::Passing || owes)
 }
@@ -93,7 +93,11 @@ fn by_run_state(random: &mut Random, state: &State) -> (u8, u8) {
 
 /// Mostly the address of a breakpoint; after one instruction, often of the next one.
 fn report_pc(random: &mut Random, process: &Process, kind: u8) -> u16 {
-    let used = used_address(random, process);
+    let eighth = process.breakpoints[BREAKPOINTS - 1];
+    let used = match eighth.used() && random.one_in(4) {
+        true => eighth.address,
+        false => used_address(random, process),
+    };
     match random.below(4) {
         0 => some_address(random, process),
         1 if kind == TTRAP => used.wrapping_add(2),

@@ -6,6 +6,7 @@ use crate::layout::{accepted_fault, broken_layout};
 use crate::library::*;
 use crate::passing::broken_passing;
 use crate::stack::on_painted;
+use crate::watching::broken_watch;
 use model::*;
 use std::borrow::Cow;
 
@@ -283,7 +284,7 @@ fn broken_rule(call: &Call, answer: i64, before: &Side, after: &Side) -> Option<
         (Call::Report { .. }, _) => notice_length(answer),
         (Call::Line { .. }, _) => 0,
         (_, 0..) => answer as usize,
-        (Call::Request { .. }, -13..=-7) => HEAD,
+        (Call::Request { .. }, -16..=-7) => HEAD,
         _ => 0,
     };
     let refused = answer < 0;
@@ -308,7 +309,9 @@ fn broken_rule(call: &Call, answer: i64, before: &Side, after: &Side) -> Option<
     if refused || wrong_line.is_some() {
         return wrong_line;
     }
-    broken_layout(call, before, after).or_else(|| broken_passing(call, before, after))
+    broken_layout(call, before, after)
+        .or_else(|| broken_passing(call, before, after))
+        .or_else(|| broken_watch(call, answer, before, after))
 }
 
 /// Whether bytes are those of a sound state.

@@ -36,6 +36,10 @@ fn some_sound_process(random: &mut Random, cleared: Process) -> Process {
         return process;
     }
     process.host = new_host(random);
+    let watcher = new_host(random);
+    if watcher != process.host && random.one_in(2) {
+        process.watcher = watcher;
+    }
     if process.host == TEXT_HOST {
         process.owed = random.pick(&Owed::ALL);
     }
@@ -44,7 +48,7 @@ fn some_sound_process(random: &mut Random, cleared: Process) -> Process {
         add_breakpoint(random, &mut process, e, most);
     }
     let e = random.below(BREAKPOINTS);
-    process.breakpoints[e].lifted = process.breakpoints[e].used && process.run.allows_lifted();
+    process.breakpoints[e].lifted = process.breakpoints[e].used() && process.run.allows_lifted();
     process
 }
 
@@ -52,14 +56,18 @@ fn some_sound_process(random: &mut Random, cleared: Process) -> Process {
 /// one at its address.
 fn add_breakpoint(random: &mut Random, process: &mut Process, e: usize, most: usize) {
     let address = breakpoint_address(random, process) % process.size & !1;
-    let taken = process.breakpoints.iter().any(|b| b.used && b.address == address);
+    let taken = process.breakpoints.iter().any(|b| b.used() && b.address == address);
     if taken || random.below(BREAKPOINTS) >= most {
         return;
     }
     let remaining =
         if random.one_in(4) { random.free_word() } else { random.pick(&[0, 1, 2, 65535]) };
     let saved = [random.byte(), random.byte()];
-    process.breakpoints[e] = Breakpoint { used: true, lifted: false, address, remaining, saved };
+    let setter = match process.watcher {
+        NOBODY => process.host,
+        watcher => random.pick(&[process.host, watcher]),
+    };
+    process.breakpoints[e] = Breakpoint { lifted: false, setter, address, remaining, saved };
 }
 
 pub fn some_run(random: &mut Random) -> Run {

@@ -14,7 +14,7 @@ pub struct Sweep<'a> {
 }
 
 /// The host that debugs processes 2 and 3; processes 0 to 6 are there.
-const OWNER: u8 = 77;
+pub const OWNER: u8 = 77;
 pub const P: u8 = 2;
 
 /// The feed process, and the sizes of all: those of 4 to 7 are at the edges. With all
@@ -76,6 +76,7 @@ impl Sweep<'_> {
         sweep.reports()?;
         sweep.runs()?;
         sweep.lines()?;
+        sweep.watches()?;
         sweep.lengths()?;
         sweep.starts()?;
         sweep.writes()?;
@@ -112,7 +113,7 @@ impl Sweep<'_> {
 
     /// Each byte of the header, and each address and count.
     fn requests(&mut self) -> Result<(), String> {
-        for cmd in [NOP, DEBUG, EXAMINE, BREAK, CREATE_PROCESS] {
+        for cmd in [NOP, DEBUG, EXAMINE, BREAK, CREATE_PROCESS, WATCH, END_WATCH] {
             for at in 0..HEAD {
                 for byte in 0..=255 {
                     let pid = if matches!(cmd, NOP | CREATE_PROCESS) { 0 } else { P };
@@ -291,7 +292,7 @@ impl Sweep<'_> {
 
     /// Each value of each field of each op code, and each bit above it.
     fn writes(&mut self) -> Result<(), String> {
-        for cmd in 0..=14 {
+        for cmd in 0..=16 {
             let right = match cmd {
                 4 | 6 | 7 | 8 => [5, cmd, 2, 3, 0],
                 9 => [5, cmd, 2, 3, 0],

@@ -155,7 +155,7 @@ impl Sweep<'_> {
             state[record + 2] = run;
             state[record + OWED_AT] = owed;
             state[record + VECTOR_AT + 2 * PC..][..2].copy_from_slice(&AT.to_le_bytes());
-            state[record + ENTRIES_AT + 1] = lifted;
+            state[record + ENTRIES_AT] = lifted;
             state[record + ENTRIES_AT + 4] = count;
         });
     }
@@ -186,6 +186,7 @@ impl Sweep<'_> {
                 self.pair.change(|side| {
                     let state = side.state.change();
                     (state[record + 1], state[record + OWED_AT]) = (host, owed);
+                    state[record + ENTRIES_AT + 1] = host;
                     if host == NOBODY {
                         state[record + ENTRIES_AT] = 0;
                     }

@@ -51,7 +51,7 @@ impl Sweep<'_> {
             let state = side.state.change();
             state[record + 2] = run;
             state[record + VECTOR_AT + 2 * PC..][..2].copy_from_slice(&pc.to_le_bytes());
-            state[entry + 1] = u8::from(lifted);
+            state[entry] = u8::from(lifted);
             state[entry + 4..entry + 6].copy_from_slice(&count.to_le_bytes());
             if lifted {
                 side.memory.change()[usize::from(begin + AT)..][..2].copy_from_slice(&[70, 71]);

@@ -24,16 +24,16 @@ const fn refused_row(name: &'static str, refusals: &'static [usize]) -> Row {
     Row { name, granted: false, silent: false, refusals }
 }
 
-const ROW_COUNT: usize = 20;
-const NO_OP: usize = 14;
-const REPORTS: usize = 15;
+const ROW_COUNT: usize = 22;
+const NO_OP: usize = 16;
+const REPORTS: usize = 17;
 
-/// A request's row is its CMD, right or wrong otherwise; a CMD over 13, and a
+/// A request's row is its CMD, right or wrong otherwise; a CMD over 15, and a
 /// message that has none, is in the row `no op`. Tests 1 and 2 can fail in every
 /// call, 3, 4 and 6 in every request that has a CMD. All that name a process can
 /// fail 7 and 8; only 5, 10 and 11 ask for a run state (9); 4, 6, 7 and 8 have
-/// ranges (10); 8 alone fails 11, 9 alone 12, 12 alone 13. Reports are tested by
-/// 1, 2, 14, 7, 9; a TRAP may have any reason of two bytes, and a kind over 3 never
+/// ranges (10); 8 alone fails 11, 9 alone 12, 12 alone 13, 14 alone 15; 8 and 9 fail 16.
+/// Reports are tested by 1, 2, 14, 7, 9; a TRAP may have any reason of two bytes, and a kind over 3 never
 /// comes past 14. Every kind is silent for a process with no host, BPT where it is
 /// passed, and TTRAP while passing.
 const ROWS: [Row; ROW_COUNT] = [
@@ -45,12 +45,14 @@ const ROWS: [Row; ROW_COUNT] = [
     request_row("5 RESUME", &[1, 2, 3, 4, 6, 7, 8, 9]),
     request_row("6 EXAMINE", &[1, 2, 3, 4, 6, 7, 8, 10]),
     request_row("7 DEPOSIT VECTOR", &[1, 2, 3, 4, 6, 7, 8, 10]),
-    request_row("8 BREAK", &[1, 2, 3, 4, 6, 7, 8, 10, 11]),
-    request_row("9 UNBREAK", &[1, 2, 3, 4, 6, 7, 8, 12]),
+    request_row("8 BREAK", &[1, 2, 3, 4, 6, 7, 8, 10, 11, 16]),
+    request_row("9 UNBREAK", &[1, 2, 3, 4, 6, 7, 8, 12, 16]),
     request_row("10 SINGLE STEP", &[1, 2, 3, 4, 6, 7, 8, 9]),
     request_row("11 PROCEED BPT", &[1, 2, 3, 4, 6, 7, 8, 9]),
     request_row("12 CREATE", &[1, 2, 3, 4, 6, 13]),
     request_row("13 DESTROY", &[1, 2, 3, 4, 6, 7, 8]),
+    request_row("14 WATCH", &[1, 2, 3, 4, 6, 7, 8, 15]),
+    request_row("15 END WATCH", &[1, 2, 3, 4, 6, 7, 8]),
     refused_row("no op", &[1, 2, 3, 4, 5]),
     report_row("TRAP", &[1, 2, 7, 9, 14]),
     report_row("HALT", &[1, 2, 7, 9, 14]),
@@ -64,7 +66,7 @@ fn row_of(call: &Call) -> Option<usize> {
     match call {
         Call::Report { kind, .. } => Some(REPORTS + (*kind).min(4) as usize),
         Call::Request { message } => match message.get(4) {
-            Some(&cmd) if cmd <= DESTROY_PROCESS => Some(usize::from(cmd)),
+            Some(&cmd) if cmd <= END_WATCH => Some(usize::from(cmd)),
             _ => Some(NO_OP),
         },
         _ => None,
@@ -72,7 +74,7 @@ fn row_of(call: &Call) -> Option<usize> {
 }
 
 /// Columns: 0 granted, 1 silent, 1 + n refused by n.
-const COLUMNS: usize = 16;
+const COLUMNS: usize = 18;
 
 fn column_of(answer: i64) -> usize {
     match answer {
@@ -162,16 +164,17 @@ const DESK_COLUMNS: [i64; 8] = [0, 1, 2, 3, 4, 5, 6, 7];
 /// Rows: writing each op code and any other CMD; reading each reply, CAN'T, notice
 /// and any other CMD; and a fresh start.
 const WRITES: usize = 0;
-const READS: usize = WRITES + 15;
+const READS: usize = WRITES + NO_OP + 1;
 const START: usize = READS + 256;
 
 pub struct DeskTable {
     counts: Vec<[u64; DESK_COLUMNS.len()]>,
 }
 
-/// "The desk reader accepts CMD 0 to 13, 129 to 141 and 64 to 67"
+/// "The desk reader accepts CMD 0 to 13, 129 to 141 and 64 to 67"; K5: "The desk end learns
+/// this op"
 fn accepted(cmd: usize) -> bool {
-    matches!(cmd, 0..=13 | 64..=67 | 129..=141)
+    matches!(cmd, 0..=15 | 64..=67 | 129..=143)
 }
 
 /// A CMD that is not accepted stands for all of them.
@@ -185,7 +188,7 @@ impl DeskTable {
     pub fn count(&mut self, call: &Call, answer: i64) {
         let row = match call {
             Call::FreshStart { .. } => START,
-            Call::Write { fields, .. } => WRITES + fields[1].min(14) as usize,
+            Call::Write { fields, .. } => WRITES + fields[1].min(NO_OP as u64) as usize,
             Call::Read { message } => match message.get(4).map(|&cmd| usize::from(cmd)) {
                 Some(cmd) if accepted(cmd) => READS + cmd,
                 _ => READS + NO_ANSWER,
@@ -199,11 +202,11 @@ impl DeskTable {
     }
 
     fn rows() -> impl Iterator<Item = (usize, String)> {
-        let writes = (0..14).map(|cmd| (WRITES + cmd, format!("write {}", ROWS[cmd].name)));
+        let writes = (0..NO_OP).map(|cmd| (WRITES + cmd, format!("write {}", ROWS[cmd].name)));
         let reads = (0..256).filter(|&cmd| accepted(cmd));
         let reads = reads.map(|cmd| (READS + cmd, format!("read CMD {cmd}")));
         writes
-            .chain([(WRITES + 14, "write no op".to_string())])
+            .chain([(WRITES + NO_OP, "write no op".to_string())])
             .chain(reads)
             .chain([(READS + NO_ANSWER, "read no CMD".to_string())])
             .chain([(START, "fresh start".to_string())])
@@ -212,7 +215,7 @@ impl DeskTable {
     /// Every op code and answer can be granted, and refused by 1, 3, 4 and 6; any
     /// other CMD by 1, 3, 4 and 5; a fresh start by 1, 2 and 7.
     fn feasible(row: usize, column: usize) -> bool {
-        let unknown = row == WRITES + 14 || row == READS + NO_ANSWER;
+        let unknown = row == WRITES + NO_OP || row == READS + NO_ANSWER;
         match DESK_COLUMNS[column] {
             0 => !unknown,
             1 => true,

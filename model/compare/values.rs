@@ -9,6 +9,7 @@ use crate::sizes::SIZES;
 use crate::values_layout::LAYOUT_VALUES;
 use crate::values_lines::LINE_VALUES;
 use crate::values_passing::PASSING_VALUES;
+use crate::values_watches::WATCH_VALUES;
 use model::*;
 
 /// A value of one kind, met in a call that got this answer: 0 for granted, or the
@@ -33,7 +34,7 @@ const VALUES: &[Value] = &[
     value(WRONG_HEAD, "request, TYPE alone wrong", |c, _| head(c, 0)),
     value(WRONG_HEAD, "request, LINK alone wrong", |c, _| head(c, 2)),
     value(WRONG_HEAD, "request, STYPE alone wrong", |c, _| head(c, 3)),
-    value(UNKNOWN_CMD, "request, CMD 14 to 63", |c, _| request(c, |m| (14..64).contains(&m[4]))),
+    value(UNKNOWN_CMD, "request, CMD 16 to 63", |c, _| request(c, |m| (16..64).contains(&m[4]))),
     value(UNKNOWN_CMD, "request, CMD 64 to 127", |c, _| request(c, |m| (64..128).contains(&m[4]))),
     value(UNKNOWN_CMD, "request, CMD 128 to 255", |c, _| request(c, |m| m[4] > 127)),
     value(ABSENT, "request, PID over 15", |c, _| request(c, |m| m[5] > 15)),
@@ -160,7 +161,7 @@ const VALUES: &[Value] = &[
     // the desk's end
     value(WRONG_HEAD, "write, HOST over 255", |c, _| wide(c, 0)),
     value(UNKNOWN_CMD, "write, CMD over 255, as a byte an op code", |c, _| {
-        wide(c, 1) && matches!(c, Call::Write { fields, .. } if fields[1] % 256 < 14)
+        wide(c, 1) && matches!(c, Call::Write { fields, .. } if fields[1] % 256 < 16)
     }),
     value(WRONG_FIELDS, "write, PID alone too wide", |c, _| wide(c, 2)),
     value(WRONG_FIELDS, "write, ARG1 alone too wide", |c, _| wide(c, 3)),
@@ -285,7 +286,8 @@ fn wide(call: &Call, field: usize) -> bool {
 
 /// Every value, in the order in which they are counted.
 fn every() -> impl Iterator<Item = &'static Value> {
-    VALUES.iter().chain(LAYOUT_VALUES).chain(PASSING_VALUES).chain(LINE_VALUES)
+    let later = PASSING_VALUES.iter().chain(LINE_VALUES).chain(WATCH_VALUES);
+    VALUES.iter().chain(LAYOUT_VALUES).chain(later)
 }
 
 /// How often each value was met, and each buffer at each offset modulo 8.

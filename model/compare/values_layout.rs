@@ -56,10 +56,10 @@ pub const LAYOUT_VALUES: &[Value] = &[
         over && started(c) > Some(MEMORY) && right_starts(c)
     }),
     // the lengths of before
-    value(WRONG_BUFFER, "fresh start, state of 712 bytes", |c, s| {
-        matches!(c, Call::FreshStart { .. }) && s.state.bytes().len() == 712
+    value(WRONG_BUFFER, "fresh start, state of 720 bytes", |c, s| {
+        matches!(c, Call::FreshStart { .. }) && s.state.bytes().len() == 720
     }),
-    value(NOT_SOUND, "state of 712 bytes", |c, s| on_state(c) && s.state.bytes().len() == 712),
+    value(NOT_SOUND, "state of 720 bytes", |c, s| on_state(c) && s.state.bytes().len() == 720),
     value(WRONG_BUFFER, "memory of 32,768 bytes", |c, s| {
         on_state(c) && s.memory.bytes().len() == 32_768 && s.output.bytes().len() >= LONGEST
     }),

@@ -21,10 +21,10 @@ pub const PASSING_VALUES: &[Value] = &[
     }),
     value(0, "state, one lifted while passing", |c, s| passes(c, s, |p| lifted(p) == 1)),
     value(0, "state, passing with breakpoints and none lifted", |c, s| {
-        passes(c, s, |p| lifted(p) == 0 && p.breakpoints.iter().any(|b| b.used))
+        passes(c, s, |p| lifted(p) == 0 && p.breakpoints.iter().any(|b| b.used()))
     }),
     value(0, "state, passing with no breakpoint", |c, s| {
-        passes(c, s, |p| p.host != NOBODY && p.breakpoints.iter().all(|b| !b.used))
+        passes(c, s, |p| p.host != NOBODY && p.breakpoints.iter().all(|b| !b.used()))
     }),
     value(0, "state, passing with no host", |c, s| passes(c, s, |p| p.there && p.host == NOBODY)),
     value(0, "state, an absent process that is passing", |c, s| passes(c, s, |p| !p.there)),
@@ -53,7 +53,7 @@ fn passes(call: &Call, side: &Side, test: impl Fn(&Process) -> bool) -> bool {
 }
 
 fn lifted(process: &Process) -> usize {
-    process.breakpoints.iter().filter(|b| b.used && b.lifted).count()
+    process.breakpoints.iter().filter(|b| b.used() && b.lifted).count()
 }
 
 /// Whether one is lifted in a process in this run state, and would be sound if it were

@@ -5,13 +5,17 @@ use crate::made::{lengths, Made};
 use crate::run::Comparison;
 use crate::wrong_answers::WRONG_ANSWERS;
 use crate::wrong_create::WRONG_CREATE;
+use crate::wrong_end_watch::WRONG_END_WATCH;
 use crate::wrong_going::WRONG_GOING;
 use crate::wrong_layout::WRONG_LAYOUT;
 use crate::wrong_lines::WRONG_LINES;
 use crate::wrong_owed::WRONG_OWED;
 use crate::wrong_passing::WRONG_PASSING;
+use crate::wrong_setters::WRONG_SETTERS;
 use crate::wrong_sizes::WRONG_SIZES;
 use crate::wrong_text::WRONG_TEXT;
+use crate::wrong_told::WRONG_TOLD;
+use crate::wrong_watches::WRONG_WATCHES;
 use model::*;
 use std::sync::atomic::{AtomicUsize, Ordering};
 
@@ -46,7 +50,9 @@ fn every() -> impl Iterator<Item = &'static Wrong> {
     let lines = WRONG_TEXT.iter().chain(WRONG_LINES).chain(WRONG_GOING);
     let lines = lines.chain(WRONG_OWED).chain(WRONG_ANSWERS);
     let layout = WRONG_LAYOUT.iter().chain(WRONG_CREATE);
-    WRONG.iter().chain(WRONG_SIZES).chain(layout).chain(WRONG_PASSING).chain(lines)
+    let watches =
+        WRONG_WATCHES.iter().chain(WRONG_END_WATCH).chain(WRONG_SETTERS).chain(WRONG_TOLD);
+    WRONG.iter().chain(WRONG_SIZES).chain(layout).chain(WRONG_PASSING).chain(lines).chain(watches)
 }
 
 /// Each is the model's answer, but for one error.

@@ -52,7 +52,7 @@ pub const WRONG_GOING: &[Wrong] = &[
         name: "s runs",
         answer: |made| {
             changed(made, b"s", |c| {
-                if !c.new.breakpoints.iter().any(|b| b.used && b.lifted) {
+                if !c.new.breakpoints.iter().any(|b| b.used() && b.lifted) {
                     c.new.run = Run::Running;
                 }
             })

@@ -264,8 +264,15 @@ fn forget(process: &mut Process) -> bool {
     std::mem::replace(&mut process.owed, Owed::Nothing) != Owed::Nothing
 }
 
-fn lend(process: &mut Process) -> bool {
-    std::mem::replace(&mut process.host, TEXT_HOST) != TEXT_HOST
+pub fn lend(process: &mut Process) -> bool {
+    let before = std::mem::replace(&mut process.host, TEXT_HOST);
+    if process.watcher == TEXT_HOST {
+        process.watcher = NOBODY;
+    }
+    for b in process.breakpoints.iter_mut().filter(|b| b.used() && b.setter == before) {
+        b.setter = TEXT_HOST;
+    }
+    before != TEXT_HOST
 }
 
 /// Whether an address is odd or over all sizes, or a word's not divisible by 4.

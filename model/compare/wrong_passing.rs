@@ -306,7 +306,7 @@ pub const WRONG_PASSING: &[Wrong] = &[
         name: "UNBREAK of the lifted one puts the saved word back",
         answer: |made| {
             after(made, |c| {
-                for b in c.old.breakpoints.iter().filter(|b| b.used && b.lifted) {
+                for b in c.old.breakpoints.iter().filter(|b| b.used() && b.lifted) {
                     if c.cause == Asked(UNBREAK) && !lifted(c.new) {
                         word_at(c.bytes, b).copy_from_slice(&b.saved);
                     }
@@ -346,7 +346,7 @@ pub const WRONG_PASSING: &[Wrong] = &[
 const RUNNING: Run = Run::Running;
 
 fn lifted(process: &Process) -> bool {
-    process.breakpoints.iter().any(|b| b.used && b.lifted)
+    process.breakpoints.iter().any(|b| b.used() && b.lifted)
 }
 
 fn word_at<'a>(bytes: &'a mut [u8], b: &Breakpoint) -> &'a mut [u8] {

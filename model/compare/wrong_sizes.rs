@@ -212,7 +212,7 @@ fn zeroes_the_old_size(mut made: Made) -> i64 {
 
 /// The size, or a larger one that has every breakpoint in it, if there is one.
 fn past_breakpoints(process: &Process) -> u16 {
-    let used = process.breakpoints.iter().filter(|b| b.used);
+    let used = process.breakpoints.iter().filter(|b| b.used());
     let last = used.map(|b| b.address / 2 * 2).filter(|&address| address < LARGEST).max();
     last.map_or(process.size, |address| process.size.max(address + 2))
 }

@@ -2,17 +2,19 @@
 
 use super::*;
 
-/// Bytes of a process record: there, host, run state, size, what is owed, nine words, 8
-/// entries.
+/// Bytes of a process record: there, host, run state, size, what is owed, watcher, nine
+/// words, 8 entries.
 pub const RECORD_BYTES: usize = ENTRIES_AT + BREAKPOINTS * ENTRY_BYTES;
-/// Bytes of a breakpoint entry: used, lifted, address, count, saved word.
+/// Bytes of a breakpoint entry: whether it is lifted, who set it, address, count, saved word.
 pub const ENTRY_BYTES: usize = 8;
 /// Where the size, low byte first, stands in a record.
 pub const SIZE_AT: usize = 3;
 /// Where a record says what is owed.
 pub const OWED_AT: usize = SIZE_AT + 2;
+/// Where a record says who watches.
+pub const WATCHER_AT: usize = OWED_AT + 1;
 /// Where the nine words begin in a record.
-pub const VECTOR_AT: usize = OWED_AT + 1;
+pub const VECTOR_AT: usize = WATCHER_AT + 1;
 /// Where the entries begin in a record.
 pub const ENTRIES_AT: usize = VECTOR_AT + VECTOR;
 /// Where the eight begins stand in a state, two bytes each, low byte first.
@@ -54,7 +56,7 @@ fn owed_from(byte: u8) -> Option<Owed> {
     Owed::ALL.get(usize::from(byte)).copied()
 }
 
-/// The state of 720 bytes; nothing where the length, a flag, a run state or what is owed
+/// The state of 728 bytes; nothing where the length, a flag, a run state or what is owed
 /// is none that `encode` gives.
 pub fn decode(bytes: &[u8]) -> Option<State> {
     if bytes.len() != STATE_BYTES {
@@ -71,12 +73,13 @@ pub fn decode(bytes: &[u8]) -> Option<State> {
         process.run = run_from(record[2])?;
         process.size = u16::from_le_bytes([record[SIZE_AT], record[SIZE_AT + 1]]);
         process.owed = owed_from(record[OWED_AT])?;
+        process.watcher = record[WATCHER_AT];
         process.vector = vector_from(&record[VECTOR_AT..ENTRIES_AT]);
         let entries = record[ENTRIES_AT..].chunks_exact(ENTRY_BYTES);
         for (breakpoint, entry) in process.breakpoints.iter_mut().zip(entries) {
             *breakpoint = Breakpoint {
-                used: flag(entry[0])?,
-                lifted: flag(entry[1])?,
+                lifted: flag(entry[0])?,
+                setter: entry[1],
                 address: u16::from_le_bytes([entry[2], entry[3]]),
                 remaining: u16::from_le_bytes([entry[4], entry[5]]),
                 saved: [entry[6], entry[7]],
@@ -86,7 +89,7 @@ pub fn decode(bytes: &[u8]) -> Option<State> {
     Some(state)
 }
 
-/// The 720 bytes of a state.
+/// The 728 bytes of a state.
 pub fn encode(state: &State) -> [u8; STATE_BYTES] {
     let mut bytes = [0; STATE_BYTES];
     let (records, begins) = bytes.split_at_mut(BEGINS_AT);
@@ -99,14 +102,15 @@ pub fn encode(state: &State) -> [u8; STATE_BYTES] {
         record[2] = process.run as u8;
         record[SIZE_AT..OWED_AT].copy_from_slice(&process.size.to_le_bytes());
         record[OWED_AT] = process.owed as u8;
+        record[WATCHER_AT] = process.watcher;
         record[VECTOR_AT..ENTRIES_AT].copy_from_slice(&vector_bytes(&process.vector));
         let entries = record[ENTRIES_AT..].chunks_exact_mut(ENTRY_BYTES);
         for (entry, b) in entries.zip(&process.breakpoints) {
             let [address_low, address_high] = b.address.to_le_bytes();
             let [count_low, count_high] = b.remaining.to_le_bytes();
             entry.copy_from_slice(&[
-                u8::from(b.used),
                 u8::from(b.lifted),
+                b.setter,
                 address_low,
                 address_high,
                 count_low,
@@ -179,7 +183,7 @@ fn write_back(records: &State, answer: i64, state: &mut [u8]) {
     }
 }
 
-/// `fresh_start` into 720 bytes: 0, or minus 1 where the buffer has not 720 or the
+/// `fresh_start` into 728 bytes: 0, or minus 1 where the buffer has not 728 or the
 /// sizes are not eight, or minus 2 where a process then there has a bad size or they
 /// are more than the memory, or minus 7 where a bit above the eighth is set: "number over 7". "The
 /// lowest-numbered test that fails gives the answer"

@@ -8,6 +8,7 @@ mod lines;
 mod owed;
 mod passing;
 mod sizes;
+mod watching;
 
 use super::*;
 use gateway::*;
@@ -164,7 +165,7 @@ fn end_debug_leaves_no_bpt_in_memory() {
 
 /// An entry that is free and not all zero, as no call leaves one.
 const OLD: Breakpoint =
-    Breakpoint { used: false, lifted: true, address: 7, remaining: 8, saved: [9, 10] };
+    Breakpoint { lifted: true, setter: NOBODY, address: 7, remaining: 8, saved: [9, 10] };
 
 #[test]
 fn end_debug_and_create_leave_eight_entries_of_zeros() {
@@ -295,8 +296,8 @@ fn the_order_of_a_requests_tests() {
     assert_eq!(request(&mut unsound.clone(), memory, &[], output), -2);
     assert_eq!(g.send(&[0; 9]), -3);
     assert_eq!(g.send(&[0; 267]), -3);
-    assert_eq!(g.send(&[0, 0, 255, 0, 14, 2, 0, 0, 0, 0]), -4);
-    assert_eq!(g.send(&[0, 5, 255, 0, 14, 2, 0, 0, 0, 0, 0]), -5);
+    assert_eq!(g.send(&[0, 0, 255, 0, 16, 2, 0, 0, 0, 0]), -4);
+    assert_eq!(g.send(&[0, 5, 255, 0, 16, 2, 0, 0, 0, 0, 0]), -5);
     assert_eq!(g.send(&[0, 5, 255, 0, 1, 9, 0, 0, 0, 1]), -6);
     assert_eq!(g.send(&[0, 5, 255, 0, 4, 9, 0, 0, 0, 1]), -6);
     g.written(0);
@@ -308,8 +309,7 @@ fn the_order_of_a_requests_tests() {
 fn sound_states() {
     let mut state = fresh_start(3, &FULL).unwrap();
     assert!(sound(&state));
-    let entry =
-        Breakpoint { used: true, lifted: false, address: 4094, remaining: 0, saved: [0, 0] };
+    let entry = Breakpoint { setter: 9, address: 4094, ..FREE };
     state.processes[0].breakpoints[3] = entry;
     assert!(!sound(&state), "a process with no host has none");
     state.processes[0].host = 9;
@@ -331,7 +331,7 @@ fn sound_states() {
     // A free entry's other fields play no part.
     assert!(changed(|p| {
         p.run = Run::Stopped;
-        p.breakpoints[0] = Breakpoint { used: false, lifted: true, ..p.breakpoints[3] };
+        p.breakpoints[0] = Breakpoint { setter: NOBODY, lifted: true, ..p.breakpoints[3] };
         p.breakpoints[1] = Breakpoint { address: 4099, ..p.breakpoints[0] };
     }));
 }
@@ -339,7 +339,7 @@ fn sound_states() {
 #[test]
 fn the_byte_form() {
     let mut bytes = [9; STATE_BYTES];
-    assert_eq!((STATE_BYTES, RECORD_BYTES, BEGINS_AT), (720, 88, 704));
+    assert_eq!((STATE_BYTES, RECORD_BYTES, BEGINS_AT), (728, 89, 712));
     assert_eq!(fresh_start_bytes(0b100, &[FEED; PROCESSES], &mut bytes), 0);
     assert_eq!(bytes[BEGINS_AT..], [0; 16]);
     for (p, record) in bytes[..BEGINS_AT].chunks_exact(RECORD_BYTES).enumerate() {
@@ -354,18 +354,18 @@ fn the_byte_form() {
     for m in [message(5, DEBUG, 2, 0, 0, &[]), message(5, BREAK, 2, 256, 515, &[])] {
         assert_eq!(request_bytes(&mut bytes, &mut memory, &m, &mut output), 10);
     }
-    assert_eq!(bytes[176..182], [1, 5, 0, 0, 6, 0]);
-    assert_eq!(bytes[200..208], [1, 0, 0, 1, 3, 2, 18, 52]);
+    assert_eq!(bytes[178..185], [1, 5, 0, 0, 6, 0, 0]);
+    assert_eq!(bytes[203..211], [0, 5, 0, 1, 3, 2, 18, 52]);
     let words = vector_bytes(&words_with(256));
     let (b, m, o, l) = (&mut bytes, &mut memory, &mut output, &mut line);
     assert_eq!(report_bytes(b, m, 2, BPT.into(), 0, &words[1..], o, l), -1);
     assert_eq!(report_bytes(b, m, 2, BPT.into(), 0, &words, o, &mut l[1..]), -1);
     assert_eq!(report_bytes(b, m, 2, BPT.into(), 0, &words, o, l), 0);
-    assert_eq!(b[176..182], [1, 5, 5, 0, 6, 0]);
-    assert_eq!(b[182..200], words);
-    assert_eq!(b[200..208], [1, 1, 0, 1, 2, 2, 18, 52]);
+    assert_eq!(b[178..185], [1, 5, 5, 0, 6, 0, 0]);
+    assert_eq!(b[185..203], words);
+    assert_eq!(b[203..211], [1, 5, 0, 1, 2, 2, 18, 52]);
     assert_eq!(encode(&decode(b).unwrap()), *b);
-    for (at, byte) in [(0, 2), (176, 255), (2, 6), (181, 3), (200, 2), (201, 2), (696, 2)] {
+    for (at, byte) in [(0, 2), (178, 255), (2, 6), (183, 3), (203, 2), (211, 255), (704, 2)] {
         let mut damaged = *b;
         damaged[at] = byte;
         assert_eq!(decode(&damaged), None);

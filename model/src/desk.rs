@@ -74,7 +74,8 @@ struct Answer {
 }
 
 /// "The desk reader accepts CMD 0 to 13, 129 to 141 and 64 to 67; 128 is not
-/// accepted, since NOP is never refused."
+/// accepted, since NOP is never refused." K5: "The desk end learns this op and every later
+/// one."
 fn answer(cmd: u8) -> Option<Answer> {
     let of_request = |cmd: u8, pid: bool, carries: Carries| {
         let uses = &USES[usize::from(cmd)];
@@ -83,8 +84,8 @@ fn answer(cmd: u8) -> Option<Answer> {
     match cmd {
         EXAMINE => of_request(cmd, false, Carries::Contents),
         CREATE_PROCESS => of_request(cmd, true, Carries::Nothing),
-        NOP..=DESTROY_PROCESS => of_request(cmd, false, Carries::Nothing),
-        129..=141 => of_request(cmd - CANT, false, Carries::Nothing),
+        NOP..=END_WATCH => of_request(cmd, false, Carries::Nothing),
+        129..=143 => of_request(cmd - CANT, false, Carries::Nothing),
         64..=67 => {
             Some(Answer { pid: true, arg1: cmd == 64, arg2: false, carries: Carries::Vector })
         }

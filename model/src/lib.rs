@@ -18,6 +18,7 @@ mod lines;
 mod reports;
 mod requests;
 mod runs;
+mod watches;
 
 pub use bytes::*;
 pub use desk::{read_answer, write_request, FIELDS};
@@ -27,6 +28,7 @@ pub use lines::{line, Owed, TEXT_HOST};
 pub use reports::{answered_length, notice_length, report};
 pub use requests::request;
 pub use runs::Run;
+pub use watches::WATCHED_LIMIT;
 
 use bytes::vector_from;
 use layout::{create, destroy, layout_sound, size_fits};
@@ -68,7 +70,7 @@ const WORD: u16 = 2;
 
 // ---------------------------------------------------------------- op codes
 
-// "The table of fourteen op codes (decimal)"
+// "The table of fourteen op codes (decimal)", and K5's two
 pub const NOP: u8 = 0;
 pub const DEBUG: u8 = 1;
 pub const END_DEBUG: u8 = 2;
@@ -83,6 +85,8 @@ pub const SINGLE_STEP: u8 = 10;
 pub const PROCEED_BPT: u8 = 11;
 pub const CREATE_PROCESS: u8 = 12;
 pub const DESTROY_PROCESS: u8 = 13;
+pub const WATCH: u8 = 14;
+pub const END_WATCH: u8 = 15;
 
 /// The fields that an op code uses, and whether it carries a string.
 struct Uses {
@@ -98,8 +102,9 @@ const fn uses(pid: bool, arg1: bool, arg2: bool, string: bool) -> Uses {
 
 /// "Used fields: all but 0 and 12 use PID, and only those name a process;
 /// 4, 6, 7, 8 use ARG1 and ARG2; 9 uses ARG1." "Only 4 and 7 carry a string"
-/// K9: "CREATE takes an even size in ARG1"
-const USES: [Uses; 14] = [
+/// K9: "CREATE takes an even size in ARG1". K5: "Op 14 WATCH (process)"; "op 15 END WATCH
+/// (process)"
+const USES: [Uses; 16] = [
     uses(false, false, false, false), // 0 NOP
     uses(true, false, false, false),  // 1 DEBUG
     uses(true, false, false, false),  // 2 END DEBUG
@@ -114,6 +119,8 @@ const USES: [Uses; 14] = [
     uses(true, false, false, false),  // 11 PROCEED BPT
     uses(false, true, false, false),  // 12 CREATE PROCESS
     uses(true, false, false, false),  // 13 DESTROY PROCESS
+    uses(true, false, false, false),  // 14 WATCH
+    uses(true, false, false, false),  // 15 END WATCH
 ];
 
 /// "CAN'T adds 128 to CMD."
@@ -150,14 +157,15 @@ pub const UNKNOWN_CMD: Refusal = 5;
 pub const WRONG_FIELDS: Refusal = 6;
 /// 7: "named process absent, or number over 7"
 pub const ABSENT: Refusal = 7;
-/// 8: "asker is not debugging it; for DEBUG, another host is"
+/// 8: "asker is not debugging it; for DEBUG, another host is"; K5: "8 for a watcher's other
+/// requests, END WATCH by any other host, and WATCH with no debugging host or by that host"
 pub const NO_RIGHT: Refusal = 8;
 /// 9: "wrong run state"
 pub const WRONG_RUN: Refusal = 9;
 /// 10: "outside memory or vector, EXAMINE over 256, or BREAK address odd or
 /// over 4,094"; K2: "10 reads against the size; BREAK at most size − 2"
 pub const OUTSIDE: Refusal = 10;
-/// 11: "eight breakpoints and a ninth asked"
+/// 11: "eight breakpoints and a ninth asked"; K5: "11 also a fifth while watched"
 pub const NINTH: Refusal = 11;
 /// 12: "no breakpoint at that address"
 pub const NO_BREAKPOINT: Refusal = 12;
@@ -165,15 +173,20 @@ pub const NO_BREAKPOINT: Refusal = 12;
 pub const NO_ROOM: Refusal = 13;
 /// 14: "report of kind over 3, or a reason not 0 with a kind that isn't TRAP"
 pub const WRONG_REPORT: Refusal = 14;
+/// 15, K5: "15, after 8, another watcher present"
+pub const WATCHED: Refusal = 15;
+/// 16, K5: "16, after 12, the breakpoint is the other's"
+pub const THE_OTHERS: Refusal = 16;
 
 // ---------------------------------------------------------------- records
 
 /// "up to 8 breakpoints, each with address, remaining count, saved word and
-/// whether it is lifted"
+/// whether it is lifted"; K5: "Each breakpoint records who set it"
 #[derive(Clone, Copy, PartialEq, Eq, Debug)]
 pub struct Breakpoint {
-    pub used: bool,
     pub lifted: bool,
+    /// The host that set it; nobody where the entry is free.
+    pub setter: u8,
     pub address: u16,
     pub remaining: u16,
     /// The two bytes as they stood in memory.
@@ -182,7 +195,8 @@ pub struct Breakpoint {
 
 /// "A process record holds: there or not; host debugging it; run state [..];
 /// vector; up to 8 breakpoints". K2: "Each process gets a size". K9: "Starts and sizes
-/// are public": where it begins in memory is kept too. K7: "an owed answer".
+/// are public": where it begins in memory is kept too. K7: "an owed answer". K5: "the one
+/// watcher of a process", if it has one.
 #[derive(Clone, Copy, PartialEq, Eq, Debug)]
 pub struct Process {
     pub there: bool,
@@ -191,6 +205,7 @@ pub struct Process {
     pub size: u16,
     pub begin: u16,
     pub owed: Owed,
+    pub watcher: u8,
     pub vector: [u16; WORDS],
     pub breakpoints: [Breakpoint; BREAKPOINTS],
 }
@@ -203,7 +218,7 @@ pub struct State {
 
 /// "a freed entry is all zero"
 const FREE: Breakpoint =
-    Breakpoint { used: false, lifted: false, address: 0, remaining: 0, saved: [0, 0] };
+    Breakpoint { lifted: false, setter: NOBODY, address: 0, remaining: 0, saved: [0, 0] };
 
 /// "cleared (absent, running, all else zero)"; K2: "CREATE and a cleared record
 /// give 4,096." It has no bytes in memory all the same.
@@ -214,6 +229,7 @@ const CLEARED: Process = Process {
     size: LARGEST,
     begin: 0,
     owed: Owed::Nothing,
+    watcher: NOBODY,
     vector: [0; WORDS],
     breakpoints: [FREE; BREAKPOINTS],
 };
@@ -263,13 +279,17 @@ impl Process {
         if self.owed != Owed::Nothing && self.host != TEXT_HOST {
             return false;
         }
+        // K5: "Sound includes these facts"
+        if !self.watch_sound() {
+            return false;
+        }
         // "an absent process has no host"
         if !self.there && self.host != NOBODY {
             return false;
         }
         // "and no breakpoints; a process with no host has none either"
         if self.host == NOBODY {
-            return self.breakpoints.iter().all(|b| !b.used);
+            return self.breakpoints.iter().all(|b| !b.used());
         }
         self.addresses_sound() && self.lifting_sound()
     }
@@ -279,16 +299,16 @@ impl Process {
     fn addresses_sound(&self) -> bool {
         self.breakpoints.iter().enumerate().all(|(i, b)| {
             let earlier = &self.breakpoints[..i];
-            !b.used
+            !b.used()
                 || self.takes_breakpoint(b.address)
-                    && !earlier.iter().any(|e| e.used && e.address == b.address)
+                    && !earlier.iter().any(|e| e.used() && e.address == b.address)
         })
     }
 
     /// "at most one is lifted"; K3: "Sound now allows a lifted one only while stepping or
     /// passing."
     fn lifting_sound(&self) -> bool {
-        match self.breakpoints.iter().filter(|b| b.used && b.lifted).count() {
+        match self.breakpoints.iter().filter(|b| b.used() && b.lifted).count() {
             0 => true,
             1 => self.run.allows_lifted(),
             _ => false,
@@ -323,9 +343,15 @@ fn within(first: u16, count: u16, size: usize) -> bool {
 }
 
 impl Breakpoint {
+    /// Whether the entry is a breakpoint: somebody set it. What else a free one holds is
+    /// never looked at.
+    pub fn used(&self) -> bool {
+        self.setter != NOBODY
+    }
+
     /// "planted (not lifted)"
     pub fn planted(&self) -> bool {
-        self.used && !self.lifted
+        self.used() && !self.lifted
     }
 
     /// "Planting saves the word and stores 3, 0"
@@ -354,7 +380,7 @@ impl Breakpoint {
 impl Process {
     /// The breakpoint at an address, if there is one.
     fn at(&mut self, address: u16) -> Option<&mut Breakpoint> {
-        self.breakpoints.iter_mut().find(|b| b.used && b.address == address)
+        self.breakpoints.iter_mut().find(|b| b.used() && b.address == address)
     }
 
     /// "lifts the breakpoint at PC, if there is one"; says whether there is.
@@ -366,7 +392,7 @@ impl Process {
     /// "a lifted breakpoint is planted again"
     fn plant_lifted(&mut self, space: &mut [u8]) {
         for breakpoint in &mut self.breakpoints {
-            if breakpoint.used && breakpoint.lifted {
+            if breakpoint.used() && breakpoint.lifted {
                 breakpoint.plant(space);
             }
         }

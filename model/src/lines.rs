@@ -85,7 +85,9 @@ fn obey(state: &mut State, memory: &mut [u8], asked: &LineRead) -> Result<Option
         Some(process) if process.there => process,
         _ => return Err(NO_PROCESS),
     };
-    if process.host != TEXT_HOST {
+    // K5 and K7: "A watcher may only `i` and `d`."
+    let watches = process.watcher == TEXT_HOST && matches!(asked.request, b'i' | b'd');
+    if process.host != TEXT_HOST && !watches {
         return Err(NO_RIGHT_TO);
     }
     if process.owed != Owed::Nothing {

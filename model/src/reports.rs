@@ -44,13 +44,13 @@ pub fn report(
         return 0;
     }
     let answered = record.answer_owed(process, kind, line);
+    let host = record.host_to_tell(kind);
     // "to the host debugging it, if any"
-    if record.host == NOBODY {
+    if host == NOBODY {
         return told(0, answered);
     }
-    // "a notice of 28 bytes goes to the host debugging it"; "(reason in
-    // ARG1)"; "PID; the rest zero; then the 18 bytes"
-    write_head(&mut notice[..HEAD], record.host, NOTICE_CMD + kind, process, reason, 0);
+    // "a notice of 28 bytes"; "(reason in ARG1)"; "PID; the rest zero; then the 18 bytes"
+    write_head(&mut notice[..HEAD], host, NOTICE_CMD + kind, process, reason, 0);
     notice[HEAD..NOTICE].copy_from_slice(&vector_bytes(words));
     told(NOTICE, answered)
 }

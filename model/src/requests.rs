@@ -1,4 +1,4 @@
-//! A request: tests 3 to 13 in their order, and what each op code does.
+//! A request: tests 3 to 13, 15 and 16 in their order, and what each op code does.
 
 use super::*;
 
@@ -85,7 +85,7 @@ pub(super) fn fields_fit(asked: &Asked, uses: &Uses) -> bool {
         && size_fits(asked.cmd, asked.arg1)
 }
 
-/// Tests 7 to 13, and what the request does.
+/// Tests 7 to 13, 15 and 16, and what the request does.
 fn obey(
     state: &mut State,
     memory: &mut [u8],
@@ -103,7 +103,8 @@ fn obey(
         }
         _ => {
             let process = named(state, asked.pid)?;
-            debugged_by(process, asked)?;
+            process.has_right(asked.host, asked.cmd)?;
+            process.unwatched_by_others(asked.host, asked.cmd)?;
             run_state_fits(process, asked.cmd)?;
             if asked.cmd == DESTROY_PROCESS {
                 destroy(state, memory, usize::from(asked.pid));
@@ -123,15 +124,6 @@ pub(super) fn named(state: &mut State, pid: u8) -> Result<&mut Process, Refusal>
     }
 }
 
-/// 8: "asker is not debugging it; for DEBUG, another host is"
-fn debugged_by(process: &Process, asked: &Asked) -> Result<(), Refusal> {
-    let free_to_debug = asked.cmd == DEBUG && process.host == NOBODY;
-    if process.host == asked.host || free_to_debug {
-        return Ok(());
-    }
-    Err(NO_RIGHT)
-}
-
 /// 9: "wrong run state". "RESUME, SINGLE STEP: from stopped or at a
 /// breakpoint". "PROCEED BPT: only at a breakpoint". K3, of passing: "RESUME, SINGLE
 /// STEP and PROCEED BPT give 9". No other request asks for a run state.
@@ -148,7 +140,7 @@ fn run_state_fits(process: &Process, cmd: u8) -> Result<(), Refusal> {
 }
 
 impl Process {
-    /// What a request to this process does once tests 7, 8 and 9 are passed;
+    /// What a request to this process does once tests 7, 8, 15 and 9 are passed;
     /// the length of the reply's string.
     fn obey(
         &mut self,
@@ -169,6 +161,8 @@ impl Process {
             BREAK => self.set_breakpoint(space, asked)?,
             UNBREAK => self.clear_breakpoint(space, asked)?,
             SINGLE_STEP => self.single_step(space),
+            WATCH => self.watcher = asked.host,
+            END_WATCH => self.end_watch(space),
             // 11 PROCEED BPT, the last of those that change one process alone
             _ => self.proceed(space),
         }
@@ -178,12 +172,14 @@ impl Process {
     /// "END DEBUG: all breakpoints go, planted words put back; nobody debugs
     /// it. Stopped, at a breakpoint or stepping becomes running; ended stays."
     /// K3: passing becomes running too. "a freed entry is all zero": so are all
-    /// eight. K7: "STOP, END DEBUG and DESTROY cancel an owed answer".
+    /// eight. K7: "STOP, END DEBUG and DESTROY cancel an owed answer". K5: "END DEBUG and
+    /// DESTROY end the watch".
     fn end_debug(&mut self, space: &mut [u8]) {
         for breakpoint in &mut self.breakpoints {
             breakpoint.free(space);
         }
         self.host = NOBODY;
+        self.watcher = NOBODY;
         self.owed = Owed::Nothing;
         if self.run != Run::Ended {
             self.run = Run::Running;
@@ -253,15 +249,18 @@ impl Process {
             return Err(OUTSIDE);
         }
         if let Some(breakpoint) = self.at(asked.arg1) {
+            breakpoint.set_by(asked.host)?;
             breakpoint.remaining = asked.arg2;
             return Ok(());
         }
+        let room = self.room_for(asked.host);
         // "A new breakpoint takes the lowest free of the eight entries"
         // 11: "eight breakpoints and a ninth asked"
-        let Some(entry) = self.breakpoints.iter_mut().find(|b| !b.used) else {
+        let Some(entry) = self.breakpoints.iter_mut().find(|b| !b.used() && room) else {
             return Err(NINTH);
         };
-        *entry = Breakpoint { used: true, address: asked.arg1, remaining: asked.arg2, ..FREE };
+        *entry =
+            Breakpoint { setter: asked.host, address: asked.arg1, remaining: asked.arg2, ..FREE };
         entry.plant(space);
         Ok(())
     }
@@ -273,6 +272,7 @@ impl Process {
         let Some(breakpoint) = self.at(asked.arg1) else {
             return Err(NO_BREAKPOINT);
         };
+        breakpoint.set_by(asked.host)?;
         breakpoint.free(space);
         Ok(())
     }

@@ -9,14 +9,23 @@ use native.Mathlib.Omega.{arith}
 use lib.ListN.{length, take, drop, getD, set, length-set}
 use lib.Dec.{leb}
 use lib.Seq.{drop-cons, take-suc, set-comm, set-set, set-getD, getD-set-same, getD-set-other}
+use borrow.Author.Tests.{eq-eqb, ne-eqb}
 use Rattle.lists.proofs.Bool.{&&-left}
 use Rattle.breakpoints.specs.declared.entry.Breakpoint.{Breakpoint}
-use Rattle.breakpoints.specs.Entry.{free}
+use Rattle.breakpoints.specs.Entry.{free, inUse}
 use Rattle.breakpoints.specs.Seen.{putWord, isPlanted, restored, seen, planted, bptStored, overlaySavedByte, overlaySavedWord, overlaySavedWords}
 
+-- an entry that nobody set is free
+pub none-set : (b : Breakpoint) → b .setter ≡ 0 → inUse b ≡ false
+none-set b e = ap not (eq-eqb (b .setter) 0 e)
+
+-- and one that somebody did is in use
+pub some-set : (b : Breakpoint) → (b .setter ≡ 0 → ⊥) → inUse b ≡ true
+some-set b n = ap not (ne-eqb (b .setter) 0 n)
+
 -- a planted breakpoint is in use
-pub planted-used : (b : Breakpoint) → isPlanted b ≡ true → b .used ≡ true
-planted-used b e = &&-left (b .used) (not (b .lifted)) e
+pub planted-used : (b : Breakpoint) → isPlanted b ≡ true → inUse b ≡ true
+planted-used b e = &&-left (inUse b) (not (b .lifted)) e
 
 -- ---- lengths
 
@@ -141,7 +150,7 @@ seen-unplanted (c ∷ bs) (suc k) b m h n d =
 
 -- ---- a breakpoint that is planted where none was: it saved the word, so nothing that is seen has changed
 
-pub seen-planted : (bs : List Breakpoint) (k : ℕ) (b : Breakpoint) (m : List ℕ) → k < length bs → isPlanted (getD bs k free) ≡ false → b .used ≡ true
+pub seen-planted : (bs : List Breakpoint) (k : ℕ) (b : Breakpoint) (m : List ℕ) → k < length bs → isPlanted (getD bs k free) ≡ false → inUse b ≡ true
     → ((j : ℕ) → j < k → Spaced (getD bs j free) (planted m b)) → seen (set bs k (planted m b)) (bptStored b m) ≡ seen bs m
 seen-planted bs k b m h none u d =
     let c = planted m b in

@@ -4,9 +4,10 @@ use lib.Dec.{eqb}
 use Rattle.breakpoints.specs.declared.entry.Breakpoint.{Breakpoint}
 use Rattle.breakpoints.specs.declared.entry_query.EntryQuery.{EntryQuery}
 use Rattle.breakpoints.specs.declared.entry_query.EntryQuery.the-variants.{Free, Lifted, At}
+use Rattle.breakpoints.specs.Entry.{inUse}
 
 -- an entry that is free; that is lifted; that is a breakpoint at the address a
 unfoldable pub matches : EntryQuery → Breakpoint → Bool
-matches Free b = not (b .used)
-matches Lifted b = b .used && b .lifted
-matches (At a) b = b .used && eqb (b .address) a
+matches Free b = not (inUse b)
+matches Lifted b = inUse b && b .lifted
+matches (At a) b = inUse b && eqb (b .address) a

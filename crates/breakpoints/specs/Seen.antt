@@ -5,7 +5,7 @@ use Prim.Native.Nat.{ℕ, _+_, _-_}
 use lib.ListN.{getD, set}
 use lib.Dec.{leb}
 use Rattle.breakpoints.specs.declared.entry.Breakpoint.{Breakpoint}
-use Rattle.breakpoints.specs.Entry.{withSaved, withPlanted}
+use Rattle.breakpoints.specs.Entry.{withSaved, withPlanted, inUse}
 
 -- the two bytes of a word, low first, at an address
 abbrev pub putWord : ℕ → ℕ → ℕ → List ℕ → List ℕ
@@ -13,7 +13,7 @@ putWord a low high m = set (set m a low) (a + 1) high
 
 -- 'planted (not lifted)'
 abbrev pub isPlanted : Breakpoint → Bool
-isPlanted b = b .used && not (b .lifted)
+isPlanted b = inUse b && not (b .lifted)
 
 -- the memory with a breakpoint's saved word in its place, if it is planted
 unfoldable pub restored : Breakpoint → List ℕ → List ℕ

@@ -1,13 +1,13 @@
 // An entry of a process. Whatever makes one or writes one anew stands in this file, so that a new field changes it alone.
 ghost use mathlib.Core.Path.{_≡_};
-ghost use Rattle.breakpoints.specs.Entry.{free, breakpointAt, withCount, withSaved, withLifted, withPlanted, validBreakAddress};
+ghost use Rattle.breakpoints.specs.Entry.{free, breakpointAt, withCount, withSaved, withLifted, withPlanted, isSetBy, validBreakAddress};
 
 // One of the eight entries of a process. A planted breakpoint, that is one in use and not lifted, has 3, 0 stored at its
 // address and the word that was there saved; a lifted one has its word back in memory for one instruction, until the process next
-// stops or reports.
+// stops or reports. The setter is the host that set it; of a free entry it is 0.
 pub struct Breakpoint {
-    pub used: bool,
     pub lifted: bool,
+    pub setter: u8,
     pub address: u16,
     pub count: u16,
     pub low: u8,
@@ -20,8 +20,8 @@ impl Breakpoint {
         ensures { λ r. ⌜ r ≡ free ⌝ }
     {
         Breakpoint {
-            used: false,
             lifted: false,
+            setter: 0,
             address: 0,
             count: 0,
             low: 0,
@@ -29,13 +29,13 @@ impl Breakpoint {
         }
     }
 
-    // A new breakpoint, lifted until it is planted.
-    pub fn at(address: u16, count: u16) -> Self
-        ensures { λ r. ⌜ r ≡ breakpointAt address count ⌝ }
+    // A new breakpoint that this host sets, lifted until it is planted.
+    pub fn at(address: u16, count: u16, host: u8) -> Self
+        ensures { λ r. ⌜ r ≡ breakpointAt address count host ⌝ }
     {
         Breakpoint {
-            used: true,
             lifted: true,
+            setter: host,
             address: address,
             count: count,
             low: 0,
@@ -63,6 +63,16 @@ impl Breakpoint {
     {
         self.lifted = true;
         self
+    }
+
+    // Whether this host set it.
+    pub fn is_set_by(self, host: u8) -> bool
+        ensures { λ r. ⌜ r ≡ isSetBy host self ⌝ }
+    {
+        if self.setter == 0 {
+            return false;
+        }
+        self.setter == host
     }
 
     pub(crate) fn with_planted(mut self) -> Self

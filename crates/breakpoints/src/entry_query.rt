@@ -17,9 +17,13 @@ impl Breakpoint {
         ensures { λ r. ⌜ r ≡ matches query self ⌝ }
     {
         match query {
-            EntryQuery::Free => !self.used,
-            EntryQuery::Lifted => if self.used { self.lifted } else { false },
-            EntryQuery::At(a) => if self.used { self.address == a } else { false },
+            EntryQuery::Free => self.setter == 0,
+            EntryQuery::Lifted => if self.setter == 0 { false } else { self.lifted },
+            EntryQuery::At(a) => if self.setter == 0 {
+                false
+            } else {
+                self.address == a
+            },
         }
     }
 

@@ -5,6 +5,7 @@ ghost use mathlib.Core.Bool.{true};
 ghost use Prim.Native.Nat.{_+_, _<_};
 ghost use lib.ListN.{length};
 ghost use Rattle.breakpoints.specs.Seen.{putWord, isPlanted, restored, savedFrom, planted, bptStored, overlaySavedByte, overlaySavedWord};
+ghost use Rattle.breakpoints.specs.Entry.{inUse};
 
 // The PDP-11's BPT instruction.
 const BPT_LOW: u8 = 3;
@@ -36,12 +37,12 @@ impl Breakpoint {
     pub fn is_planted(self) -> bool
         ensures { λ r. ⌜ r ≡ isPlanted self ⌝ }
     {
-        if self.lifted { false } else { self.used }
+        if self.lifted { false } else { self.setter != 0 }
     }
 
     // Puts the saved word back, if the breakpoint is planted.
     pub fn restore(self, bytes: &mut [u8])
-        requires { ⌜ (self .used ≡ true → self .address + 1 < length (now bytes)) ⌝ }
+        requires { ⌜ (inUse self ≡ true → self .address + 1 < length (now bytes)) ⌝ }
         ensures { λ _. ⌜ now (bytes .exit) ≡ restored self (now (bytes .entry)) ⌝ }
     {
         if self.is_planted() {
@@ -51,7 +52,7 @@ impl Breakpoint {
 
     // Exchanges the saved word and the word in memory, if the breakpoint is planted.
     pub fn exchange(self, bytes: &mut [u8]) -> Self
-        requires { ⌜ (self .used ≡ true → self .address + 1 < length (now bytes)) ⌝ }
+        requires { ⌜ (inUse self ≡ true → self .address + 1 < length (now bytes)) ⌝ }
         ensures { λ r. ⌜ r ≡ savedFrom (now (bytes .entry)) self ⌝ }
         ensures { λ _. ⌜ now (bytes .exit) ≡ restored self (now (bytes .entry)) ⌝ }
     {

@@ -27,17 +27,17 @@ use Rattle.process.specs.Find.{find}
 use Rattle.process.specs.Planting.{plantedIn, liftedIn, removedFrom, replanted, liftedAt}
 use Rattle.process.specs.Record.{fresh}
 use Rattle.run_state.specs.RunState.{accepts, goesOn, runAfter}
-use Rattle.process.specs.Report.{storeVectorAndReplant, passes, verdictOf, recipientOf, answerOf, passed, reported}
-use Rattle.process.specs.Request.{hasBreak, hasRoom, examined, deposited, vectorAfter, breakSet, breakRemoved, created, cleared}
+use Rattle.process.specs.Report.{storeVectorAndReplant, passes, noticeHost, verdictOf, recipientOf, answerOf, passed, reported}
+use Rattle.process.specs.Request.{hasBreak, hasRoom, countSetBy, mayHaveMore, hasRoomFor, isHis, examined, deposited, vectorAfter, breakSet, breakRemoved, created, cleared}
 use Rattle.breakpoints.specs.Seen.{restored, seen, savedFrom, overlaySavedByte, overlaySavedWord}
 use Rattle.process.specs.Request.{sheltered}
-use Rattle.breakpoints.specs.Entry.{validBreakAddress}
-use Rattle.process.specs.Sound.{absentHasNoHost, liftSound, usedSound, entrySound, soundTest, keepsRules}
+use Rattle.breakpoints.specs.Entry.{isSetBy, validBreakAddress}
+use Rattle.process.specs.Sound.{absentHasNoHost, liftSound, setterSound, usedSound, entrySound, soundTest, keepsRules}
 use Rattle.state.specs.Layout.{used, usedBefore, startIsUnique, placed, laidOut, slot, withSlot, closed, startWithout, startsWithout}
 use Rattle.rules.specs.Rule.{public, ruleOf, names, sizeAsked}
 use Rattle.rules.specs.Window.{putInPlace, putLast, takenOut}
 use Rattle.rules.specs.TextRule.{owedLine}
-use Rattle.session.specs.Session.{sessionSound}
+use Rattle.session.specs.Session.{owedSound, watcherSound, sessionSound}
 use Rattle.rules.specs.Step.{put, grantedNamed, grantedCreate, granted, refused, requestStep, noticeTo, notified, reportStep, step}
 use Rattle.rules.specs.Tests.{askedTests, requestNumber, reportNumber}
 use Rattle.rules.specs.Access.{insider}
@@ -101,7 +101,7 @@ record Computed : Type 0 where
   unlike : heard (only 9) (run one oneCalls) ≡ heard (only 9) (run other otherCalls) → ⊥
 
 computed : Computed
-unfolding strikeRun hiddenAfter createdFor withoutTheirs namesOne subject event passedOver fieldsOf isOne isGranted struck withoutData theirs insider heard part asker sentTo noticed lineSent stored overlay lowFirst cantOf createdOf noticeOf written headerOf stringOf fixedRight numberOf lengthOf firstFailing fieldsRight carriedLength wrongLength wrongHeader misfits rowOf requestForm matches find plantedIn liftedIn removedFrom replanted liftedAt fresh accepts goesOn storeVectorAndReplant passes verdictOf recipientOf answerOf owedLine passed runAfter reported hasBreak hasRoom examined deposited vectorAfter breakSet breakRemoved created cleared restored seen savedFrom sheltered overlaySavedByte overlaySavedWord validBreakAddress absentHasNoHost liftSound usedSound entrySound soundTest validSize keepsRules sessionSound freshProcess freshProcesses freshStarts freshStart total used usedBefore startIsUnique placed laidOut recordsSound soundState slot withSlot closed startWithout startsWithout public ruleOf names sizeAsked run putInPlace putLast takenOut put grantedNamed grantedCreate granted refused requestStep noticeTo notified reportStep step lowestAbsent askedTests requestNumber reportNumber
+unfolding strikeRun hiddenAfter createdFor withoutTheirs namesOne subject event passedOver fieldsOf isOne isGranted struck withoutData theirs insider heard part asker sentTo noticed lineSent stored overlay lowFirst cantOf createdOf noticeOf written headerOf stringOf fixedRight numberOf lengthOf firstFailing fieldsRight carriedLength wrongLength wrongHeader misfits rowOf requestForm matches find plantedIn liftedIn removedFrom replanted liftedAt fresh accepts goesOn storeVectorAndReplant passes noticeHost verdictOf recipientOf answerOf owedLine passed runAfter reported hasBreak hasRoom countSetBy isSetBy mayHaveMore hasRoomFor isHis examined deposited vectorAfter breakSet breakRemoved created cleared restored seen savedFrom sheltered overlaySavedByte overlaySavedWord validBreakAddress absentHasNoHost liftSound setterSound usedSound entrySound soundTest validSize keepsRules owedSound watcherSound sessionSound freshProcess freshProcesses freshStarts freshStart total used usedBefore startIsUnique placed laidOut recordsSound soundState slot withSlot closed startWithout startsWithout public ruleOf names sizeAsked run putInPlace putLast takenOut put grantedNamed grantedCreate granted refused requestStep noticeTo notified reportStep step lowestAbsent askedTests requestNumber reportNumber
 computed = record {
   one-ready = record { memory = refl; processes = refl; starts = refl; entries = eight one refl; sound = refl };
   other-ready = record { memory = refl; processes = refl; starts = refl; entries = eight other refl; sound = refl };

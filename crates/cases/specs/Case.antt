@@ -9,11 +9,12 @@ use Rattle.format.specs.Outcome.{outcome}
 use Rattle.format.specs.Layout.{written}
 use Rattle.breakpoints.specs.declared.entry.Breakpoint.{Breakpoint}
 use Rattle.run_state.specs.RunState.{runNumber}
+use Rattle.session.specs.Session.{owedNumber}
 use Rattle.process.specs.declared.record.Process.{Process}
 use Rattle.process.specs.Record.{entry}
 use Rattle.state.specs.Records.{Records, processAt, startOf}
 use Rattle.state.specs.Fresh.{freshStart}
-use Rattle.rules.specs.Step.{Call, request}
+use Rattle.rules.specs.Step.{Call, request, textLine}
 use Rattle.rules.specs.Run.{TraceItem, run}
 use Rattle.format.specs.Sizes.{messageBytes}
 use Rattle.fields.specs.Written.{lineBytes}
@@ -90,6 +91,14 @@ abbrev pub progress : Records → List ℕ
 progress g =
     runNumber (processAt g 2 .run) ∷ entry (processAt g 2) 0 .count ∷ cond (entry (processAt g 2) 0 .lifted) 1 0 ∷ processAt g 2 .vector
 
+-- of process 2, the host that debugs it, its watcher and who set the first entry
+abbrev pub parties : Records → List ℕ
+parties g = processAt g 2 .host ∷ processAt g 2 .session .watcher ∷ entry (processAt g 2) 0 .setter ∷ []
+
+-- the run state of process 2, and the number of the answer that it owes
+abbrev pub owing : Records → List ℕ
+owing g = runNumber (processAt g 2 .run) ∷ owedNumber (processAt g 2 .session .owed) ∷ []
+
 -- ---- calls
 
 -- every buffer is lent with these bytes in it
@@ -108,6 +117,10 @@ sent m = request m buffer
 abbrev pub asked : ℕ → ℕ → ℕ → ℕ → ℕ → List ℕ → Call
 asked host cmd pid arg1 arg2 string = sent (written (record { host = host; cmd = cmd; pid = pid; arg1 = arg1; arg2 = arg2 }) string)
 
+-- a text line
+abbrev pub typed : List ℕ → Call
+typed text = textLine text lineBuffer
+
 -- what is to be seen: granted or refused with this number, these bytes laid over the buffer, and what is looked at
 abbrev pub answer : ℕ → List ℕ → List ℕ → List ℕ → Seen
 answer number bytes memory records = record {
@@ -119,16 +132,31 @@ answer number bytes memory records = record {
   records = records;
 }
 
--- the same of a report that is granted, and answers no line
-abbrev pub noticed : List ℕ → List ℕ → List ℕ → Seen
-noticed bytes memory records = record {
-  outcome = outcome 0 (length bytes);
-  buffer = overlay bytes buffer;
+-- the same of a text line, with the line that answers it
+abbrev pub answerLine : ℕ → List ℕ → List ℕ → List ℕ → Seen
+answerLine number text memory records = record {
+  outcome = outcome number (length text);
+  buffer = overlay text lineBuffer;
   lineLength = 0;
-  line = lineBuffer;
+  line = [];
   memory = memory;
   records = records;
 }
+
+-- the same of a report that is granted, with this line beside its notice
+abbrev pub noticedBeside : List ℕ → List ℕ → List ℕ → List ℕ → Seen
+noticedBeside text bytes memory records = record {
+  outcome = outcome 0 (length bytes);
+  buffer = overlay bytes buffer;
+  lineLength = length text;
+  line = overlay text lineBuffer;
+  memory = memory;
+  records = records;
+}
+
+-- the same of a report that is granted, and answers no line
+abbrev pub noticed : List ℕ → List ℕ → List ℕ → Seen
+noticed bytes memory records = noticedBeside [] bytes memory records
 
 -- the same of a report whose buffers are untouched
 abbrev pub silent : List ℕ → List ℕ → Seen

@@ -1,12 +1,11 @@
--- The table of cases P1 to P12, and of cases about the one memory.
-use mathlib.Core.Path.{_≡_}
+-- The cases P1 to P12, and cases about the one memory.
 use mathlib.Core.Bool.{Bool, true, false}
-use mathlib.Core.List.{List, [], _∷_, map}
+use mathlib.Core.List.{List, [], _∷_}
 use Prim.Native.Nat.{ℕ}
 use lib.ListN.{replicate, set}
 use Rattle.run_state.specs.ReportKind.{BPT, TTRAP}
 use Rattle.rules.specs.Step.{Call, report, store}
-use Rattle.cases.specs.Case.{Case, Seen, outcomes, nothing, debuggers, vector, counts, saved, begins, moves, progress, buffer, lineBuffer, sent, asked, answer, noticed, silent, stored}
+use Rattle.cases.specs.Case.{Case, Seen, nothing, debuggers, vector, counts, saved, begins, moves, progress, buffer, lineBuffer, sent, asked, answer, noticed, silent, stored}
 use Rattle.state.specs.Layout.{capacity}
 
 -- process 2 alone
@@ -291,10 +290,6 @@ moveCase = record {
       ∷ [];
 }
 
--- all cases
+-- all of these cases
 abbrev pub cases : List Case
 cases = nopCase ∷ debugCase ∷ examineCase ∷ breakCase ∷ ninthCase ∷ countCase ∷ createCase ∷ vectorCase ∷ sizeCase ∷ fullCase ∷ moveCase ∷ []
-
--- every case of the table gives what is expected
-unfoldable pub CasesHold : Type 0
-CasesHold = map outcomes cases ≡ map (λ (c : Case). c .seen) cases

@@ -1,6 +1,6 @@
 // The cases of the rules that are proved, and two pairs of gateways for isolation. These functions do nothing: each one's contract is a
 // claim, so that the check of this crate includes it.
-ghost use Rattle.cases.specs.Cases.{CasesHold};
+ghost use Rattle.cases.specs.Table.{CasesHold};
 ghost use Rattle.cases.specs.Pair.{PremisesMet};
 ghost use Rattle.cases.specs.Again.{CreatedAgain};
 

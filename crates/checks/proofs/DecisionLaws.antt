@@ -1,23 +1,28 @@
 -- What a decision says of the request that it came from. Assumes nothing.
 use mathlib.Core.Path.{_≡_, refl, sym, subst}
-use mathlib.Core.Bool.{Bool, true, false}
+use mathlib.Core.Bool.{Bool, true, false, not, cond, _&&_, _||_}
+use mathlib.Core.List.{List, [], _∷_}
 use Prim.Native.Nat.{ℕ, zero, suc}
 use native.Mathlib.Omega.{arith}
 use borrow.Author.Tests.{ltb-false, not-false}
 use lib.ListN.{List·getD-eq-default}
-use lib.Dec.{ltb}
+use lib.Dec.{eqb, ltb}
 use Rattle.format.specs.declared.header.Header.{Header}
 use Rattle.ops.specs.declared.table.Found.{Found}
 use Rattle.ops.specs.declared.table.Found.the-variants.{Known, Unknown}
-use Rattle.format.specs.Outcome.{firstFailing}
+use Rattle.format.specs.Outcome.{Test, test, firstFailing}
 use Rattle.ops.specs.Table.{bare, row, ops, rowOf, requestForm}
 use Rattle.format.proofs.OutcomeLaws.{first-passes, rest-passes}
 use Rattle.process.specs.declared.record.Process.{Process}
+use Rattle.breakpoints.specs.declared.entry_query.EntryQuery.the-variants.{Free, At}
+use Rattle.process.specs.Record.{entry}
+use Rattle.process.specs.Find.{find}
+use Rattle.process.specs.Request.{hasBreak, hasRoom, hasRoomFor, mayHaveMore, isHis, entryFor}
 use Rattle.rules.specs.Rule.{ruleOf, names}
 use Rattle.rules.specs.Tests.{ruleTests}
 use Rattle.checks.specs.declared.decision.Decision.{Decision}
 use Rattle.checks.specs.declared.decision.Decision.the-variants.{Allow, Refuse}
-use Rattle.checks.specs.Decision.{decisionBy, entryOf, processTests, decisionOf}
+use Rattle.checks.specs.Decision.{decisionBy, entryOf, ownDecision, newDecision, breakDecision, unbreakDecision, entryDecision, processTests, decisionOf}
 
 -- ---- which op codes name a process
 
@@ -27,14 +32,55 @@ pidIn Unknown = false
 
 named-by : (cmd : ℕ) → pidIn (requestForm cmd) ≡ names cmd
 unfolding requestForm rowOf names
-named-by cmd = go (ltb cmd 14) refl
+named-by cmd = go (ltb cmd 16) refl
   where
-    go : (t : Bool) → ltb cmd 14 ≡ t → pidIn (requestForm cmd) ≡ names cmd
+    go : (t : Bool) → ltb cmd 16 ≡ t → pidIn (requestForm cmd) ≡ names cmd
     go true e = rw e
-    go false e = rw (e, List·getD-eq-default ops (row bare bare) {n = cmd} (ltb-false cmd 14 e))
+    go false e = rw (e, List·getD-eq-default ops (row bare bare) {n = cmd} (ltb-false cmd 16 e))
 
 pub names-known : (cmd : ℕ) (found : Found) → found ≡ requestForm cmd → pidIn found ≡ names cmd
 names-known cmd found e = rw e (named-by cmd)
+
+-- ---- the decision of a BREAK and of an UNBREAK
+
+breaks-by : (there his room : Bool) (k j : ℕ)
+    → cond there (cond his (Allow k) (Refuse 16)) (cond room (Allow j) (Refuse 11))
+    ≡ decisionBy (firstFailing (test 11 (not (there || room)) ∷ test 12 false ∷ test 16 (not (not there || his)) ∷ [])) (cond there k j)
+unfolding decisionBy firstFailing
+breaks-by true true room k j = refl
+breaks-by true false room k j = refl
+breaks-by false his true k j = refl
+breaks-by false his false k j = refl
+
+unbreaks-by : (there his : Bool) (k : ℕ)
+    → cond there (cond his (Allow k) (Refuse 16)) (Refuse 12)
+    ≡ decisionBy (firstFailing (test 11 false ∷ test 12 (not there) ∷ test 16 (not (not there || his)) ∷ [])) k
+unfolding decisionBy firstFailing
+unbreaks-by true true k = refl
+unbreaks-by true false k = refl
+unbreaks-by false his k = refl
+
+-- 11, where the host may set no more, room or not
+pub no-more : (host : ℕ) (p : Process) → mayHaveMore host p ≡ false → newDecision host p ≡ Refuse 11
+unfolding newDecision
+no-more host p e = rw e (go (hasRoom p))
+  where
+    go : (room : Bool) → cond (room && false) (Allow (find Free p)) (Refuse 11) ≡ Refuse 11
+    go true = refl
+    go false = refl
+
+module _ (h : Header) (p : Process) where
+  pub break-decides : h .cmd ≡ 8 → breakDecision (h .host) (h .arg1) p ≡ entryDecision h p
+  unfolding breakDecision ownDecision newDecision entryDecision entryOf ruleOf hasRoomFor isHis entryFor
+  break-decides op =
+      let k = find (At (h .arg1)) p in
+      rw op (breaks-by (hasBreak (h .arg1) p) (eqb (entry p k .setter) (h .host)) (hasRoom p && mayHaveMore (h .host) p) k (find Free p))
+
+  pub unbreak-decides : h .cmd ≡ 9 → unbreakDecision (h .host) (h .arg1) p ≡ entryDecision h p
+  unfolding unbreakDecision ownDecision entryDecision entryOf ruleOf isHis
+  unbreak-decides op =
+      let k = find (At (h .arg1)) p in
+      rw op (unbreaks-by (hasBreak (h .arg1) p) (eqb (entry p k .setter) (h .host)) k)
 
 -- ---- a decision by its number
 

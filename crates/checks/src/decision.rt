@@ -1,4 +1,4 @@
-// What a request is to do to a process, by the tests 7 to 12. What the tests find on the way goes into the decision, so that nothing is looked
+// What a request is to do to a process, by the tests 7 to 12, 15 and 16. What the tests find on the way goes into the decision, so that nothing is looked
 // for twice.
 use crate::rule::rule_decision;
 use format::Header;

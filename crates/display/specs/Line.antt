@@ -10,17 +10,19 @@ use Rattle.breakpoints.specs.declared.entry.Breakpoint.{Breakpoint}
 use Rattle.process.specs.declared.record.Process.{Process}
 use Rattle.run_state.specs.RunState.{runNumber}
 use Rattle.session.specs.declared.Owed.{Owed}
-use Rattle.session.specs.declared.Session.{Session}
 use Rattle.session.specs.Session.{owedLetter, owes}
 use Rattle.decimal.specs.Numeral.{numeral, field}
+use Rattle.breakpoints.specs.Entry.{inUse}
 
 -- a word after a blank
 abbrev pub wordText : ℕ → List ℕ
 wordText w = field 32 w
 
--- an entry after a blank: used, address, count, saved word, lifted, parted by colons
+-- an entry after a blank: used, address, count, saved word, lifted, who set it, parted by colons
 unfoldable pub entryText : Breakpoint → List ℕ
-entryText b = (((field 32 (flag (b .used)) ++ field 58 (b .address)) ++ field 58 (b .count)) ++ field 58 (word (b .high) (b .low))) ++ field 58 (flag (b .lifted))
+entryText b =
+    ((((field 32 (flag (inUse b)) ++ field 58 (b .address)) ++ field 58 (b .count)) ++ field 58 (word (b .high) (b .low))) ++ field 58 (flag (b .lifted)))
+    ++ field 58 (b .setter)
 
 -- whether it is there, its host, its run state
 unfoldable pub headText : Bool → ℕ → Run → List ℕ
@@ -34,6 +36,10 @@ named name n = name ++ field 32 n
 abbrev pub sizeName : List ℕ
 sizeName = 32 ∷ 115 ∷ 105 ∷ 122 ∷ 101 ∷ []
 
+-- ' watcher'
+abbrev pub watcherName : List ℕ
+watcherName = 32 ∷ 119 ∷ 97 ∷ 116 ∷ 99 ∷ 104 ∷ 101 ∷ 114 ∷ []
+
 -- ' owed '
 abbrev pub owedName : List ℕ
 owedName = 32 ∷ 111 ∷ 119 ∷ 101 ∷ 100 ∷ 32 ∷ []
@@ -46,19 +52,20 @@ beginName = 32 ∷ 98 ∷ 101 ∷ 103 ∷ 105 ∷ 110 ∷ []
 unfoldable pub owedShown : Owed → ℕ
 owedShown o = cond (owes o) (owedLetter o) 45
 
--- what belongs to the debugging session: the owed answer after its name
-unfoldable pub sessionText : Session → List ℕ
-sessionText s = owedName ++ (owedShown (s .owed) ∷ [])
+-- the owed answer after its name
+unfoldable pub owedText : Owed → List ℕ
+owedText o = owedName ++ (owedShown o ∷ [])
 
 -- 'where its bytes begin; 0 where it is absent'
 abbrev pub beginShown : Bool → ℕ → ℕ
 beginShown there start = cond there start 0
 
--- then the nine words, then the eight entries, then the size, then the session
+-- then the nine words, the eight entries, the size, the watcher and the owed answer
 unfoldable pub recordText : Process → List ℕ
 recordText p =
-    (((headText (p .there) (p .host) (p .run) ++ joined wordText (p .vector)) ++ joined entryText (p .breaks)) ++ named sizeName (p .size))
-    ++ sessionText (p .session)
+    ((((headText (p .there) (p .host) (p .run) ++ joined wordText (p .vector)) ++ joined entryText (p .breaks)) ++ named sizeName (p .size))
+    ++ named watcherName (p .session .watcher))
+    ++ owedText (p .session .owed)
 
 -- the record of a process, then where its bytes begin, as a line with its newline
 unfoldable pub processLine : Process → ℕ → List ℕ

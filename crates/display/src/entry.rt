@@ -11,22 +11,23 @@ ghost use Rattle.display.specs.Line.{entryText};
 
 // One of the eight entries, after a blank.
 fn put_entry(b: Breakpoint, from: usize, out: &mut [u8]) -> usize
-    requires { ⌜ from + 30 ≤ length (now out) ⌝ }
+    requires { ⌜ from + 36 ≤ length (now out) ⌝ }
     ensures { λ r. ⌜ Put from (entryText b) (now (out .entry)) r (now (out .exit)) ⌝ }
-    ensures { λ r. ⌜ r ≤ from + 30 ⌝ }
+    ensures { λ r. ⌜ r ≤ from + 36 ⌝ }
 {
-    let used = put_field(32, flag(b.used) as u16, from, out);
+    let used = put_field(32, flag(b.setter != 0) as u16, from, out);
     let address = put_field(58, b.address, used, out);
     let count = put_field(58, b.count, address, out);
     let saved = put_field(58, word_of(b.high, b.low), count, out);
-    put_field(58, flag(b.lifted) as u16, saved, out)
+    let lifted = put_field(58, flag(b.lifted) as u16, saved, out);
+    put_field(58, b.setter as u16, lifted, out)
 }
 
 // The eight entries.
 pub(crate) fn put_entries(breaks: [Breakpoint; 8], from: usize, out: &mut [u8]) -> usize
-    requires { ⌜ from + 240 ≤ length (now out) ⌝ }
+    requires { ⌜ from + 288 ≤ length (now out) ⌝ }
     ensures { λ r. ⌜ Put from (joined entryText breaks) (now (out .entry)) r (now (out .exit)) ⌝ }
-    ensures { λ r. ⌜ r ≤ from + 240 ⌝ }
+    ensures { λ r. ⌜ r ≤ from + 288 ⌝ }
 {
     let mut at = from;
     let mut i = 0;

@@ -7,7 +7,6 @@ use lines::put_mark;
 use process::Process;
 use run_state::Run;
 use session::Owed;
-use session::Session;
 use words::flag;
 ghost use mathlib.Core.Path.{_≡_};
 ghost use Prim.Native.Nat.{_+_, _≤_};
@@ -15,7 +14,7 @@ ghost use lib.ListN.{length};
 ghost use Rattle.lists.specs.Buffer.{overlay};
 ghost use Rattle.lists.specs.Joined.{joined};
 ghost use Rattle.lines.specs.Scan.{Put};
-ghost use Rattle.display.specs.Line.{wordText, headText, named, owedShown, sessionText, beginShown, recordText, processLine};
+ghost use Rattle.display.specs.Line.{wordText, headText, named, owedShown, owedText, beginShown, recordText, processLine};
 
 // There, host and run state.
 fn put_head(there: bool, host: u8, run: Run, out: &mut [u8]) -> usize
@@ -63,13 +62,12 @@ fn owed_shown(owed: Owed) -> u8
     45
 }
 
-// What belongs to the debugging session.
-fn put_session(session: Session, from: usize, out: &mut [u8]) -> usize
+// The owed answer after its name.
+fn put_owed(owed: Owed, from: usize, out: &mut [u8]) -> usize
     requires { ⌜ from + 7 ≤ length (now out) ⌝ }
-    ensures { λ r. ⌜ Put from (sessionText session) (now (out .entry)) r (now (out .exit)) ⌝ }
+    ensures { λ r. ⌜ Put from (owedText owed) (now (out .entry)) r (now (out .exit)) ⌝ }
     ensures { λ r. ⌜ r ≤ from + 7 ⌝ }
 {
-    let owed = session.owed;
     let at = put(b" owed ", from, out);
     put_mark(owed_shown(owed), at, out);
     at + 1
@@ -77,19 +75,21 @@ fn put_session(session: Session, from: usize, out: &mut [u8]) -> usize
 
 // All of a record.
 fn put_record(p: Process, out: &mut [u8]) -> usize
-    requires { ⌜ 329 ≤ length (now out) ⌝ }
+    requires { ⌜ 391 ≤ length (now out) ⌝ }
     ensures { λ r. ⌜ Put 0 (recordText p) (now (out .entry)) r (now (out .exit)) ⌝ }
-    ensures { λ r. ⌜ r ≤ 329 ⌝ }
+    ensures { λ r. ⌜ r ≤ 391 ⌝ }
 {
     let run = p.run;
     let vector = p.vector;
     let breaks = p.breaks;
     let session = p.session;
+    let owed = session.owed;
     let head = put_head(p.there, p.host, run, out);
     let words = put_words(vector, head, out);
     let entries = put_entries(breaks, words, out);
     let size = put_named(b" size", p.size, entries, out);
-    put_session(session, size, out)
+    let watcher = put_named(b" watcher", session.watcher as u16, size, out);
+    put_owed(owed, watcher, out)
 }
 
 // Where the bytes of a process begin; 0 where it is absent.
@@ -101,7 +101,7 @@ fn begin_shown(there: bool, start: u16) -> u16
 
 // All of a record and where the bytes of its process begin, as a line; the length of the line.
 pub fn put_process(p: Process, start: u16, out: &mut [u8]) -> usize
-    requires { ⌜ 342 ≤ length (now out) ⌝ }
+    requires { ⌜ 404 ≤ length (now out) ⌝ }
     ensures { λ r. ⌜ r ≡ length (processLine p start) ⌝ }
     ensures { λ r. ⌜ r ≤ length (now (out .entry)) ⌝ }
     ensures { λ _. ⌜ now (out .exit) ≡ overlay (processLine p start) (now (out .entry)) ⌝ }

@@ -26,6 +26,7 @@ use Rattle.rules.proofs.DestroyLaws.{destroy-rule, nothing-is-left}
 use Rattle.rules.proofs.LedgerLaws.{ledger}
 use Rattle.rules.proofs.LoopLaws.{loops}
 use Rattle.rules.proofs.OwedLaws.{owed-answers}
+use Rattle.rules.proofs.BreakLifeLaws.{watching}
 use Rattle.state_bytes.specs.State.{stateFormed, stateSound}
 use Rattle.gateway.specs.Called.{Called, reportCalled, finished, badlyLent, lentOn, refusedBy, callOn, machineStored, Did}
 use Rattle.gateway.specs.Sequence.{Begins, Made, readFrom}
@@ -162,4 +163,5 @@ demands = record {
   ledger = ledger;
   loops = loops;
   owed-answers = owed-answers;
+  watching = watching;
 }

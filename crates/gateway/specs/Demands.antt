@@ -21,6 +21,7 @@ use Rattle.rules.specs.OneMemory.{OneMemory}
 use Rattle.rules.specs.Ledger.{Ledger}
 use Rattle.rules.specs.Loops.{Loops}
 use Rattle.rules.specs.Owed.{OwedAnswers}
+use Rattle.rules.specs.Watch.{Watching}
 use Rattle.state_bytes.specs.Widths.{stateWidth}
 use Rattle.gateway.specs.Called.{Called, Did, lentOn, refusedBy, startOn}
 use Rattle.gateway.specs.Sequence.{Begins, Made, readFrom}
@@ -87,7 +88,7 @@ pub record Demands : Type 0 where
   pub lists : ListsOnBytes Made
   -- the rules that the lists are runs of: demand 1
   pub total : Total
-  -- no host beside another, and none that takes a process from another
+  -- no host debugs beside another, and none takes a process from another; a watcher may be beside him
   pub rights : Rights
   -- demand 3, for sets of hosts and processes, and for one host and one process
   pub isolation : Isolation
@@ -99,3 +100,5 @@ pub record Demands : Type 0 where
   pub loops : Loops
   -- a granted `c` or `s` is answered at most once, by the first report that stops or ends the process, unless it is cancelled
   pub owed-answers : OwedAnswers
+  -- owner and installer together: whose breakpoint is whose, who is told, when a watch begins and ends
+  pub watching : Watching

@@ -57,6 +57,14 @@ CREATE = 12
 abbrev pub DESTROY : ℕ
 DESTROY = 13
 
+-- 'Op 14 WATCH (process)' (K5)
+abbrev pub WATCH : ℕ
+WATCH = 14
+
+-- 'op 15 END WATCH (process)' (K5)
+abbrev pub END-WATCH : ℕ
+END-WATCH = 15
+
 -- 'Notice: CMD 64 TRAP': the kind of the report is added to this
 abbrev pub NOTICE : ℕ
 NOTICE = 64

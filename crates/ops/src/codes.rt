@@ -29,6 +29,10 @@ pub const CREATE: u8 = 12;
 
 pub const DESTROY: u8 = 13;
 
+pub const WATCH: u8 = 14;
+
+pub const END_WATCH: u8 = 15;
+
 // A notice has the kind of its report added to this.
 pub const NOTICE: u8 = 64;
 

@@ -19,6 +19,8 @@
 //    11  PID ---- ---- none   PID ---- ---- none   PROCEED BPT
 //    12  --- size ---- none   PID size ---- none   CREATE PROCESS
 //    13  PID ---- ---- none   PID ---- ---- none   DESTROY PROCESS
+//    14  PID ---- ---- none   PID ---- ---- none   WATCH
+//    15  PID ---- ---- none   PID ---- ---- none   END WATCH
 //    64                       PID ARG1 ---- 18     TRAP, a notice
 //    65                       PID ---- ---- 18     HALT, a notice
 //    66                       PID ---- ---- 18     BPT, a notice
@@ -35,6 +37,7 @@ pub use codes::DEPOSIT;
 pub use codes::DEPOSIT_VECTOR;
 pub use codes::DESTROY;
 pub use codes::END_DEBUG;
+pub use codes::END_WATCH;
 pub use codes::EXAMINE;
 pub use codes::NOP;
 pub use codes::NOTICE;
@@ -43,6 +46,7 @@ pub use codes::RESUME;
 pub use codes::SINGLE_STEP;
 pub use codes::STOP;
 pub use codes::UNBREAK;
+pub use codes::WATCH;
 pub use table::ArgUse;
 pub use table::Carried;
 pub use table::Form;

@@ -112,7 +112,7 @@ const SIZED_PROCESS: Form = Form {
 };
 
 // A row is the request's form, then the form of the reply that grants it.
-const OPS: [Op; 14] = [
+const OPS: [Op; 16] = [
     Op(BARE, BARE), // 0 NOP
     Op(PROCESS, PROCESS), // 1 DEBUG
     Op(PROCESS, PROCESS), // 2 END DEBUG
@@ -127,6 +127,8 @@ const OPS: [Op; 14] = [
     Op(PROCESS, PROCESS), // 11 PROCEED BPT
     Op(SIZED, SIZED_PROCESS), // 12 CREATE PROCESS
     Op(PROCESS, PROCESS), // 13 DESTROY PROCESS
+    Op(PROCESS, PROCESS), // 14 WATCH
+    Op(PROCESS, PROCESS), // 15 END WATCH
 ];
 
 // The notices by their kind, 0 to 3: CMD is 64 more.

@@ -19,7 +19,7 @@ use Rattle.process.specs.Record.{withVector}
 use Rattle.process.specs.Local.{Local}
 use Rattle.process.specs.Planting.{liftedIn}
 use Rattle.process.specs.Request.{onRecord}
-use Rattle.process.specs.Report.{storeVectorAndReplant, verdictOf, passed, carriedOut, reported, answeredBy, answerOf}
+use Rattle.process.specs.Report.{storeVectorAndReplant, verdictOf, passed, carriedOut, reported, toldBy, recipientOf, answeredBy, answerOf}
 use Rattle.process.proofs.PlantingLaws.{run-replanted, session-replanted}
 
 -- what is not owed is nothing
@@ -67,12 +67,12 @@ module _ (kind : ℕ) (words : List ℕ) (l : Local) where
   verdict = verdictOf kind (stored .process)
 
   -- an answer is given by a report that stops the process, and by no other
-  pub answer-stops : owes (answerOf kind words l) ≡ true → verdictOf kind (storeVectorAndReplant words l .process) ≡ Stops
-  unfolding answerOf
+  pub answer-stops : owes (answerOf kind words l) ≡ true → verdictOf kind (storeVectorAndReplant words l .process) ≡ Stops (recipientOf kind words l)
+  unfolding answerOf recipientOf
   answer-stops = go verdict
     where
-      go : (v : Verdict) → owes (answeredBy v (l .process .session .owed)) ≡ true → v ≡ Stops
-      go Stops e = refl
+      go : (v : Verdict) → owes (answeredBy v (l .process .session .owed)) ≡ true → v ≡ Stops (toldBy v)
+      go (Stops host) e = refl
       go (CountsDown k) e = absurd (true≢false (sym e))
       go GoesOn e = absurd (true≢false (sym e))
 
@@ -82,12 +82,12 @@ module _ (kind : ℕ) (words : List ℕ) (l : Local) where
   answer-owed e = ap (λ (v : Verdict). answeredBy v (l .process .session .owed)) (answer-stops e)
 
   -- after a report that stops the process nothing is owed
-  pub stops-owes : verdictOf kind (storeVectorAndReplant words l .process) ≡ Stops → reported kind words l .process .session .owed ≡ Nothing
+  pub stops-owes : {host : ℕ} → verdictOf kind (storeVectorAndReplant words l .process) ≡ Stops host → reported kind words l .process .session .owed ≡ Nothing
   unfolding reported
   stops-owes e = ap (λ (v : Verdict). carriedOut v kind stored .process .session .owed) e
 
   -- and it is in the run state that the kind of report says
-  pub stops-run : verdictOf kind (storeVectorAndReplant words l .process) ≡ Stops → reported kind words l .process .run ≡ runAfter kind
+  pub stops-run : {host : ℕ} → verdictOf kind (storeVectorAndReplant words l .process) ≡ Stops host → reported kind words l .process .run ≡ runAfter kind
   unfolding reported
   stops-run e = ap (λ (v : Verdict). carriedOut v kind stored .process .run) e
 
@@ -103,24 +103,24 @@ module _ (kind : ℕ) (words : List ℕ) (l : Local) where
   unanswered-owed = go verdict
     where
       go : (v : Verdict) → owes (answeredBy v (l .process .session .owed)) ≡ false → carriedOut v kind stored .process .session .owed ≡ l .process .session .owed
-      go Stops e = sym (none-owed-nothing (l .process .session .owed) e)
+      go (Stops host) e = sym (none-owed-nothing (l .process .session .owed) e)
       go (CountsDown k) e = owed-stored words l
       go GoesOn e = owed-stored words l
 
   -- a process that a report stops does not move
-  pub stops-still : verdictOf kind (storeVectorAndReplant words l .process) ≡ Stops → moving (reported kind words l .process .run) ≡ false
+  pub stops-still : {host : ℕ} → verdictOf kind (storeVectorAndReplant words l .process) ≡ Stops host → moving (reported kind words l .process .run) ≡ false
   stops-still e = ap moving (stops-run e) ∙ still-after kind
 
   -- and one that does not move after a report was stopped by it
   pub still-stops : accepts kind (l .process .run) ≡ true → moving (reported kind words l .process .run) ≡ false
-      → verdictOf kind (storeVectorAndReplant words l .process) ≡ Stops
-  unfolding reported passed liftedIn
+      → verdictOf kind (storeVectorAndReplant words l .process) ≡ Stops (recipientOf kind words l)
+  unfolding reported passed liftedIn recipientOf
   still-stops a = go verdict
     where
       moves : moving (afterPass (stored .process .run)) ≡ true
       moves = rw (run-stored words l) (moving-after-pass (l .process .run) (accepts-moves kind (l .process .run) a))
 
-      go : (v : Verdict) → moving (carriedOut v kind stored .process .run) ≡ false → v ≡ Stops
-      go Stops e = refl
+      go : (v : Verdict) → moving (carriedOut v kind stored .process .run) ≡ false → v ≡ Stops (toldBy v)
+      go (Stops host) e = refl
       go (CountsDown k) e = absurd (true≢false (sym moves ∙ e))
       go GoesOn e = absurd (true≢false e)

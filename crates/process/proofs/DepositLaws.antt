@@ -9,7 +9,7 @@ use native.Mathlib.Omega.{arith}
 use lib.ListN.{length, take, getD, set, length-map}
 use lib.Seq.{getD-set-other, getD-take, length-take-le}
 use Rattle.breakpoints.specs.declared.entry.Breakpoint.{Breakpoint}
-use Rattle.breakpoints.specs.Entry.{free, withSaved}
+use Rattle.breakpoints.specs.Entry.{free, withSaved, inUse}
 use Rattle.breakpoints.specs.Seen.{putWord, isPlanted, restored, seen, savedFrom}
 use Rattle.process.specs.Request.{sheltered}
 use Rattle.breakpoints.proofs.SeenLaws.{Spaced, putWord-again, putWord-same, restored-planted, restored-not, seen-restored}
@@ -57,8 +57,8 @@ unfolding savedFrom
 savedFrom-alike s b = go (isPlanted b)
   where
     go : (t : Bool) → Alike (cond t (withSaved (getD s (b .address) 0) (getD s (b .address + 1) 0) b) b) b
-    go true = record { used = refl; lifted = refl; address = refl }
-    go false = record { used = refl; lifted = refl; address = refl }
+    go true = record { used = refl; lifted = refl; address = refl; setter = refl }
+    go false = record { used = refl; lifted = refl; address = refl; setter = refl }
 
 pub savedFrom-planted : (s : List ℕ) (b : Breakpoint) → isPlanted (savedFrom s b) ≡ isPlanted b
 savedFrom-planted s b = let a = savedFrom-alike s b in rw (a .used, a .lifted)
@@ -96,7 +96,7 @@ map-alike s (b ∷ bs) (suc k) h = map-alike s bs k (omega arith)
 -- ---- spacing goes by what is alike
 
 pub alike-refl : (b : Breakpoint) → Alike b b
-alike-refl b = record { used = refl; lifted = refl; address = refl }
+alike-refl b = record { used = refl; lifted = refl; address = refl; setter = refl }
 
 pub alike-planted : {b c : Breakpoint} → Alike b c → isPlanted b ≡ isPlanted c
 alike-planted a = rw (a .used, a .lifted)

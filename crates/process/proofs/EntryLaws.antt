@@ -11,6 +11,7 @@ use Rattle.process.specs.Record.{entry}
 use Rattle.process.specs.Find.{find}
 use Rattle.process.specs.Request.{hasBreak, hasRoom, entryFor}
 use Rattle.process.proofs.FindLaws.{matches-free, matches-at, find-matches}
+use Rattle.breakpoints.specs.Entry.{inUse}
 
 module _ (a : ℕ) (p : Process) where
   -- there is one where there is a breakpoint at the address, or room
@@ -32,11 +33,11 @@ module _ (a : ℕ) (p : Process) where
   entry-new e = rw e
 
   -- it is in use where there is a breakpoint at the address
-  pub entry-used : length (p .breaks) ≡ 8 → entryFor a p < 8 → entry p (entryFor a p) .used ≡ hasBreak a p
+  pub entry-used : length (p .breaks) ≡ 8 → entryFor a p < 8 → inUse (entry p (entryFor a p)) ≡ hasBreak a p
   unfolding entryFor hasBreak
   entry-used eight low = go (ltb (find (At a) p) 8) refl
     where
       go : (t : Bool) → ltb (find (At a) p) 8 ≡ t
-          → entry p (cond (ltb (find (At a) p) 8) (find (At a) p) (find Free p)) .used ≡ ltb (find (At a) p) 8
+          → inUse (entry p (cond (ltb (find (At a) p) 8) (find (At a) p) (find Free p))) ≡ ltb (find (At a) p) 8
       go true e = rw e (matches-at a _ (find-matches (At a) p eight (ltb-true (find (At a) p) 8 e)) .0)
       go false e = rw e (matches-free _ (find-matches Free p eight (rw e at low)))

@@ -15,35 +15,35 @@ use Rattle.process.specs.declared.record.Process.{Process}
 use Rattle.process.specs.declared.find.FoundEntry.the-variants.{Index, Nowhere}
 use Rattle.breakpoints.specs.declared.entry_query.EntryQuery.{EntryQuery}
 use Rattle.breakpoints.specs.declared.entry_query.EntryQuery.the-variants.{Free, Lifted, At}
-use Rattle.breakpoints.specs.Entry.{free}
+use Rattle.breakpoints.specs.Entry.{free, inUse}
 use Rattle.process.specs.Record.{entry}
 use Rattle.breakpoints.specs.EntryQuery.{matches}
 use Rattle.process.specs.Find.{find, foundEntry}
 
 -- ---- what an entry that matches is
 
-pub matches-free : (b : Breakpoint) → matches Free b ≡ true → b .used ≡ false
+pub matches-free : (b : Breakpoint) → matches Free b ≡ true → inUse b ≡ false
 unfolding matches
-matches-free b e = not-true (b .used) e
+matches-free b e = not-true (inUse b) e
 
-pub matches-lifted : (b : Breakpoint) → matches Lifted b ≡ true → (b .used ≡ true) × (b .lifted ≡ true)
+pub matches-lifted : (b : Breakpoint) → matches Lifted b ≡ true → (inUse b ≡ true) × (b .lifted ≡ true)
 unfolding matches
-matches-lifted b e = (&&-left (b .used) (b .lifted) e, &&-right (b .used) (b .lifted) e)
+matches-lifted b e = (&&-left (inUse b) (b .lifted) e, &&-right (inUse b) (b .lifted) e)
 
-pub matches-at : (a : ℕ) (b : Breakpoint) → matches (At a) b ≡ true → (b .used ≡ true) × (b .address ≡ a)
+pub matches-at : (a : ℕ) (b : Breakpoint) → matches (At a) b ≡ true → (inUse b ≡ true) × (b .address ≡ a)
 unfolding matches
 matches-at a b e =
-    (&&-left (b .used) (eqb (b .address) a) e, eqb-true (b .address) a (&&-right (b .used) (eqb (b .address) a) e))
+    (&&-left (inUse b) (eqb (b .address) a) e, eqb-true (b .address) a (&&-right (inUse b) (eqb (b .address) a) e))
 
 -- ---- and what is one
 
-pub lifted-matches : (b : Breakpoint) → b .used ≡ true → b .lifted ≡ true → matches Lifted b ≡ true
+pub lifted-matches : (b : Breakpoint) → inUse b ≡ true → b .lifted ≡ true → matches Lifted b ≡ true
 unfolding matches
-lifted-matches b u l = &&-both (b .used) (b .lifted) u l
+lifted-matches b u l = &&-both (inUse b) (b .lifted) u l
 
-pub at-matches : (a : ℕ) (b : Breakpoint) → b .used ≡ true → b .address ≡ a → matches (At a) b ≡ true
+pub at-matches : (a : ℕ) (b : Breakpoint) → inUse b ≡ true → b .address ≡ a → matches (At a) b ≡ true
 unfolding matches
-at-matches a b u e = &&-both (b .used) (eqb (b .address) a) u (eq-eqb (b .address) a e)
+at-matches a b u e = &&-both (inUse b) (eqb (b .address) a) u (eq-eqb (b .address) a e)
 
 -- ---- the search
 

@@ -1,23 +1,27 @@
--- What the requests that stop a process or let it go on, and a report, leave of it: whether it is there, its host, its size, and how many
+-- What the requests that stop a process or let it go on, END WATCH, BREAK, UNBREAK and a report leave of it: whether it is there, its host, its size, and how many
 -- entries, words and bytes it has. Assumes nothing.
 use mathlib.Core.Path.{_≡_, refl, ap, _∙_}
 use mathlib.Core.Bool.{Bool, true, false, cond}
 use mathlib.Core.List.{List}
 use Prim.Native.Nat.{ℕ}
-use lib.ListN.{length, set, length-set}
+use lib.ListN.{length, set, length-set, length-map}
 use lib.Dec.{ltb, eqb}
 use Rattle.breakpoints.specs.declared.entry.Breakpoint.{Breakpoint}
-use Rattle.breakpoints.specs.declared.entry_query.EntryQuery.the-variants.{Lifted, At}
+use Rattle.breakpoints.specs.declared.entry_query.EntryQuery.the-variants.{Free, Lifted, At}
+use Rattle.breakpoints.specs.Entry.{breakpointAt, withCount}
 use Rattle.process.specs.declared.report.Verdict.{Verdict}
 use Rattle.process.specs.declared.report.Verdict.the-variants.{Stops, CountsDown, GoesOn}
-use Rattle.process.specs.Record.{withRun, withVector}
+use Rattle.process.specs.Record.{entry, withRun, withVector, withEntry}
 use Rattle.process.specs.Find.{find}
 use Rattle.process.specs.Local.{Local}
-use Rattle.process.specs.Planting.{plantedIn, liftedIn, replanted, liftedAt}
-use Rattle.process.specs.Request.{pc, onRecord, broughtToStop, stopped, resumed, stepped, proceeded, vectorFrom, goingTo, wentOn, continued, steppedFrom}
+use Rattle.process.specs.Planting.{plantedIn, liftedIn, removedFrom, replanted, liftedAt}
+use Rattle.process.specs.Request.{pc, onRecord, watched, endWatched, broughtToStop, stopped, resumed, stepped, proceeded, vectorFrom, goingTo, wentOn, continued, steppedFrom, hasBreak, breakSet, breakRemoved}
 use Rattle.process.specs.Report.{storeVectorAndReplant, verdictOf, passed, carriedOut, reported}
+use Rattle.session.specs.declared.Owed.{Owed}
+use Rattle.run_state.specs.declared.Run.{Run}
 use Rattle.run_state.specs.declared.Run.the-variants.{Stopped}
 use Rattle.run_state.specs.RunState.{moving, atBreak}
+use Rattle.breakpoints.proofs.SeenLaws.{length-restored, length-seen}
 use Rattle.process.proofs.PlantingLaws.{length-liftedIn}
 
 -- all this of a process
@@ -99,6 +103,10 @@ pub shape-proceeded : (l : Local) → shape (proceeded l) ≡ shape l
 unfolding proceeded
 shape-proceeded l = shape-liftedAt (pc (l .process)) l
 
+pub shape-endWatched : (l : Local) → shape (endWatched l) ≡ shape l
+unfolding endWatched
+shape-endWatched l = simp (length-map, length-seen)
+
 pub shape-goingTo : (a : ℕ) (l : Local) → shape (goingTo a l) ≡ shape l
 unfolding vectorFrom
 shape-goingTo a l = go (eqb a 1)
@@ -119,6 +127,43 @@ pub shape-steppedFrom : (a : ℕ) (l : Local) → shape (steppedFrom a l) ≡ sh
 unfolding steppedFrom
 shape-steppedFrom a l = shape-stepped (goingTo a l) ∙ shape-goingTo a l
 
+pub shape-breakSet : (host a n : ℕ) (l : Local) → shape (breakSet host a n l) ≡ shape l
+unfolding breakSet
+shape-breakSet host a n l = shape-cond (hasBreak a (l .process)) _ _ (shape l) (simp length-set) (shape-plantedIn _ _ l)
+
+pub shape-breakRemoved : (a : ℕ) (l : Local) → shape (breakRemoved a l) ≡ shape l
+unfolding breakRemoved removedFrom
+shape-breakRemoved a l = simp (length-set, length-restored)
+
+-- ---- what WATCH, END WATCH, BREAK and UNBREAK leave besides: the run state, the vector and the owed answer
+
+pub record Going : Type 0 where
+  pub run : Run
+  pub vector : List ℕ
+  pub owed : Owed
+
+abbrev pub going : Local → Going
+going l = record { run = l .process .run; vector = l .process .vector; owed = l .process .session .owed }
+
+pub going-watched : (host : ℕ) (l : Local) → going (watched host l) ≡ going l
+going-watched host l = refl
+
+pub going-endWatched : (l : Local) → going (endWatched l) ≡ going l
+unfolding endWatched
+going-endWatched l = refl
+
+pub going-breakSet : (host a n : ℕ) (l : Local) → going (breakSet host a n l) ≡ going l
+unfolding breakSet plantedIn
+going-breakSet host a n l = go (hasBreak a (l .process))
+  where
+    go : (t : Bool) → going (cond t (onRecord (withEntry (find (At a) (l .process)) (withCount n (entry (l .process) (find (At a) (l .process))))) l) (plantedIn (find Free (l .process)) (breakpointAt a n host) l)) ≡ going l
+    go true = refl
+    go false = refl
+
+pub going-breakRemoved : (a : ℕ) (l : Local) → going (breakRemoved a l) ≡ going l
+unfolding breakRemoved removedFrom
+going-breakRemoved a l = refl
+
 -- ---- a report
 
 -- it stores its own words, and leaves the rest
@@ -131,6 +176,6 @@ unfolding reported passed
 shape-reported kind words l = go (verdictOf kind (storeVectorAndReplant words l .process))
   where
     go : (v : Verdict) → shape (carriedOut v kind (storeVectorAndReplant words l)) ≡ shape (onRecord (withVector words) l)
-    go Stops = shape-stored words l
+    go (Stops host) = shape-stored words l
     go (CountsDown k) = shape-liftedIn k _ ∙ simp length-set (shape-stored words l)
     go GoesOn = shape-stored words l

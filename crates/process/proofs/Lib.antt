@@ -6,10 +6,14 @@ pub mod SoundLaws
 pub mod DepositLaws
 pub mod TestedLaws
 pub mod PlantingLaws
+pub mod SoundKept
 pub mod ReportLaws
 pub mod KeptLaws
 pub mod AnswerLaws
 pub mod SeenKept
-pub mod SoundKept
+pub mod WatchLaws
+pub mod EntryKept
+pub mod EndWatchLaws
+pub mod WatcherKept
 pub mod TheoremLaws
 pub mod ProperLaws

@@ -11,7 +11,7 @@ use lib.Dec.{eqb, ltb}
 use Rattle.breakpoints.specs.declared.entry.Breakpoint.{Breakpoint}
 use Rattle.process.specs.declared.record.Process.{Process}
 use Rattle.breakpoints.specs.declared.entry_query.EntryQuery.the-variants.{Lifted, At}
-use Rattle.breakpoints.specs.Entry.{free}
+use Rattle.breakpoints.specs.Entry.{free, inUse}
 use Rattle.process.specs.Record.{entry, withEntry}
 use Rattle.process.specs.Find.{find}
 use Rattle.breakpoints.specs.Seen.{bptStored}
@@ -81,7 +81,15 @@ extent-liftedAt pc l = go (ltb (find (At pc) (l .process)) 8)
     go true = refl
     go false = refl
 
--- ---- it runs and owes as before
+-- ---- its host debugs it, it runs and it owes as before
+
+pub host-replanted : (l : Local) → replanted l .process .host ≡ l .process .host
+unfolding replanted plantedIn
+host-replanted l = go (ltb (find Lifted (l .process)) 8)
+  where
+    go : (t : Bool) → cond t (plantedIn (find Lifted (l .process)) (entry (l .process) (find Lifted (l .process))) l) l .process .host ≡ l .process .host
+    go true = refl
+    go false = refl
 
 pub run-replanted : (l : Local) → replanted l .process .run ≡ l .process .run
 unfolding replanted plantedIn
@@ -102,10 +110,10 @@ session-replanted l = go (ltb (find Lifted (l .process)) 8)
 -- ---- breakpoints within the bytes
 
 -- another breakpoint in an entry, whose word is within them
-pub inside-entry : (p : Process) (m : List ℕ) (k : ℕ) (b : Breakpoint) → length (p .breaks) ≡ 8 → k < 8 → Inside p m → (b .used ≡ true → b .address + 1 < length m) → Inside (withEntry k b p) m
+pub inside-entry : (p : Process) (m : List ℕ) (k : ℕ) (b : Breakpoint) → length (p .breaks) ≡ 8 → k < 8 → Inside p m → (inUse b ≡ true → b .address + 1 < length m) → Inside (withEntry k b p) m
 inside-entry p m k b eight h i w j l = go (eqb j k) refl
   where
-    go : (t : Bool) → eqb j k ≡ t → entry (withEntry k b p) j .used ≡ true → entry (withEntry k b p) j .address + 1 < length m
+    go : (t : Bool) → eqb j k ≡ t → inUse (entry (withEntry k b p) j) ≡ true → entry (withEntry k b p) j .address + 1 < length m
     go true e =
         let q : entry (withEntry k b p) j ≡ b = rw (eqb-true j k e) (getD-set-same (p .breaks) k b free (omega arith)) in
         rw q w

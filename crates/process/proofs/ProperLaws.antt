@@ -1,17 +1,17 @@
--- What STOP, `c`, `s` and DEBUG leave of a process is again a sound record with eight entries and its bytes. Assumes nothing.
-use mathlib.Core.Path.{_≡_, sym, _∙_}
-use mathlib.Core.Bool.{true}
+-- What STOP, `c`, `s`, DEBUG, WATCH, END WATCH and BREAK leave of a process is again a sound record with eight entries and its bytes. Assumes nothing.
+use mathlib.Core.Path.{_≡_, refl, sym, _∙_}
+use mathlib.Core.Bool.{true, false}
 use mathlib.Core.Logic.{_⊎_}
-use Prim.Native.Nat.{ℕ}
+use Prim.Native.Nat.{ℕ, _+_, _≤_, _%_}
 use Rattle.run_state.specs.RunState.{stoppedOrAtBreak}
 use Rattle.session.specs.Session.{textHost}
 use Rattle.process.specs.Record.{withHost}
-use Rattle.process.specs.Sound.{Sound}
+use Rattle.process.specs.Sound.{Sound, DebugsOrWatches}
 use Rattle.process.specs.Local.{Local, extent, Proper}
-use Rattle.process.specs.Request.{debugged, stopped, continued, steppedFrom}
+use Rattle.process.specs.Request.{hasBreak, hasRoom, debugged, watched, endWatched, stopped, continued, steppedFrom, breakSet}
 use Rattle.process.proofs.SoundTestLaws.{sound-passes}
 use Rattle.process.proofs.TestedLaws.{tested-sound}
-use Rattle.process.proofs.KeptLaws.{shape, same-there, same-size, same-entries, same-bytes, shape-stopped, shape-continued, shape-steppedFrom}
+use Rattle.process.proofs.KeptLaws.{shape, same-there, same-size, same-entries, same-bytes, shape-stopped, shape-endWatched, shape-continued, shape-steppedFrom, shape-breakSet}
 use Rattle.process.proofs.TheoremLaws.{sound-stays}
 
 -- a sound process of the shape of a proper one
@@ -36,3 +36,16 @@ module _ (l : Local) (g : Proper l) where
   debugged-proper host t n b =
       let s = sound-stays .debug host (l .process) (tested-sound (l .process) (l .bytes) (g .tested)) t n b in
       record { tested = record { sound = sound-passes (withHost host (l .process)) (g .eight) s; size = g .tested .size }; eight = g .eight }
+
+  -- the asker watches it, where nobody or he did before, and another debugs it
+  pub watched-proper : (host : ℕ) → (l .process .host ≡ 0 → ⊥) → (host ≡ l .process .host → ⊥) → (l .process .session .watcher ≡ 0) ⊎ (l .process .session .watcher ≡ host) → Proper (watched host l)
+  watched-proper host n m b =
+      shape-proper (watched host l) l refl (sound-stays .watch host (l .process) (tested-sound (l .process) (l .bytes) (g .tested)) n m b) g
+
+  pub end-watched-proper : Proper (endWatched l)
+  end-watched-proper = shape-proper (endWatched l) l (shape-endWatched l) (sound-stays .end-watch l g) g
+
+  -- a breakpoint of the host or the watcher, where one is at the address or there is room
+  pub break-proper : (host a n : ℕ) → (l .process .host ≡ 0 → ⊥) → DebugsOrWatches (l .process) host → a % 2 ≡ 0 → a + 2 ≤ l .process .size
+      → (hasBreak a (l .process) ≡ false → hasRoom (l .process) ≡ true) → Proper (breakSet host a n l)
+  break-proper host a n h i e w r = shape-proper (breakSet host a n l) l (shape-breakSet host a n l) (sound-stays .break host a n l g h i e w r) g

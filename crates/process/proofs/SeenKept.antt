@@ -9,7 +9,7 @@ use lib.Dec.{ltb}
 use Rattle.breakpoints.specs.declared.entry.Breakpoint.{Breakpoint}
 use Rattle.process.specs.declared.record.Process.{Process}
 use Rattle.breakpoints.specs.declared.entry_query.EntryQuery.the-variants.{Free, Lifted, At}
-use Rattle.breakpoints.specs.Entry.{free, breakpointAt, withLifted, withCount}
+use Rattle.breakpoints.specs.Entry.{free, breakpointAt, withLifted, withCount, inUse}
 use Rattle.process.specs.Record.{entry, withEntry}
 use Rattle.process.specs.Find.{find}
 use Rattle.process.specs.Sound.{Sound}
@@ -19,7 +19,7 @@ use Rattle.process.specs.Planting.{plantedIn, liftedIn, removedFrom, rep
 use Rattle.process.specs.Request.{hasBreak, hasRoom}
 use Rattle.process.specs.Theorems.{seenOf}
 use Rattle.process.proofs.FindLaws.{matches-free, matches-lifted, find-matches, find-before, at-matches}
-use Rattle.breakpoints.proofs.SeenLaws.{Spaced, planted-used, seen-unplanted, seen-planted, seen-alike}
+use Rattle.breakpoints.proofs.SeenLaws.{Spaced, planted-used, seen-unplanted, seen-planted, seen-alike, some-set}
 use Rattle.process.proofs.SoundLaws.{sound-apart}
 use Rattle.process.proofs.TestedLaws.{tested-sound, tested-spaced}
 
@@ -45,14 +45,14 @@ module _ (l : Local) (g : Proper l) where
   unfolding liftedIn
   seen-liftedIn k h =
       let e = g .eight in
-      seen-unplanted (p .breaks) k (withLifted (entry p k)) (l .bytes) (omega arith) (lifted-not (entry p k .used) true refl) (spaced k h)
+      seen-unplanted (p .breaks) k (withLifted (entry p k)) (l .bytes) (omega arith) (lifted-not (inUse (entry p k)) true refl) (spaced k h)
 
   pub seen-removedFrom : (k : ℕ) → k < 8 → seenOf (removedFrom k l) ≡ seenOf l
   unfolding removedFrom
   seen-removedFrom k h = let e = g .eight in seen-unplanted (p .breaks) k free (l .bytes) (omega arith) refl (spaced k h)
 
   -- a breakpoint planted where no other is
-  pub seen-plantedIn : (k : ℕ) (b : Breakpoint) → k < 8 → isPlanted (entry p k) ≡ false → b .used ≡ true → b .address % 2 ≡ 0
+  pub seen-plantedIn : (k : ℕ) (b : Breakpoint) → k < 8 → isPlanted (entry p k) ≡ false → inUse b ≡ true → b .address % 2 ≡ 0
       → ((j : ℕ) → j < 8 → isPlanted (entry p j) ≡ true → entry p j .address ≡ b .address → ⊥) → seenOf (plantedIn k b l) ≡ seenOf l
   unfolding plantedIn
   seen-plantedIn k b h none used even apart =
@@ -84,7 +84,7 @@ module _ (l : Local) (g : Proper l) where
           let k = find Lifted p in
           let h : find Lifted p < 8 = ltb-true _ _ e in
           let m = matches-lifted (entry p k) (find-matches Lifted p (g .eight) h) in
-          let none : isPlanted (entry p k) ≡ false = lifted-not (entry p k .used) (entry p k .lifted) (m .1) in
+          let none : isPlanted (entry p k) ≡ false = lifted-not (inUse (entry p k)) (entry p k .lifted) (m .1) in
           seen-plantedIn k (entry p k) h none (m .0) (sound .even k h (m .0))
           (λ j i x q. let n : j ≡ k → ⊥ = λ z. true≢false (sym x ∙ ap (λ (y : ℕ). isPlanted (entry p y)) z ∙ none) in
           sound-apart p sound j k i h n (planted-used (entry p j) x) (m .0) .different q)
@@ -95,14 +95,14 @@ module _ (l : Local) (g : Proper l) where
   seen-removed a e = seen-removedFrom (find (At a) p) (ltb-true _ _ e)
 
   -- a new breakpoint, in a free entry
-  pub seen-new : (a n : ℕ) → a % 2 ≡ 0 → hasBreak a p ≡ false → hasRoom p ≡ true → seenOf (plantedIn (find Free p) (breakpointAt a n) l) ≡ seenOf l
+  pub seen-new : (host a n : ℕ) → (host ≡ 0 → ⊥) → a % 2 ≡ 0 → hasBreak a p ≡ false → hasRoom p ≡ true → seenOf (plantedIn (find Free p) (breakpointAt a n host) l) ≡ seenOf l
   unfolding hasBreak hasRoom
-  seen-new a n even none room =
+  seen-new host a n named even none room =
       let k = find Free p in
       let h : find Free p < 8 = ltb-true _ _ room in
       let u = matches-free (entry p k) (find-matches Free p (g .eight) h) in
       let past = ltb-false (find (At a) p) 8 none in
-      seen-plantedIn k (breakpointAt a n) h (rw u) refl even
+      seen-plantedIn k (breakpointAt a n host) h (rw u) (some-set (breakpointAt a n host) named) even
       (λ j i x q. find-before (At a) p j (omega (arith, past)) (at-matches a (entry p j) (planted-used (entry p j) x) q))
 
   -- a count

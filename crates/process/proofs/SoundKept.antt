@@ -1,6 +1,6 @@
 -- A sound record stays sound when a breakpoint is planted, lifted, passed, removed or planted again. Assumes nothing.
 use mathlib.Core.Path.{_≡_, refl, sym, ap, _∙_}
-use mathlib.Core.Bool.{Bool, true, false, not, cond, true≢false}
+use mathlib.Core.Bool.{Bool, true, false, cond, true≢false}
 use mathlib.Core.List.{List}
 use Prim.Native.Nat.{ℕ, _+_, _≤_, _<_, _%_}
 use native.Mathlib.Omega.{arith}
@@ -11,11 +11,11 @@ use lib.Dec.{ltb, eqb}
 use Rattle.breakpoints.specs.declared.entry.Breakpoint.{Breakpoint}
 use Rattle.process.specs.declared.record.Process.{Process}
 use Rattle.breakpoints.specs.declared.entry_query.EntryQuery.the-variants.{Lifted, At}
-use Rattle.breakpoints.specs.Entry.{free, withLifted, withCount}
+use Rattle.breakpoints.specs.Entry.{free, withLifted, withCount, inUse}
 use Rattle.breakpoints.specs.Seen.{planted}
 use Rattle.process.specs.Record.{entry, withEntry}
 use Rattle.process.specs.Find.{find}
-use Rattle.process.specs.Sound.{Sound}
+use Rattle.process.specs.Sound.{Sound, DebugsOrWatches}
 use Rattle.run_state.specs.RunState.{steppingOrPassing}
 use Rattle.process.specs.Local.{Local, local, extent, Proper}
 use Rattle.process.specs.Planting.{plantedIn, liftedIn, replanted, liftedAt}
@@ -26,7 +26,7 @@ use Rattle.process.proofs.SoundTestLaws.{sound-passes}
 
 -- no breakpoint is lifted
 abbrev pub NoneLifted : Process → Type 0
-NoneLifted p = (k : ℕ) → k < 8 → entry p k .used ≡ true → entry p k .lifted ≡ true → ⊥
+NoneLifted p = (k : ℕ) → k < 8 → inUse (entry p k) ≡ true → entry p k .lifted ≡ true → ⊥
 
 module _ (p : Process) (s : Sound p) (eight : length (p .breaks) ≡ 8) where
   -- a process that is neither stepping nor passing has none
@@ -39,26 +39,26 @@ module _ (p : Process) (s : Sound p) (eight : length (p .breaks) ≡ 8) where
   sound-removed k h = sound-entry p s eight k h free (λ u. absurd (true≢false (sym u))) (λ j i n v u. absurd (true≢false (sym u)))
 
   -- planted at an address that no other entry has
-  pub sound-planted : (k : ℕ) (b : Breakpoint) (m : List ℕ) → k < 8 → (p .host ≡ 0 → ⊥) → b .address % 2 ≡ 0 → b .address + 2 ≤ p .size
-      → ((j : ℕ) → j < 8 → (j ≡ k → ⊥) → entry p j .used ≡ true → entry p j .address ≡ b .address → ⊥) → Sound (withEntry k (planted m b) p)
-  sound-planted k b m h host even within apart =
+  pub sound-planted : (k : ℕ) (b : Breakpoint) (m : List ℕ) → k < 8 → (p .host ≡ 0 → ⊥) → DebugsOrWatches p (b .setter) → b .address % 2 ≡ 0 → b .address + 2 ≤ p .size
+      → ((j : ℕ) → j < 8 → (j ≡ k → ⊥) → inUse (entry p j) ≡ true → entry p j .address ≡ b .address → ⊥) → Sound (withEntry k (planted m b) p)
+  sound-planted k b m h host set-by even within apart =
       sound-entry p s eight k h (planted m b)
-      (λ u. record { hosted = host; even = even; within = within; lifted-while = λ z. absurd (true≢false (sym z)) })
+      (λ u. record { hosted = host; even = even; within = within; lifted-while = λ z. absurd (true≢false (sym z)); set-by = set-by })
       (λ j i n v u. record { different = apart j i n v; one-lifted = λ c d. true≢false (sym d) })
 
   -- lifted while the process is stepping or passing and no other is
-  pub sound-lifted : (k : ℕ) → k < 8 → entry p k .used ≡ true → steppingOrPassing (p .run) ≡ true → NoneLifted p → Sound (withEntry k (withLifted (entry p k)) p)
+  pub sound-lifted : (k : ℕ) → k < 8 → inUse (entry p k) ≡ true → steppingOrPassing (p .run) ≡ true → NoneLifted p → Sound (withEntry k (withLifted (entry p k)) p)
   sound-lifted k h u m none =
       let e = sound-kept p s k h u in
       sound-entry p s eight k h (withLifted (entry p k))
-      (λ v. record { hosted = e .hosted; even = e .even; within = e .within; lifted-while = λ z. m })
+      (λ v. record { hosted = e .hosted; even = e .even; within = e .within; lifted-while = λ z. m; set-by = e .set-by })
       (λ j i n v w. record { different = sound-apart p s j k i h n v u .different; one-lifted = λ c d. none j i v c })
 
   -- with another count
   pub sound-count : (k n : ℕ) → k < 8 → Sound (withEntry k (withCount n (entry p k)) p)
   sound-count k n h =
       sound-entry p s eight k h (withCount n (entry p k))
-      (λ u. let e = sound-kept p s k h u in record { hosted = e .hosted; even = e .even; within = e .within; lifted-while = e .lifted-while })
+      (λ u. let e = sound-kept p s k h u in record { hosted = e .hosted; even = e .even; within = e .within; lifted-while = e .lifted-while; set-by = e .set-by })
       (λ j i m v u. let e = sound-apart p s j k i h m v u in record { different = e .different; one-lifted = e .one-lifted })
 
   -- ---- what finds its entry first
@@ -84,7 +84,7 @@ module _ (p : Process) (s : Sound p) (eight : length (p .breaks) ≡ 8) where
           let h : find Lifted p < 8 = ltb-true _ _ e in
           let u = matches-lifted (entry p k) (find-matches Lifted p eight h) .0 in
           let c = sound-kept p s k h u in
-          sound-planted k (entry p k) m h (c .hosted) (c .even) (c .within)
+          sound-planted k (entry p k) m h (c .hosted) (c .set-by) (c .even) (c .within)
           (λ j i n v. sound-apart p s j k i h n v u .different)
       go false e = s
 
@@ -103,7 +103,7 @@ module _ (p : Process) (s : Sound p) (eight : length (p .breaks) ≡ 8) where
           b : Breakpoint
           b = planted m (entry p (find Lifted p))
 
-          at : (t : Bool) → eqb j (find Lifted p) ≡ t → getD (set (p .breaks) (find Lifted p) b) j free .used ≡ true
+          at : (t : Bool) → eqb j (find Lifted p) ≡ t → inUse (getD (set (p .breaks) (find Lifted p) b) j free) ≡ true
               → getD (set (p .breaks) (find Lifted p) b) j free .lifted ≡ true → ⊥
           at true q u x =
               let h : find Lifted p < 8 = ltb-true _ _ e in

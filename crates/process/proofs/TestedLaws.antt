@@ -8,20 +8,21 @@ use lib.ListN.{length, length-map}
 use Rattle.process.specs.declared.record.Process.{Process}
 use Rattle.process.specs.Record.{entry, withVector, withBreaks}
 use Rattle.process.specs.Find.{find}
-use Rattle.process.specs.Sound.{Sound, absentHasNoHost, liftSound, usedSound, entrySound, keepsRules, soundTest}
+use Rattle.process.specs.Sound.{Sound, absentHasNoHost, liftSound, setterSound, usedSound, entrySound, keepsRules, soundTest}
 use Rattle.breakpoints.specs.Seen.{savedFrom}
 use Rattle.process.specs.Local.{Tested}
 use Rattle.process.proofs.SoundTestLaws.{passes-sound, sound-passes}
 use Rattle.breakpoints.proofs.SeenLaws.{planted-used}
 use Rattle.process.proofs.DepositLaws.{AllSpaced, map-alike}
 use Rattle.process.proofs.SoundLaws.{sound-alike}
+use Rattle.breakpoints.specs.Entry.{inUse}
 
 module _ (p : Process) (bytes : List ℕ) (t : Tested p bytes) where
   pub tested-sound : Sound p
   tested-sound = passes-sound p (t .sound)
 
   -- a process with a breakpoint is there
-  used-there : (k : ℕ) → k < 8 → entry p k .used ≡ true → p .there ≡ true
+  used-there : (k : ℕ) → k < 8 → inUse (entry p k) ≡ true → p .there ≡ true
   used-there k h u = go (p .there) refl
     where
       go : (b : Bool) → p .there ≡ b → b ≡ true
@@ -29,7 +30,7 @@ module _ (p : Process) (bytes : List ℕ) (t : Tested p bytes) where
       go false e = absurd (true≢false (sym u ∙ tested-sound .absent e .1 k h))
 
   -- a breakpoint's word is within the process's bytes
-  pub tested-inside : (k : ℕ) → k < 8 → entry p k .used ≡ true → entry p k .address + 1 < length bytes
+  pub tested-inside : (k : ℕ) → k < 8 → inUse (entry p k) ≡ true → entry p k .address + 1 < length bytes
   tested-inside k h u =
       let here : p .there ≡ true = used-there k h u in
       let size : length bytes ≡ p .size = rw here at (t .size) in
@@ -48,7 +49,7 @@ module _ (p : Process) (bytes : List ℕ) (t : Tested p bytes) where
 
 -- the tests do not ask of the vector
 pub tested-vector : (v : List ℕ) (p : Process) (m : List ℕ) → Tested p m → Tested (withVector v p) m
-unfolding soundTest keepsRules absentHasNoHost entrySound usedSound liftSound find
+unfolding soundTest keepsRules absentHasNoHost entrySound usedSound setterSound liftSound find
 tested-vector v p m t = record { sound = t .sound; size = t .size }
 
 -- after the exchange of saved words and memory the tests still hold, for any bytes of the same number

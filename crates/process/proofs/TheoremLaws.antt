@@ -20,10 +20,10 @@ use Rattle.session.specs.Session.{textHost, noSession}
 use Rattle.process.specs.declared.report.Verdict.{Verdict}
 use Rattle.process.specs.declared.report.Verdict.the-variants.{Stops, CountsDown, GoesOn}
 use Rattle.breakpoints.specs.declared.entry_query.EntryQuery.the-variants.{Free, At}
-use Rattle.breakpoints.specs.Entry.{free, breakpointAt, withCount}
+use Rattle.breakpoints.specs.Entry.{free, breakpointAt, withCount, inUse}
 use Rattle.process.specs.Record.{noBreaks, entry, fresh, withHost, withRun, withVector, withBreaks, withSession, withEntry}
 use Rattle.process.specs.Find.{find}
-use Rattle.process.specs.Sound.{Sound, SizeRight}
+use Rattle.process.specs.Sound.{Sound, SizeRight, DebugsOrWatches}
 use Rattle.run_state.specs.RunState.{moving, steppingOrPassing, stoppedOrAtBreak, atBreak, released, afterPass, accepts, runAfter}
 use Rattle.breakpoints.specs.Seen.{putWord, isPlanted, restored, seen, savedFrom}
 use Rattle.process.specs.Local.{Local, local, extent, Proper}
@@ -35,13 +35,14 @@ use Rattle.run_state.proofs.RunLaws.{stoppedOrAtBreak-still, atBreak-stopped, a
 use Rattle.process.proofs.FindLaws.{matches-at, find-matches, find-before, at-matches}
 use Rattle.breakpoints.proofs.SeenLaws.{length-seen, restored-planted}
 use Rattle.process.proofs.DepositLaws.{sheltered-seen, map-alike}
-use Rattle.process.proofs.SoundLaws.{sound-vector, sound-run, sound-owing, sound-host, sound-free, sound-alike}
+use Rattle.process.proofs.SoundLaws.{sound-vector, sound-run, sound-owing, sound-watched, sound-host, sound-free, sound-alike}
 use Rattle.process.proofs.PlantingLaws.{length-entry, run-replanted}
 use Rattle.process.proofs.KeptLaws.{same-host, shape-stepped, shape-wentOn}
 use Rattle.process.proofs.SoundTestLaws.{sound-passes}
 use Rattle.process.proofs.TestedLaws.{tested-sound, tested-spaced}
 use Rattle.process.proofs.ReportLaws.{counts-low, counts-used}
 use Rattle.process.proofs.SeenKept.{seen-liftedIn, seen-liftedAt, seen-replanted, seen-removed, seen-new, seen-count}
+use Rattle.process.proofs.WatchLaws.{end-watch-seen, end-watch-sound}
 use Rattle.process.proofs.SoundKept.{NoneLifted, still-none, sound-removed, sound-planted, sound-lifted, sound-count, sound-replanted, none-replanted, proper-replanted}
 
 sound-of : (l : Local) → Proper l → Sound (l .process)
@@ -77,14 +78,14 @@ deposit-is-seen = record { whole = whole; read-back = read-back; elsewhere = els
 
 -- ---- nothing else changes what is seen
 
-break-seen : (a n : ℕ) (l : Local) → Proper l → a % 2 ≡ 0 → (hasBreak a (l .process) ≡ false → hasRoom (l .process) ≡ true) → seenOf (breakSet a n l) ≡ seenOf l
+break-seen : (host a n : ℕ) (l : Local) → Proper l → (host ≡ 0 → ⊥) → a % 2 ≡ 0 → (hasBreak a (l .process) ≡ false → hasRoom (l .process) ≡ true) → seenOf (breakSet host a n l) ≡ seenOf l
 unfolding breakSet
-break-seen a n l g even room = go (hasBreak a (l .process)) refl
+break-seen host a n l g named even room = go (hasBreak a (l .process)) refl
   where
     go : (t : Bool) → hasBreak a (l .process) ≡ t
-        → seenOf (cond t (onRecord (withEntry (find (At a) (l .process)) (withCount n (entry (l .process) (find (At a) (l .process))))) l) (plantedIn (find Free (l .process)) (breakpointAt a n) l)) ≡ seenOf l
+        → seenOf (cond t (onRecord (withEntry (find (At a) (l .process)) (withCount n (entry (l .process) (find (At a) (l .process))))) l) (plantedIn (find Free (l .process)) (breakpointAt a n host) l)) ≡ seenOf l
     go true e = seen-count l g (find (At a) (l .process)) n
-    go false e = seen-new l g a n even e (room e)
+    go false e = seen-new l g host a n named even e (room e)
 
 unbreak-seen : (a : ℕ) (l : Local) → Proper l → hasBreak a (l .process) ≡ true → seenOf (breakRemoved a l) ≡ seenOf l
 unfolding breakRemoved
@@ -157,12 +158,12 @@ unfolding reported
 report-seen kind words l g = go (verdictOf kind (storeVectorAndReplant words l .process)) refl ∙ stored-seen words l g
   where
     go : (v : Verdict) → verdictOf kind (storeVectorAndReplant words l .process) ≡ v → seenOf (carriedOut v kind (storeVectorAndReplant words l)) ≡ seenOf (storeVectorAndReplant words l)
-    go Stops e = refl
+    go (Stops host) e = refl
     go (CountsDown k) e = passed-seen k (storeVectorAndReplant words l) (counts-low kind (storeVectorAndReplant words l .process) k e) (vector-proper words l g)
     go GoesOn e = refl
 
 pub seen-stays : SeenStays
-seen-stays = record { break = break-seen; unbreak = unbreak-seen; stop = stop-seen; step = step-seen; proceed = proceed-seen; continue = continue-seen; step-from = step-from-seen; report = report-seen }
+seen-stays = record { break = break-seen; unbreak = unbreak-seen; end-watch = end-watch-seen; stop = stop-seen; step = step-seen; proceed = proceed-seen; continue = continue-seen; step-from = step-from-seen; report = report-seen }
 
 -- ---- END DEBUG
 
@@ -170,7 +171,7 @@ pub end-debug-restores : EndDebugRestores
 unfolding endDebugged
 end-debug-restores = record {
   memory = λ l. refl;
-  none-left = λ l k h. ap (λ (b : Breakpoint). b .used) (getD-replicate 8 k free free h);
+  none-left = λ l k h. ap (λ (b : Breakpoint). inUse b) (getD-replicate 8 k free free h);
 }
 
 -- ---- a store under a planted breakpoint
@@ -237,7 +238,7 @@ running-is-planted p s r k h u = go (entry p k .lifted) refl
 end-debug-sound : (l : Local) → Proper l → Sound (endDebugged l .process)
 unfolding endDebugged
 end-debug-sound l g =
-    sound-free (withRun (released (l .process .run)) (withHost 0 (withSession noSession (withBreaks noBreaks (l .process))))) (sound-of l g .sized) refl refl (λ t. refl)
+    sound-free (withRun (released (l .process .run)) (withHost 0 (withSession noSession (withBreaks noBreaks (l .process))))) (sound-of l g .sized) refl refl refl (λ t. refl)
 
 halt-sound : (l : Local) → Proper l → Sound (broughtToStop l .process)
 unfolding broughtToStop
@@ -256,7 +257,7 @@ stop-sound l g = sound-owing Nothing (broughtToStop l .process) (λ i. absurd (t
 
 -- the breakpoint in an entry is lifted as a process that had none lifted starts to step or to pass
 module _ (l : Local) (g : Proper l) (none : NoneLifted (l .process)) where
-  lifted-in-sound : (r : Run) (k : ℕ) → steppingOrPassing r ≡ true → k < 8 → entry (l .process) k .used ≡ true → Sound (withRun r (liftedIn k l .process))
+  lifted-in-sound : (r : Run) (k : ℕ) → steppingOrPassing r ≡ true → k < 8 → inUse (entry (l .process) k) ≡ true → Sound (withRun r (liftedIn k l .process))
   unfolding liftedIn
   lifted-in-sound r k while h u =
       sound-lifted (withRun r (l .process)) (sound-run r (l .process) (λ j i v x. while) (sound-of l g)) (g .eight) k h u while none
@@ -324,20 +325,20 @@ deposit-sound at string l g =
     sound-alike (map (savedFrom (toBeSeen at string l)) (l .process .breaks)) (l .process)
     (λ k h. map-alike (toBeSeen at string l) (l .process .breaks) k (omega arith)) (sound-of l g)
 
-break-sound : (a n : ℕ) (l : Local) → Proper l → (l .process .host ≡ 0 → ⊥) → a % 2 ≡ 0 → a + 2 ≤ l .process .size
-    → (hasBreak a (l .process) ≡ false → hasRoom (l .process) ≡ true) → Sound (breakSet a n l .process)
+break-sound : (host a n : ℕ) (l : Local) → Proper l → (l .process .host ≡ 0 → ⊥) → DebugsOrWatches (l .process) host → a % 2 ≡ 0 → a + 2 ≤ l .process .size
+    → (hasBreak a (l .process) ≡ false → hasRoom (l .process) ≡ true) → Sound (breakSet host a n l .process)
 unfolding breakSet plantedIn hasBreak hasRoom
-break-sound a n l g host even within room = go (ltb (find (At a) (l .process)) 8) refl
+break-sound host a n l g hosted set-by even within room = go (ltb (find (At a) (l .process)) 8) refl
   where
     p : Process
     p = l .process
 
     go : (t : Bool) → ltb (find (At a) (l .process)) 8 ≡ t
-        → Sound (cond t (onRecord (withEntry (find (At a) (l .process)) (withCount n (entry (l .process) (find (At a) (l .process))))) l) (plantedIn (find Free (l .process)) (breakpointAt a n) l) .process)
+        → Sound (cond t (onRecord (withEntry (find (At a) (l .process)) (withCount n (entry (l .process) (find (At a) (l .process))))) l) (plantedIn (find Free (l .process)) (breakpointAt a n host) l) .process)
     go true e = sound-count (l .process) (sound-of l g) (g .eight) (find (At a) (l .process)) n (ltb-true _ _ e)
     go false e =
         let past = ltb-false (find (At a) (l .process)) 8 e in
-        sound-planted (l .process) (sound-of l g) (g .eight) (find Free (l .process)) (breakpointAt a n) (l .bytes) (ltb-true _ _ (room e)) host even within
+        sound-planted (l .process) (sound-of l g) (g .eight) (find Free (l .process)) (breakpointAt a n host) (l .bytes) (ltb-true _ _ (room e)) hosted set-by even within
         (λ j h m u q. find-before (At a) (l .process) j (omega (arith, past)) (at-matches a (entry (l .process) j) u q))
 
 unbreak-sound : (a : ℕ) (l : Local) → Proper l → hasBreak a (l .process) ≡ true → Sound (breakRemoved a l .process)
@@ -349,11 +350,11 @@ whole-size = record { even = refl; least = omega arith; most = omega arith }
 
 create-sound : (host size : ℕ) → SizeRight size → Sound (created host size .process)
 unfolding created fresh
-create-sound host size right = sound-free (fresh true host Stopped size) right refl refl (λ t. absurd (true≢false t))
+create-sound host size right = sound-free (fresh true host Stopped size) right refl refl refl (λ t. absurd (true≢false t))
 
 destroy-sound : Sound cleared
 unfolding cleared fresh
-destroy-sound = sound-free (fresh false 0 Running 4096) whole-size refl refl (λ t. refl)
+destroy-sound = sound-free (fresh false 0 Running 4096) whole-size refl refl refl (λ t. refl)
 
 -- ---- a report
 
@@ -375,14 +376,14 @@ none-counted k n p h none j i = go (eqb j k) refl
     c : Process
     c = withEntry k (withCount n (entry p k)) p
 
-    go : (t : Bool) → eqb j k ≡ t → entry (withEntry k (withCount n (entry p k)) p) j .used ≡ true → entry (withEntry k (withCount n (entry p k)) p) j .lifted ≡ true → ⊥
+    go : (t : Bool) → eqb j k ≡ t → inUse (entry (withEntry k (withCount n (entry p k)) p) j) ≡ true → entry (withEntry k (withCount n (entry p k)) p) j .lifted ≡ true → ⊥
     go true e =
         let q : j ≡ k = eqb-true j k e in
         let here : entry (withEntry k (withCount n (entry p k)) p) j ≡ withCount n (entry p k) = rw q (entry-counted k n p h) in
         rw here (rw q at (none j i))
     go false e = rw (getD-set-other (p .breaks) k j (withCount n (entry p k)) free (eqb-false j k e)) (none j i)
 
-passed-sound : (k : ℕ) (l : Local) → k < 8 → Proper l → entry (l .process) k .used ≡ true → moving (l .process .run) ≡ true → NoneLifted (l .process) → Sound (passed k l .process)
+passed-sound : (k : ℕ) (l : Local) → k < 8 → Proper l → inUse (entry (l .process) k) ≡ true → moving (l .process .run) ≡ true → NoneLifted (l .process) → Sound (passed k l .process)
 unfolding passed
 passed-sound k l h g u m none =
     let n = entry (l .process) k .count - 1 in
@@ -401,7 +402,7 @@ report-sound kind words l g a = go (verdictOf kind (storeVectorAndReplant words 
         sound-run r (storeVectorAndReplant words l .process) (λ k h u x. absurd (none-stored words l g k h u x)) (sound-of (storeVectorAndReplant words l) (vector-proper words l g))
 
     go : (v : Verdict) → verdictOf kind (storeVectorAndReplant words l .process) ≡ v → Sound (carriedOut v kind (storeVectorAndReplant words l) .process)
-    go Stops e = sound-owing Nothing _ (λ i. absurd (true≢false (sym i))) (stored-run (runAfter kind))
+    go (Stops host) e = sound-owing Nothing _ (λ i. absurd (true≢false (sym i))) (stored-run (runAfter kind))
     go GoesOn e = stored-run Running
     go (CountsDown k) e =
         let proper′ = vector-proper words l g in
@@ -412,6 +413,8 @@ pub sound-stays : SoundStays
 sound-stays = record {
   debug = λ host p s t n b. sound-host host p t n b s;
   end-debug = end-debug-sound;
+  watch = sound-watched;
+  end-watch = end-watch-sound;
   stop = stop-sound;
   resume = resume-sound;
   step = step-sound;

@@ -8,6 +8,7 @@ use Rattle.process.specs.declared.record.Process.{Process}
 use Rattle.process.specs.Sizes.{entryCount}
 use Rattle.process.specs.Record.{entry}
 use Rattle.process.specs.Sound.{soundTest}
+use Rattle.breakpoints.specs.Entry.{inUse}
 
 -- the record, and the bytes
 pub record Local : Type 0 where
@@ -34,7 +35,7 @@ pub record Present (p : Process) (bytes : List ℕ) : Type 0 where
 
 -- the word of every breakpoint is within the process's bytes
 abbrev pub Inside : Process → List ℕ → Type 0
-Inside p bytes = (k : ℕ) → k < entryCount → entry p k .used ≡ true → entry p k .address + 1 < length bytes
+Inside p bytes = (k : ℕ) → k < entryCount → inUse (entry p k) ≡ true → entry p k .address + 1 < length bytes
 
 -- a sound process record with its eight entries and its bytes
 pub record Proper (l : Local) : Type 0 where

@@ -6,7 +6,7 @@ use lib.ListN.{getD, set, replicate}
 use Rattle.run_state.specs.declared.Run.{Run}
 use Rattle.session.specs.declared.Owed.{Owed}
 use Rattle.session.specs.declared.Session.{Session}
-use Rattle.session.specs.Session.{noSession, withOwed}
+use Rattle.session.specs.Session.{noSession, withOwed, withWatcher}
 use Rattle.breakpoints.specs.declared.entry.Breakpoint.{Breakpoint}
 use Rattle.breakpoints.specs.Entry.{free}
 use Rattle.process.specs.declared.record.Process.{Process}
@@ -43,6 +43,10 @@ withSession s p = record { there = p .there; host = p .host; run = p .run; size 
 -- with another owed answer
 abbrev pub owing : Owed → Process → Process
 owing o p = withSession (withOwed o (p .session)) p
+
+-- with another watcher
+abbrev pub watchedBy : ℕ → Process → Process
+watchedBy host p = withSession (withWatcher host (p .session)) p
 
 -- entry k of a process
 abbrev pub entry : Process → ℕ → Breakpoint

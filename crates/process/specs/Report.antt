@@ -27,9 +27,14 @@ storeVectorAndReplant words l = replanted (onRecord (withVector words) l)
 unfoldable pub passes : ℕ → Process → Bool
 passes kind p = eqb kind BPT && (hasBreak (pc p) p && ltb 0 (entry p (find (At (pc p)) p) .count))
 
--- what a report comes to, at a process whose vector is stored: it goes on, the breakpoint at PC counts down, or it stops
+-- 'A BPT notice at a breakpoint goes to the one who set it, other notices to the debugging host'
+unfoldable pub noticeHost : ℕ → Process → ℕ
+noticeHost kind p = cond (eqb kind BPT && hasBreak (pc p) p) (entry p (find (At (pc p)) p) .setter) (p .host)
+
+-- what a report comes to, at a process whose vector is stored: it goes on, the breakpoint at PC counts down, or it stops and this host is told
 unfoldable pub verdictOf : ℕ → Process → Verdict
-verdictOf kind p = cond (goesOn kind (p .run)) GoesOn (cond (passes kind p) (CountsDown (find (At (pc p)) p)) Stops)
+verdictOf kind p =
+    cond (goesOn kind (p .run)) GoesOn (cond (passes kind p) (CountsDown (find (At (pc p)) p)) (Stops (noticeHost kind p)))
 
 -- 'the count falls by one, that breakpoint is lifted', and a running process is passing: 'a silent pass'
 unfoldable pub passed : ℕ → Local → Local
@@ -39,7 +44,7 @@ passed k l =
 
 -- what each verdict does; of one that goes on: 'the stub replants the word and the process runs'; one that stops answers what is owed
 abbrev pub carriedOut : Verdict → ℕ → Local → Local
-carriedOut Stops kind l = onRecord (owing Nothing) (onRecord (withRun (runAfter kind)) l)
+carriedOut (Stops host) kind l = onRecord (owing Nothing) (onRecord (withRun (runAfter kind)) l)
 carriedOut (CountsDown k) kind l = passed k l
 carriedOut GoesOn kind l = onRecord (withRun Running) l
 
@@ -48,19 +53,19 @@ unfoldable pub reported : ℕ → List ℕ → Local → Local
 reported kind words l =
     carriedOut (verdictOf kind (storeVectorAndReplant words l .process)) kind (storeVectorAndReplant words l)
 
--- 'no notice goes out', or it 'goes to the host debugging it, if any'; 0 is nobody
-abbrev pub toldBy : Verdict → ℕ → ℕ
-toldBy Stops host = host
-toldBy (CountsDown k) host = 0
-toldBy GoesOn host = 0
+-- 'no notice goes out', or it goes to the host of the verdict, if any; 0 is nobody
+abbrev pub toldBy : Verdict → ℕ
+toldBy (Stops host) = host
+toldBy (CountsDown k) = 0
+toldBy GoesOn = 0
 
 -- the host that a report about a process tells; 0 is nobody
 unfoldable pub recipientOf : ℕ → List ℕ → Local → ℕ
-recipientOf kind words l = toldBy (verdictOf kind (storeVectorAndReplant words l .process)) (l .process .host)
+recipientOf kind words l = toldBy (verdictOf kind (storeVectorAndReplant words l .process))
 
 -- 'answered when a report next stops or ends the process', and by no other verdict
 abbrev pub answeredBy : Verdict → Owed → Owed
-answeredBy Stops owed = owed
+answeredBy (Stops host) owed = owed
 answeredBy (CountsDown k) owed = Nothing
 answeredBy GoesOn owed = Nothing
 

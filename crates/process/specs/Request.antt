@@ -1,7 +1,7 @@
 -- 'What each request does' to the process that it names, and the tests that rest on the process.
-use mathlib.Core.Bool.{Bool, true, false, cond}
-use mathlib.Core.List.{List, [], map}
-use Prim.Native.Nat.{ℕ}
+use mathlib.Core.Bool.{Bool, true, false, not, cond, _&&_, _||_}
+use mathlib.Core.List.{List, [], _∷_, map}
+use Prim.Native.Nat.{ℕ, suc}
 use lib.ListN.{length, take, drop, getD, set, replicate}
 use lib.Seq.{paste}
 use lib.Dec.{ltb, eqb}
@@ -10,9 +10,9 @@ use Rattle.run_state.specs.declared.Run.the-variants.{Running, Stepping, Stoppe
 use Rattle.process.specs.declared.record.Process.{Process}
 use Rattle.breakpoints.specs.declared.entry.Breakpoint.{Breakpoint}
 use Rattle.breakpoints.specs.declared.entry_query.EntryQuery.the-variants.{Free, At}
-use Rattle.breakpoints.specs.Entry.{breakpointAt, withCount}
+use Rattle.breakpoints.specs.Entry.{free, breakpointAt, withCount, isSetBy}
 use Rattle.process.specs.Sizes.{entryCount, memoryBytes}
-use Rattle.process.specs.Record.{noBreaks, fresh, entry, withHost, withRun, withVector, withBreaks, withSession, withEntry, owing}
+use Rattle.process.specs.Record.{noBreaks, fresh, entry, withHost, withRun, withVector, withBreaks, withSession, withEntry, owing, watchedBy}
 use Rattle.process.specs.Find.{find}
 use Rattle.run_state.specs.RunState.{moving, atBreak, released}
 use Rattle.session.specs.declared.Owed.the-variants.{Nothing, Continue, Step}
@@ -39,6 +39,27 @@ hasBreak a p = ltb (find (At a) p) entryCount
 unfoldable pub hasRoom : Process → Bool
 hasRoom p = ltb (find Free p) entryCount
 
+-- how many of these entries a host has set
+unfoldable pub countSetBy : ℕ → List Breakpoint → ℕ
+countSetBy host [] = 0
+countSetBy host (b ∷ bs) = cond (isSetBy host b) (suc (countSetBy host bs)) (countSetBy host bs)
+
+-- somebody watches the process
+abbrev pub isWatched : Process → Bool
+isWatched p = not (eqb (p .session .watcher) 0)
+
+-- 'While watched, neither may set one that makes his more than 4'
+unfoldable pub mayHaveMore : ℕ → Process → Bool
+mayHaveMore host p = not (isWatched p) || ltb (countSetBy host (p .breaks)) 4
+
+-- there is a breakpoint at that address, or room for one more of this host: 'all share the eight entries'
+unfoldable pub hasRoomFor : ℕ → ℕ → Process → Bool
+hasRoomFor host a p = hasBreak a p || (hasRoom p && mayHaveMore host p)
+
+-- 'only he may change or remove it': there is none at that address, or this host set it
+unfoldable pub isHis : ℕ → ℕ → Process → Bool
+isHis host a p = not (hasBreak a p) || eqb (entry p (find (At a) p) .setter) host
+
 -- the entry that BREAK goes to: that of the breakpoint at the address, else the lowest free one, or 8
 unfoldable pub entryFor : ℕ → Process → ℕ
 entryFor a p = cond (hasBreak a p) (find (At a) p) (find Free p)
@@ -49,12 +70,34 @@ entryFor a p = cond (hasBreak a p) (find (At a) p) (find Free p)
 abbrev pub debugged : ℕ → Local → Local
 debugged host = onRecord (withHost host)
 
--- 'all breakpoints go, planted words put back; nobody debugs it'; 'STOP, END DEBUG and DESTROY cancel an owed answer'
+-- 'all breakpoints go, planted words put back; nobody debugs it'; 'STOP, END DEBUG and DESTROY cancel an owed answer'; 'END
+-- DEBUG and DESTROY end the watch'
 unfoldable pub endDebugged : Local → Local
 endDebugged l =
     local
     (withRun (released (l .process .run)) (withHost 0 (withSession noSession (withBreaks noBreaks (l .process)))))
     (seen (l .process .breaks) (l .bytes))
+
+-- ---- WATCH and END WATCH
+
+-- 'makes the asker the one watcher'; of the breakpoints, 'those already there stay'
+abbrev pub watched : ℕ → Local → Local
+watched host = onRecord (watchedBy host)
+
+-- an entry as it is left when this host's breakpoints go
+unfoldable pub withoutHis : ℕ → Breakpoint → Breakpoint
+withoutHis host b = cond (isSetBy host b) free b
+
+-- an entry of this host, or a free one
+unfoldable pub onlyHis : ℕ → Breakpoint → Breakpoint
+onlyHis host b = cond (isSetBy host b) b free
+
+-- 'END WATCH removes the watcher's breakpoints', planted words put back, and nobody watches
+unfoldable pub endWatched : Local → Local
+endWatched l =
+    local
+    (watchedBy 0 (withBreaks (map (withoutHis (l .process .session .watcher)) (l .process .breaks)) (l .process)))
+    (seen (map (onlyHis (l .process .session .watcher)) (l .process .breaks)) (l .bytes))
 
 -- ---- STOP, RESUME, SINGLE STEP, PROCEED BPT
 
@@ -133,12 +176,12 @@ vectorDeposited at string l = onRecord (withVector (vectorAfter at string (l .pr
 
 -- ---- BREAK and UNBREAK
 
--- 'count ARG2; at an existing address only the count changes'; else planted in 'the lowest free of the eight entries'
-unfoldable pub breakSet : ℕ → ℕ → Local → Local
-breakSet a n l =
+-- 'count ARG2; at an existing address only the count changes'; else planted in 'the lowest free of the eight entries', and 'records who set it'
+unfoldable pub breakSet : ℕ → ℕ → ℕ → Local → Local
+breakSet host a n l =
     cond (hasBreak a (l .process))
     (onRecord (withEntry (find (At a) (l .process)) (withCount n (entry (l .process) (find (At a) (l .process))))) l)
-    (plantedIn (find Free (l .process)) (breakpointAt a n) l)
+    (plantedIn (find Free (l .process)) (breakpointAt a n host) l)
 
 -- 'UNBREAK puts the word back if it is planted.'
 unfoldable pub breakRemoved : ℕ → Local → Local
@@ -154,6 +197,6 @@ created host size = local (fresh true host Stopped size) (replicate size 0)
 unfoldable pub cleared : Process
 cleared = fresh false 0 Running memoryBytes
 
--- 'the process is absent, its record cleared', and it has no bytes
+-- 'the process is absent, its record cleared', and it has no bytes: 'END DEBUG and DESTROY end the watch'
 abbrev pub destroyed : Local → Local
 destroyed l = local cleared []

@@ -1,41 +1,60 @@
 // The requests that set or remove a breakpoint: BREAK and UNBREAK.
-use crate::find::FoundEntry;
+use crate::record::ENTRIES;
 use crate::record::Process;
 use breakpoints::Breakpoint;
-use breakpoints::EntryQuery;
 ghost use mathlib.Core.Path.{_≡_};
 ghost use Prim.Native.Nat.{_+_, _<_};
+ghost use lib.Dec.{ltb};
 ghost use lib.ListN.{length};
 ghost use Rattle.process.specs.Sizes.{entryCount};
-ghost use Rattle.process.specs.Find.{foundEntry};
 ghost use Rattle.process.specs.Local.{local, Inside};
 ghost use Rattle.process.specs.Planting.{removedFrom};
-ghost use Rattle.process.specs.Request.{entryFor, breakSet};
+ghost use Rattle.process.specs.Request.{entryFor, breakSet, countSetBy, mayHaveMore};
 
 impl Process {
-    // Finds the entry that a BREAK at this address goes to: that of the breakpoint there, else the first free one.
-    pub fn entry_for(self, a: u16) -> FoundEntry
-        ensures { λ r. ⌜ r ≡ foundEntry (entryFor a self) ⌝ }
-    {
-        let there = self.find(EntryQuery::At(a));
-        match there {
-            FoundEntry::Index(_) => there,
-            FoundEntry::Nowhere => self.find(EntryQuery::Free),
-        }
-    }
-
-    // Sets a breakpoint at this address, with this count, in the entry that was found for it: one that is there gets the count, else one
-    // is planted.
-    pub fn set_break(self, k: usize, a: u16, count: u16, bytes: &mut [u8]) -> Self
+    // Sets a breakpoint of this host at this address, with this count, in the entry that was found for it: one that is there gets the count,
+    // else one is planted.
+    pub fn set_break(self, k: usize, host: u8, a: u16, count: u16, bytes: &mut [u8]) -> Self
         requires { ⌜ (k < entryCount) × (k ≡ entryFor a self) × (a + 1 < length (now bytes)) ⌝ }
-        ensures { λ r. ⌜ r ≡ breakSet a count (local self (now (bytes .entry))) .process ⌝ }
-        ensures { λ _. ⌜ now (bytes .exit) ≡ breakSet a count (local self (now (bytes .entry))) .bytes ⌝ }
+        ensures { λ r. ⌜ r ≡ breakSet host a count (local self (now (bytes .entry))) .process ⌝ }
+        ensures { λ _. ⌜ now (bytes .exit) ≡ breakSet host a count (local self (now (bytes .entry))) .bytes ⌝ }
     {
         let b = self.breaks[k];
-        if b.used {
+        if b.setter != 0 {
             return self.with_entry(k, b.with_count(count));
         }
-        self.plant_in(k, Breakpoint::at(a, count), bytes)
+        self.plant_in(k, Breakpoint::at(a, count, host), bytes)
+    }
+
+    // Whether this host has set fewer than four breakpoints. At the fourth it stops: a whole count is made to multiply by the optimiser.
+    fn has_set_few(self, host: u8) -> bool
+        ensures { λ r. ⌜ r ≡ ltb (countSetBy host (self .breaks)) 4 ⌝ }
+    {
+        let breaks = self.breaks;
+        let mut n = 0u8;
+        let mut k = 0;
+        while k < ENTRIES {
+            let b = breaks[k];
+            if b.is_set_by(host) {
+                n += 1;
+            }
+            if n == 4 {
+                return false;
+            }
+            k += 1;
+        }
+        true
+    }
+
+    // Whether this host may set one more: while the process is watched, each of the two has at most four.
+    pub fn may_have_more(self, host: u8) -> bool
+        ensures { λ r. ⌜ r ≡ mayHaveMore host self ⌝ }
+    {
+        let session = self.session;
+        if session.watcher == 0 {
+            return true;
+        }
+        self.has_set_few(host)
     }
 
     // Frees entry k, and puts its word back if it is planted.

@@ -12,6 +12,7 @@ mod saved_words;
 mod sound;
 mod text_requests;
 pub mod theorems;
+mod watch_requests;
 
 pub use find::FoundEntry;
 pub use record::ENTRIES;

@@ -6,7 +6,7 @@ use session::Session;
 ghost use mathlib.Core.Path.{_≡_};
 ghost use Prim.Native.Nat.{_<_};
 ghost use Rattle.process.specs.Sizes.{entryCount};
-ghost use Rattle.process.specs.Record.{fresh, withRun, withHost, withVector, withEntry, withBreaks, noBreaks, withSession, owing};
+ghost use Rattle.process.specs.Record.{fresh, withRun, withHost, withVector, withEntry, withBreaks, noBreaks, withSession, owing, watchedBy};
 ghost use Rattle.session.specs.Session.{noSession};
 ghost use Rattle.process.specs.Request.{pc};
 
@@ -106,6 +106,15 @@ impl Process {
     {
         let session = self.session;
         self.session = session.with_owed(owed);
+        self
+    }
+
+    // With another watcher.
+    pub(crate) fn watched_by(mut self, host: u8) -> Self
+        ensures { λ r. ⌜ r ≡ watchedBy host self ⌝ }
+    {
+        let session = self.session;
+        self.session = session.with_watcher(host);
         self
     }
 

@@ -16,8 +16,8 @@ ghost use Rattle.process.specs.Report.{storeVectorAndReplant, verdictOf,
 
 // What a report comes to.
 pub enum Verdict {
-    // The process stops, and its host is told.
-    Stops,
+    // The process stops, and this host is told; 0 is nobody.
+    Stops(u8),
     // The process passes the breakpoint in this entry silently.
     CountsDown(usize),
     // The process has executed the instruction under a lifted breakpoint, and runs; nobody is told.
@@ -42,7 +42,8 @@ impl Process {
         p.replant(bytes)
     }
 
-    // A TTRAP while passing lets the process go on; a BPT at a breakpoint whose count is above 0 counts down; any other report stops it.
+    // A TTRAP while passing lets the process go on; a BPT at a breakpoint whose count is above 0 counts down; any other report stops it: who set
+    // the breakpoint that a BPT is at is told, else the host.
     fn verdict(self, kind: u8) -> Verdict
         ensures { λ r. ⌜ r ≡ verdictOf kind self ⌝ }
     {
@@ -51,17 +52,17 @@ impl Process {
             return Verdict::GoesOn;
         }
         if kind != BPT {
-            return Verdict::Stops;
+            return Verdict::Stops(self.host);
         }
         let found = self.find(EntryQuery::At(self.pc()));
         let FoundEntry::Index(k) = found else {
-            return Verdict::Stops;
+            return Verdict::Stops(self.host);
         };
         let b = self.breaks[k];
         if 0 < b.count {
             return Verdict::CountsDown(k);
         }
-        Verdict::Stops
+        Verdict::Stops(b.setter)
     }
 
     // Passes the breakpoint in entry k: its count falls by one, it is lifted, and a running process is passing.
@@ -88,14 +89,14 @@ impl Process {
         }
     }
 
-    // This process after a report of this kind that stops it: its host is told, and what is owed is answered.
-    fn stopping(self, kind: u8) -> ReportResult
-        ensures { λ r. ⌜ (r .process ≡ owing Nothing (withRun (runAfter kind) self)) × (r .told ≡ self .host) × (r .answered ≡ self .session .owed) ⌝ }
+    // This process after a report of this kind that stops it: one host is told, and what is owed is answered.
+    fn stopping(self, kind: u8, host: u8) -> ReportResult
+        ensures { λ r. ⌜ (r .process ≡ owing Nothing (withRun (runAfter kind) self)) × (r .told ≡ host) × (r .answered ≡ self .session .owed) ⌝ }
     {
         let session = self.session;
         let owed = session.owed;
         let p = self.with_run(Run::after(kind)).owing(Owed::Nothing);
-        p.telling(self.host, owed)
+        p.telling(host, owed)
     }
 
     // This process after a report that nobody is told of.
@@ -116,7 +117,7 @@ impl Process {
         let p = self.store_vector_and_replant(vector, bytes);
         let verdict = p.verdict(kind);
         match verdict {
-            Verdict::Stops => p.stopping(kind),
+            Verdict::Stops(host) => p.stopping(kind, host),
             Verdict::CountsDown(k) => p.pass(k, bytes).quietly(),
             Verdict::GoesOn => p.with_run(Run::Running).quietly(),
         }

@@ -13,7 +13,8 @@ ghost use Rattle.process.specs.Find.{find};
 ghost use Rattle.process.specs.Sizes.{entryCount, validSize};
 ghost use Rattle.process.specs.Record.{entry};
 ghost use Rattle.process.specs.Local.{extent};
-ghost use Rattle.process.specs.Sound.{absentHasNoHost, addressIsUnique, liftSound, entrySound, keepsRules, soundTest};
+ghost use Rattle.process.specs.Sound.{absentHasNoHost, addressIsUnique, liftSound, setterSound, entrySound, keepsRules, soundTest};
+ghost use Rattle.breakpoints.specs.Entry.{inUse};
 
 // Whether a process may have this size: it is even, and 2 to 4,096.
 pub fn valid_size(size: u16) -> bool
@@ -44,7 +45,7 @@ impl Process {
 
     // Entry k, which is in use, is not lifted, or the process is stepping or passing and no earlier entry is lifted.
     fn lift_sound(self, k: usize, lifted: bool, earlier: bool) -> bool
-        requires { ⌜ (k < entryCount) × (entry self k .used ≡ true) × (lifted ≡ entry self k .lifted) × (earlier ≡ ltb (find Lifted self) k) ⌝ }
+        requires { ⌜ (k < entryCount) × (inUse (entry self k) ≡ true) × (lifted ≡ entry self k .lifted) × (earlier ≡ ltb (find Lifted self) k) ⌝ }
         ensures { λ r. ⌜ r ≡ liftSound self k ⌝ }
     {
         if !lifted {
@@ -57,10 +58,25 @@ impl Process {
         run.stepping_or_passing()
     }
 
+    // Who set entry k is the host that debugs the process, or its watcher.
+    fn setter_sound(self, k: usize, setter: u8) -> bool
+        requires { ⌜ setter ≡ entry self k .setter ⌝ }
+        ensures { λ r. ⌜ r ≡ setterSound self k ⌝ }
+    {
+        if setter == self.host {
+            return true;
+        }
+        if setter == 0 {
+            return false;
+        }
+        let session = self.session;
+        setter == session.watcher
+    }
+
     // No entry before k, which is in use, has its address.
     fn address_is_unique(self, k: usize, address: u16) -> bool
         requires { ⌜ k < entryCount ⌝ }
-        requires { ⌜ entry self k .used ≡ true ⌝ }
+        requires { ⌜ inUse (entry self k) ≡ true ⌝ }
         requires { ⌜ address ≡ entry self k .address ⌝ }
         ensures { λ r. ⌜ r ≡ addressIsUnique self k ⌝ }
     {
@@ -83,10 +99,13 @@ impl Process {
         requires { ⌜ earlier ≡ ltb (find Lifted self) k ⌝ }
         ensures { λ r. ⌜ r ≡ entrySound self k ⌝ }
     {
-        if !b.used {
+        if b.setter == 0 {
             return true;
         }
         if self.host == 0 {
+            return false;
+        }
+        if !self.setter_sound(k, b.setter) {
             return false;
         }
         if !valid_break_address(self.size, b.address) {

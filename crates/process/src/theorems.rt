@@ -1,6 +1,6 @@
 // What is proved of a process by itself. These functions do nothing: each one's contract is a theorem, so that the check of this
 // crate includes it.
-ghost use Rattle.process.specs.Theorems.{TestIsSound, DepositIsSeen, SeenStays, EndDebugRestores, StoreIsUnseen, RunningIsPlanted, SoundStays};
+ghost use Rattle.process.specs.Theorems.{TestIsSound, DepositIsSeen, SeenStays, EndDebugRestores, EndWatchRemoves, StoreIsUnseen, RunningIsPlanted, SoundStays};
 
 // The test of soundness passes exactly the sound records.
 pub fn test_is_sound()
@@ -12,7 +12,7 @@ pub fn deposit_is_seen()
     ensures { λ _. ⌜ DepositIsSeen ⌝ }
 {}
 
-// BREAK, UNBREAK, lifting, planting again and a silent pass change no seen byte.
+// BREAK, UNBREAK, END WATCH, lifting, planting again and a silent pass change no seen byte.
 pub fn seen_stays()
     ensures { λ _. ⌜ SeenStays ⌝ }
 {}
@@ -20,6 +20,11 @@ pub fn seen_stays()
 // After END DEBUG memory is what was seen, and no breakpoint is left.
 pub fn end_debug_restores()
     ensures { λ _. ⌜ EndDebugRestores ⌝ }
+{}
+
+// After END WATCH none of the watcher's breakpoints is left, the words of the planted ones are what was seen there, and all else stays.
+pub fn end_watch_removes()
+    ensures { λ _. ⌜ EndWatchRemoves ⌝ }
 {}
 
 // What the machine stores into a planted word is not seen.

@@ -16,8 +16,8 @@ use Rattle.calls.specs.Effect.{Effect, Prints, Does}
 use Rattle.recording.specs.declared.language.Language.{Language}
 use Rattle.recording.specs.declared.language.Language.the-variants.{Bench, Recording, TextDoor}
 use Rattle.recording.specs.declared.partial.Partial.{Partial}
-use Rattle.recording.specs.declared.session.Step as code-step
-use Rattle.recording.specs.declared.session.Fed as code
+use Rattle.recording.specs.declared.feeding.Step as code-step
+use Rattle.recording.specs.declared.feeding.Fed as code
 use Rattle.recording.specs.Command.{begins, rawWord}
 use Rattle.recording.specs.Line.{pairsBehind, pairsFrom}
 use Rattle.recording.specs.Session.{Reading, reading, nothingRead, phaseAfter, typed, Session, session, lineEnded, stepped, waits, Fed, fedTo, fed, through, Steps, Feeds}

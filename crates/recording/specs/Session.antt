@@ -11,8 +11,8 @@ use Rattle.lines.specs.Scan.{next, isNewline}
 use Rattle.calls.specs.Effect.{Effect, Prints, longestText}
 use Rattle.recording.specs.declared.language.Language.{Language}
 use Rattle.recording.specs.declared.partial.Partial.{Partial}
-use Rattle.recording.specs.declared.session.Fed as code
-use Rattle.recording.specs.declared.session.Step as code-step
+use Rattle.recording.specs.declared.feeding.Fed as code
+use Rattle.recording.specs.declared.feeding.Step as code-step
 use Rattle.recording.specs.Line.{pairsFrom, lineEffect}
 
 -- how much is kept of a line: one byte more than a call has, which tells that it is longer

@@ -3,17 +3,17 @@
 // printed; a line that is none prints a question mark and changes nothing. A text may come in blocks of any length. Nothing here reads or
 // writes: see `feed`.
 mod command;
+mod feeding;
 mod language;
 mod line;
 mod partial;
-mod session;
 pub mod theorems;
 
+pub use feeding::Fed;
+pub use feeding::feed;
 pub use language::Language;
 pub use language::begin;
 pub use partial::Partial;
-pub use session::Fed;
-pub use session::feed;
 
 // A line whose word is not `request`, `line` or `raw` is no longer.
 pub const LONGEST_LINE: usize = 1024;

@@ -34,7 +34,7 @@ unfolding toldOf isGranted names
 create-goes c is output n = true≢false (sym told-there ∙ ap (λ (u : Public). u .there) (n .told nobody number))
   where
     nobody : ℕ → Public
-    nobody k = record { there = false; host = 0; size = 0 }
+    nobody k = record { there = false; host = 0; watcher = 0; size = 0 }
 
     number : ℕ
     number = getD (grants output (buffersOf c) .buffer) 5 0

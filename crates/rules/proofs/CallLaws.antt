@@ -52,7 +52,7 @@ pub record There (s : State) (c : Call) (p : ℕ) (a : Access) : Type 0 where
   pub anew : fieldsOf c .cmd ≡ CREATE → (l k : Local) → a .effect l ≡ a .effect k
   -- the call and its answer tell the public part after it
   pub told : (d : ℕ → Public) (l : Local) (q : ℕ) → toldOf d c (grants (a .reply l) (buffersOf c)) q ≡ cond (eqb q p) (then (d q)) (d q)
-  -- when the right to debug begins and ends
+  -- when the right to debug and a watch begin and end
   pub turns : firstFailing (a .outer (publicOf s p)) ≡ 0 → Turns (asker c) (fieldsOf c) p (publicOf s p) (then (publicOf s p))
 
 -- a call that goes to no process

@@ -38,7 +38,7 @@ told-at d e c a p same =
     ap
     (λ (u : Public). cond (isGranted (a .outcome))
     (cond (names (fieldsOf c .cmd) && eqb p (fieldsOf c .pid)) (publicThen (fieldsOf c .cmd) (fieldsOf c .host) u)
-    (cond (creates (fieldsOf c .cmd) && eqb p (getD (a .buffer) 5 0)) (record { there = true; host = fieldsOf c .host; size = sizeAsked (fieldsOf c) }) u)) u)
+    (cond (creates (fieldsOf c .cmd) && eqb p (getD (a .buffer) 5 0)) (record { there = true; host = fieldsOf c .host; watcher = 0; size = sizeAsked (fieldsOf c) }) u)) u)
     same
 
 told-after : (es : List TraceItem) (d e : ℕ → Public) (p : ℕ) → d p ≡ e p → toldAfter d es p ≡ toldAfter e es p
@@ -102,7 +102,7 @@ module _ (ts : List Bool) (ns : List ℕ) (long : length ts ≡ 8) (right : size
   fresh-shown memory p h = sym (ap public (fresh-record p h) ∙ go (getD ts p false))
     where
       go : (t : Bool) → public (freshProcess t (getD ns p 0))
-          ≡ cond t (record { there = true; host = 0; size = getD ns p 0 }) (record { there = false; host = 0; size = 4096 })
+          ≡ cond t (record { there = true; host = 0; watcher = 0; size = getD ns p 0 }) (record { there = false; host = 0; watcher = 0; size = 4096 })
       go true = refl
       go false = refl
 

@@ -26,5 +26,11 @@ pub mod DestroyLaws
 pub mod LedgerLaws
 pub mod LapLaws
 pub mod LoopLaws
+pub mod PlaceLaws
 pub mod OwedRowLaws
 pub mod OwedLaws
+pub mod BreakRowLaws
+pub mod WatchLaws
+pub mod LookLaws
+pub mod ToldLaws
+pub mod BreakLifeLaws

@@ -29,7 +29,7 @@ differ-apart p s₁ s₂ d = record {
 }
   where
     here : public (recordOf s₁ p) ≡ public (recordOf s₂ p)
-    here = rw (d .there, d .host, d .size)
+    here = rw (d .there, d .host, d .watcher, d .size)
 
     shown : (q : ℕ) → q < 8 → (t : Bool) → eqb p q ≡ t → publicOf s₁ q ≡ publicOf s₂ q
     shown q h true e = rw (← eqb-true p q e) here

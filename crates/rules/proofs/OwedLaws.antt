@@ -11,13 +11,13 @@ use lib.Dec.{eqb, leb, ltb}
 use Rattle.lists.proofs.Bool.{&&-right}
 use Rattle.ops.specs.Codes.{STOP, END-DEBUG, CREATE, DESTROY}
 use Rattle.format.specs.declared.header.Header.{Header}
-use Rattle.format.specs.Outcome.{outcome, firstFailing}
+use Rattle.format.specs.Outcome.{firstFailing}
 use Rattle.format.specs.Layout.{headerOf, stringOf}
-use Rattle.format.proofs.OutcomeLaws.{first-passes, rest-passes, isGranted-outcome}
+use Rattle.format.proofs.OutcomeLaws.{first-passes, rest-passes}
 use Rattle.fields.specs.Letters.{known}
 use Rattle.fields.specs.Read.{lineOf}
 use Rattle.fields.proofs.LineLaws.{read-is-written}
-use Rattle.run_state.specs.RunState.{moving, accepts}
+use Rattle.run_state.specs.RunState.{moving}
 use Rattle.session.specs.declared.Owed.{Owed}
 use Rattle.session.specs.declared.Owed.the-variants.{Nothing}
 use Rattle.session.specs.Session.{owes, owedLetter}
@@ -26,72 +26,27 @@ use Rattle.process.specs.Record.{fresh}
 use Rattle.process.specs.Local.{Local}
 use Rattle.process.specs.Request.{created}
 use Rattle.process.specs.declared.report.Verdict.the-variants.{Stops}
-use Rattle.process.specs.Report.{storeVectorAndReplant, verdictOf, reported, answerOf}
+use Rattle.process.specs.Report.{storeVectorAndReplant, verdictOf, reported, recipientOf, answerOf}
 use Rattle.process.proofs.AnswerLaws.{none-owed-nothing, stops-owes, stops-still, still-stops, unanswered-owed}
 use Rattle.state.specs.Records.{lowestAbsent}
 use Rattle.rules.specs.Rule.{ruleOf, names, creates}
 use Rattle.rules.specs.TextRule.{textRuleOf}
-use Rattle.rules.specs.Tests.{State, recordOf, requestNumber, textNumber}
-use Rattle.rules.specs.Access.{alone, Access, Place, nowhere, atProcess, numberAt, grants, refuses, reached, taken}
-use Rattle.rules.specs.Step.{StepResult, localOf, put, granted, grantedNamed, grantedCreate, refused, requestStep, textStep, Call, request, report, store, textLine, step}
-use Rattle.rules.specs.Turn.{ruleAccess, createAccess, requestPlace, requestTurn, reportAccess, reportTurn, storeAccess, storeTurn, textAccess, textTurn, turnOf, buffersOf}
+use Rattle.rules.specs.Tests.{State, recordOf, requestNumber, badReport, textNumber}
+use Rattle.rules.specs.Access.{alone, Access, numberAt, grants}
+use Rattle.rules.specs.Step.{StepResult, localOf, granted, grantedNamed, grantedCreate, refused, requestStep, textStep, Call, request, report, store, textLine, step}
+use Rattle.rules.specs.Turn.{ruleAccess, createAccess, requestPlace, requestTurn, reportAccess, storeAccess, storeTurn, textAccess, textTurn, turnOf, buffersOf}
 use Rattle.rules.specs.Ready.{Ready}
-use Rattle.rules.specs.Isolation.{namesOne, subject, fieldsOf, isGranted}
+use Rattle.rules.specs.Isolation.{namesOne, subject, fieldsOf}
 use Rattle.rules.specs.Outsider.{only}
 use Rattle.rules.specs.Loops.{wordsOf}
-use Rattle.rules.specs.Owed.{textOf, kindOf, reasonOf, Granted, owedAt, cancelling, Asks, StopsIt, Cancels, Answers, NoLine, Settled, ends, asksAgain, stays, Fate, owedStill, answered, cancelled, waits, OwedAnswers}
+use Rattle.rules.specs.Owed.{textOf, kindOf, reasonOf, owedAt, cancelling, Asks, StopsIt, Cancels, Answers, NoLine, Settled, ends, asksAgain, stays, Fate, owedStill, answered, cancelled, waits, OwedAnswers}
 use Rattle.rules.proofs.StateLaws.{each-sound}
 use Rattle.rules.proofs.NumberLaws.{by-test, orElse-zero}
 use Rattle.rules.proofs.AccessLaws.{outerNumber}
-use Rattle.rules.proofs.CallLaws.{There, Placed}
 use Rattle.rules.proofs.RequestLaws.{lowest-absent}
-use Rattle.rules.proofs.LawfulLaws.{lawful}
-use Rattle.rules.proofs.StepLaws.{acts-changed, step-ready}
+use Rattle.rules.proofs.StepLaws.{step-ready}
+use Rattle.rules.proofs.PlaceLaws.{Refused, Acted, Reached, came, acted-granted, acted-line, acted-here, acted-else, report-accepted, report-came}
 use Rattle.rules.proofs.OwedRowLaws.{owedIn, absent-owes, rule-owed, Keeps, Later, letter-owed, later-owed, later-silent, no-line, answer-or}
-
--- ---- a call is refused, or goes to its place
-
--- a refused call sends no line and leaves the state
-record Refused (s : State) (c : Call) : Type 0 where
-  ungranted : isGranted (step s c .answer .outcome) ≡ false
-  silent : step s c .answer .lineLength ≡ 0
-  same : step s c .after ≡ s
-
--- a granted call that goes to process q
-record Acted (s : State) (c : Call) (q : ℕ) (a : Access) : Type 0 where
-  there : There s c q a
-  passes : numberAt a (localOf s q) ≡ 0
-  is : step s c ≡ record { answer = grants (a .reply (localOf s q)) (buffersOf c); after = put q (a .effect (localOf s q)) s }
-
--- a granted call, by its place
-unfoldable Reached : State → Call → Place → Type 0
-Reached s c (nowhere output) = step s c ≡ record { answer = grants output (buffersOf c); after = s }
-Reached s c (atProcess q a) = Acted s c q a
-
-module _ (s : State) (r : Ready s) (c : Call) where
-  refuse : (number : ℕ) (bytes : List ℕ) → eqb number 0 ≡ false → step s c ≡ record { answer = refuses number bytes (buffersOf c); after = s } → Refused s c
-  refuse number bytes n e = record { ungranted = rw e (isGranted-outcome number 0 ∙ n); silent = rw e; same = rw e }
-
-  at-place : (place : Place) → Placed s c place → step s c ≡ reached place (buffersOf c) s → Refused s c ⊎ Reached s c place
-  unfolding reached Placed Reached
-  at-place (nowhere output) n e = inr e
-  at-place (atProcess q a) t e = go (eqb (numberAt a (localOf s q)) 0) refl
-    where
-      go : (b : Bool) → eqb (numberAt a (localOf s q)) 0 ≡ b → Refused s c ⊎ Acted s c q a
-      go true z = inr (record { there = t; passes = eqb-true _ 0 z; is = e ∙ rw z })
-      go false z = inl (refuse (numberAt a (localOf s q)) (a .refusal (localOf s q) (numberAt a (localOf s q))) z (e ∙ rw z))
-
-  came : Refused s c ⊎ ((firstFailing (turnOf s c .tests) ≡ 0) × Reached s c (turnOf s c .place))
-  unfolding taken
-  came = go (eqb (firstFailing (turnOf s c .tests)) 0) refl
-    where
-      with-tests : firstFailing (turnOf s c .tests) ≡ 0 → Refused s c ⊎ Reached s c (turnOf s c .place) → Refused s c ⊎ ((firstFailing (turnOf s c .tests) ≡ 0) × Reached s c (turnOf s c .place))
-      with-tests z (inl f) = inl f
-      with-tests z (inr g) = inr (z, g)
-
-      go : (b : Bool) → eqb (firstFailing (turnOf s c .tests)) 0 ≡ b → Refused s c ⊎ ((firstFailing (turnOf s c .tests) ≡ 0) × Reached s c (turnOf s c .place))
-      go true e = let z = eqb-true _ 0 e in with-tests z (at-place (turnOf s c .place) (lawful c .placed s r z) (lawful c .turn s ∙ rw e))
-      go false e = inl (refuse (firstFailing (turnOf s c .tests)) (turnOf s c .refusal (firstFailing (turnOf s c .tests))) e (lawful c .turn s ∙ rw e))
 
 -- ---- what one call does to the answer that process p owes
 
@@ -129,25 +84,15 @@ cancels-names cmd = go (eqb cmd STOP) refl (eqb cmd END-DEBUG) refl
 -- ---- a granted call at process q
 
 module _ (s : State) (r : Ready s) (c : Call) (q : ℕ) (a : Access) (x : Acted s c q a) where
-  acted-granted : Granted s c
-  unfolding isGranted
-  acted-granted = rw (x .is)
-
-  acted-line : step s c .answer .lineLength ≡ length (a .reply (localOf s q) .line)
-  acted-line = rw (x .is)
-
-  acted-here : recordOf (step s c .after) q ≡ a .effect (localOf s q) .process
-  acted-here = ap (λ (y : StepResult). recordOf (y .after) q) (x .is) ∙ ap (λ (l : Local). l .process) (acts-changed s r c q a (x .there) (x .passes) .here)
-
   acted-owes : owedAt (step s c .after) q ≡ owedIn (a .effect (localOf s q))
-  acted-owes = ap (λ (k : Process). k .session .owed) acted-here
+  acted-owes = ap (λ (k : Process). k .session .owed) (acted-here s r c q a x)
 
   -- it keeps what another process owes
   elsewhere : (p : ℕ) → p < 8 → (p ≡ q → ⊥) → Turned p s c
   unfolding subject
   elsewhere p low other =
       keeps (λ y. away (subst (λ (d : Call). subject (only p) d ≡ true) (sym (y .is)) (eq-eqb p p refl))) (λ y. no-cancels y (x .there .reaches)) (λ i. absurd (away i))
-      (ap (λ (y : StepResult). owedAt (y .after) p) (x .is) ∙ ap owedIn (acts-changed s r c q a (x .there) (x .passes) .else p low other))
+      (ap owedIn (acted-else s r c q a x p low other))
     where
       away : subject (only p) c ≡ true → ⊥
       away i = other (eqb-true p q (x .there .named (only p) i))
@@ -225,12 +170,6 @@ module _ (s : State) (r : Ready s) (q kind reason : ℕ) (words buffer line : Li
   before = localOf s q
 
   module _ (x : Acted s (report q kind reason words buffer line) q (reportAccess q kind reason words)) where
-    accepted : accepts kind (recordOf s q .run) ≡ true
-    unfolding numberAt reportAccess
-    accepted =
-        let z = orElse-zero (outerNumber (reportAccess q kind reason words) before) (firstFailing (reportAccess q kind reason words .inner before)) (x .passes) in
-        not-false _ (first-passes 8 _ _ (z .1))
-
     after-run : moving (recordOf (step s (report q kind reason words buffer line) .after) q .run) ≡ moving (reported kind words (localOf s q) .process .run)
     unfolding reportAccess
     after-run = ap (λ (k : Process). moving (k .run)) (acted-here s r told _ _ x)
@@ -246,29 +185,21 @@ module _ (s : State) (r : Ready s) (q kind reason : ℕ) (words buffer line : Li
         after : owedAt (step s told .after) q ≡ owedIn (reported kind words before)
         after = acted-owes s r told _ _ x
 
-        go : ((verdictOf kind (storeVectorAndReplant words before .process) ≡ Stops) × (answerOf kind words before ≡ owedIn before))
-            ⊎ ((verdictOf kind (storeVectorAndReplant words before .process) ≡ Stops → ⊥) × (owes (answerOf kind words before) ≡ false)) → Turned q s told
+        go : ((verdictOf kind (storeVectorAndReplant words before .process) ≡ Stops (recipientOf kind words before)) × (answerOf kind words before ≡ owedIn before))
+            ⊎ ((verdictOf kind (storeVectorAndReplant words before .process) ≡ Stops (recipientOf kind words before) → ⊥) × (owes (answerOf kind words before) ≡ false)) → Turned q s told
         go (inl v) =
             answers (record { is = refl; granted = acted-granted s r told _ _ x; stops = after-run ∙ stops-still kind words before (v .0) })
             (report-answers (v .1)) (after ∙ stops-owes kind words before (v .0))
         go (inr v) =
-            keeps (λ y. v .0 (still-stops kind words before accepted (sym after-run ∙ y .stops))) (λ y. true≢false (sym (y .op)))
+            keeps (λ y. v .0 (still-stops kind words before (report-accepted s r q kind reason words buffer line x) (sym after-run ∙ y .stops))) (λ y. true≢false (sym (y .op)))
             (λ i. acted-line s r told _ _ x ∙ ap length (no-line q kind (answerOf kind words before) (v .1))) (after ∙ unanswered-owed kind words before (v .1))
 
-  report-came : Refused s (report q kind reason words buffer line) ⊎ Acted s (report q kind reason words buffer line) q (reportAccess q kind reason words)
-  unfolding turnOf reportTurn Reached
-  report-came = go (came s r told)
-    where
-      go : Refused s told ⊎ ((firstFailing (turnOf s told .tests) ≡ 0) × Acted s told q (reportAccess q kind reason words)) → Refused s told ⊎ Acted s told q (reportAccess q kind reason words)
-      go (inl f) = inl f
-      go (inr x) = inr (x .1)
-
   report-turned : (p : ℕ) → p < 8 → Turned p s (report q kind reason words buffer line)
-  report-turned p low = go report-came
+  report-turned p low = go (report-came s r q kind reason words buffer line)
     where
-      go : Refused s told ⊎ Acted s told q (reportAccess q kind reason words) → Turned p s told
+      go : Refused s told ⊎ ((badReport kind reason ≡ false) × Acted s told q (reportAccess q kind reason words)) → Turned p s told
       go (inl f) = refused-kept p s told f
-      go (inr x) = anywhere s r told _ _ x (report-here x) p low
+      go (inr x) = anywhere s r told _ _ (x .1) (report-here (x .1)) p low
 
 -- ---- stores
 
@@ -435,10 +366,10 @@ report-only : (s : State) → Ready s → (q kind reason : ℕ) (words buffer li
 unfolding subject
 report-only s r q kind reason words buffer line sent = go (report-came s r q kind reason words buffer line)
   where
-    go : Refused s (report q kind reason words buffer line) ⊎ Acted s (report q kind reason words buffer line) q (reportAccess q kind reason words)
+    go : Refused s (report q kind reason words buffer line) ⊎ ((badReport kind reason ≡ false) × Acted s (report q kind reason words buffer line) q (reportAccess q kind reason words))
         → (p : ℕ) × Sender s (report q kind reason words buffer line) p
     go (inl f) = absurd (omega (arith, sent, f .silent))
-    go (inr x) = (q, sends s r (report q kind reason words buffer line) q (x .there .low) (eq-eqb q q refl) sent)
+    go (inr x) = (q, sends s r (report q kind reason words buffer line) q (x .1 .there .low) (eq-eqb q q refl) sent)
 
 request-sends : (s : State) (m buffer : List ℕ) → requestStep m buffer s .answer .lineLength ≡ 0
 unfolding requestStep granted grantedNamed grantedCreate refused

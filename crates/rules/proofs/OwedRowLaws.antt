@@ -25,10 +25,10 @@ use Rattle.process.specs.Find.{find}
 use Rattle.process.specs.Sound.{Sound}
 use Rattle.process.specs.Local.{Local}
 use Rattle.process.specs.Planting.{plantedIn, liftedIn, removedFrom, liftedAt}
-use Rattle.process.specs.Request.{pc, hasBreak, endDebugged, stopped, stepped, proceeded, continued, steppedFrom, deposited, breakSet, breakRemoved, cleared}
+use Rattle.process.specs.Request.{pc, hasBreak, endDebugged, endWatched, stopped, stepped, proceeded, continued, steppedFrom, deposited, breakSet, breakRemoved, cleared}
 use Rattle.process.specs.declared.report.Verdict.{Verdict}
 use Rattle.process.specs.declared.report.Verdict.the-variants.{Stops, CountsDown, GoesOn}
-use Rattle.process.specs.Report.{storeVectorAndReplant, verdictOf, answeredBy, answerOf}
+use Rattle.process.specs.Report.{storeVectorAndReplant, verdictOf, toldBy, recipientOf, answeredBy, answerOf}
 use Rattle.process.proofs.AnswerLaws.{none-owed-nothing}
 use Rattle.rules.specs.Rule.{Rule, rules, noRule, ruleOf}
 use Rattle.rules.specs.TextRule.{TextRule, textRuleOf, owedLine}
@@ -66,14 +66,14 @@ owed-proceeded : (l : Local) → owedIn (proceeded l) ≡ owedIn l
 unfolding proceeded
 owed-proceeded l = owed-liftedAt (pc (l .process)) l
 
-owed-breakSet : (a n : ℕ) (l : Local) → owedIn (breakSet a n l) ≡ owedIn l
+owed-breakSet : (host a n : ℕ) (l : Local) → owedIn (breakSet host a n l) ≡ owedIn l
 unfolding breakSet plantedIn
-owed-breakSet a n l = by-test (λ (k : Local). owedIn k ≡ owedIn l) (hasBreak a (l .process)) (λ e. refl) (λ e. refl)
+owed-breakSet host a n l = by-test (λ (k : Local). owedIn k ≡ owedIn l) (hasBreak a (l .process)) (λ e. refl) (λ e. refl)
 
 each-row : Each OwedRow 0 rules
-unfolding endDebugged stopped deposited breakRemoved removedFrom cleared fresh
+unfolding endDebugged endWatched stopped deposited breakRemoved removedFrom cleared fresh
 each-row =
-    ((λ h s l. refl), ((λ h s l. refl), ((λ h s l. refl), ((λ h s l. refl), ((λ h s l. refl), ((λ h s l. refl), ((λ h s l. refl), ((λ h s l. refl), ((λ h s l. owed-breakSet (h .arg1) (h .arg2) l), ((λ h s l. refl), ((λ h s l. owed-stepped l), ((λ h s l. owed-proceeded l), ((λ h s l. refl), ((λ h s l. refl), tt))))))))))))))
+    ((λ h s l. refl), ((λ h s l. refl), ((λ h s l. refl), ((λ h s l. refl), ((λ h s l. refl), ((λ h s l. refl), ((λ h s l. refl), ((λ h s l. refl), ((λ h s l. owed-breakSet (h .host) (h .arg1) (h .arg2) l), ((λ h s l. refl), ((λ h s l. owed-stepped l), ((λ h s l. owed-proceeded l), ((λ h s l. refl), ((λ h s l. refl), ((λ h s l. refl), ((λ h s l. refl), tt))))))))))))))))
 
 -- an op code past the table has no row, and does not cancel
 past-owed : (cmd : ℕ) → length ops ≤ cmd → OwedRow cmd (ruleOf cmd)
@@ -151,12 +151,12 @@ no-line p kind o e = rw e
 
 -- a report stops the process and gives the answer that is owed, or does neither
 pub answer-or : (kind : ℕ) (words : List ℕ) (l : Local)
-    → ((verdictOf kind (storeVectorAndReplant words l .process) ≡ Stops) × (answerOf kind words l ≡ owedIn l))
-    ⊎ ((verdictOf kind (storeVectorAndReplant words l .process) ≡ Stops → ⊥) × (owes (answerOf kind words l) ≡ false))
-unfolding answerOf
+    → ((verdictOf kind (storeVectorAndReplant words l .process) ≡ Stops (recipientOf kind words l)) × (answerOf kind words l ≡ owedIn l))
+    ⊎ ((verdictOf kind (storeVectorAndReplant words l .process) ≡ Stops (recipientOf kind words l) → ⊥) × (owes (answerOf kind words l) ≡ false))
+unfolding answerOf recipientOf
 answer-or kind words l = go (verdictOf kind (storeVectorAndReplant words l .process))
   where
-    go : (v : Verdict) → ((v ≡ Stops) × (answeredBy v (owedIn l) ≡ owedIn l)) ⊎ ((v ≡ Stops → ⊥) × (owes (answeredBy v (owedIn l)) ≡ false))
-    go Stops = inl (refl, refl)
+    go : (v : Verdict) → ((v ≡ Stops (toldBy v)) × (answeredBy v (owedIn l) ≡ owedIn l)) ⊎ ((v ≡ Stops (toldBy v) → ⊥) × (owes (answeredBy v (owedIn l)) ≡ false))
+    go (Stops host) = inl (refl, refl)
     go (CountsDown k) = inr ((λ e. let z : _≡_ {A = ℕ} 0 1 = cc in omega arith), refl)
     go GoesOn = inr ((λ e. let z : _≡_ {A = ℕ} 0 1 = cc in omega arith), refl)

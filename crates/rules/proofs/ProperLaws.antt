@@ -2,29 +2,25 @@
 use mathlib.Core.Path.{_≡_, refl, sym, _∙_}
 use mathlib.Core.Bool.{Bool, true, false, cond}
 use mathlib.Core.List.{List, [], map}
-use Prim.Native.Nat.{ℕ, _+_, _-_, _≤_, _%_}
+use Prim.Native.Nat.{ℕ, _+_, _≤_}
 use native.Mathlib.Omega.{arith}
 use lib.ListN.{length, set, length-set, length-map, length-replicate}
 use lib.Seq.{length-paste}
 use Rattle.run_state.specs.declared.Run.the-variants.{Running}
-use Rattle.breakpoints.specs.declared.entry_query.EntryQuery.the-variants.{Free, At}
-use Rattle.breakpoints.specs.declared.entry.Breakpoint.{Breakpoint}
-use Rattle.breakpoints.specs.Entry.{breakpointAt, withCount}
-use Rattle.process.specs.Record.{fresh, entry, withRun, withVector, withEntry}
-use Rattle.process.specs.Find.{find}
+use Rattle.process.specs.Record.{fresh, withRun, withVector}
 use Rattle.process.specs.Sound.{Sound, SizeRight}
 use Rattle.run_state.specs.RunState.{stoppedOrAtBreak, atBreak, accepts}
 use Rattle.breakpoints.specs.Seen.{seen, savedFrom}
 use Rattle.process.specs.Request.{sheltered}
 use Rattle.process.specs.Local.{Local, local, extent, Proper}
-use Rattle.process.specs.Planting.{plantedIn, removedFrom}
-use Rattle.process.specs.Request.{onRecord, hasBreak, hasRoom, endDebugged, stepped, proceeded, toBeSeen, deposited, breakSet, breakRemoved, created, cleared}
+use Rattle.process.specs.Planting.{removedFrom}
+use Rattle.process.specs.Request.{onRecord, hasBreak, endDebugged, stepped, proceeded, toBeSeen, deposited, breakRemoved, created, cleared}
 use Rattle.process.specs.Report.{reported}
 use Rattle.process.proofs.ReportLaws.{length-reported, eight-reported, extent-reported}
 use Rattle.process.proofs.SoundTestLaws.{sound-passes}
 use Rattle.breakpoints.proofs.SeenLaws.{length-seen}
 use Rattle.process.proofs.TestedLaws.{tested-sound}
-use Rattle.process.proofs.PlantingLaws.{length-plantedIn, length-removedFrom, length-entry}
+use Rattle.process.proofs.PlantingLaws.{length-removedFrom}
 use Rattle.process.proofs.KeptLaws.{shape-stepped, shape-proceeded}
 use Rattle.process.proofs.ProperLaws.{shape-proper}
 use Rattle.process.proofs.TheoremLaws.{sound-stays}
@@ -48,17 +44,9 @@ entries l = length (l .process .breaks)
 abbrev size : Local → ℕ
 size l = length (l .bytes)
 
-entries-plantedIn : (k : ℕ) (b : Breakpoint) (l : Local) → entries (plantedIn k b l) ≡ entries l
-unfolding plantedIn
-entries-plantedIn k b l = simp length-set
-
 entries-removedFrom : (k : ℕ) (l : Local) → entries (removedFrom k l) ≡ entries l
 unfolding removedFrom
 entries-removedFrom k l = simp length-set
-
-asked-plantedIn : (k : ℕ) (b : Breakpoint) (l : Local) → extent (plantedIn k b l .process) ≡ extent (l .process)
-unfolding plantedIn
-asked-plantedIn k b l = refl
 
 -- ---- each request
 
@@ -91,18 +79,6 @@ module _ (l : Local) (g : Proper l) where
       (length-map bs (savedFrom (toBeSeen at string l)))
       (length-seen (map (savedFrom (l .bytes)) bs) (toBeSeen at string l) ∙ pasted ∙ whole)
       refl
-
-  pub break-proper : (a n : ℕ) → (l .process .host ≡ 0 → ⊥) → a % 2 ≡ 0 → a + 2 ≤ l .process .size → (hasBreak a (l .process) ≡ false → hasRoom (l .process) ≡ true) → Proper (breakSet a n l)
-  unfolding breakSet
-  break-proper a n host even within room =
-      let k = find (At a) (l .process) in
-      let t = hasBreak a (l .process) in
-      let counted = onRecord (withEntry k (withCount n (entry (l .process) k))) l in
-      let new = plantedIn (find Free (l .process)) (breakpointAt a n) l in
-      kept-proper (breakSet a n l) (sound-stays .break a n l g host even within room)
-      (by-cond entries t counted new (entries l) (length-entry k _ (l .process)) (entries-plantedIn _ (breakpointAt a n) l))
-      (by-cond size t counted new (size l) refl (length-plantedIn _ (breakpointAt a n) l))
-      (by-cond asked t counted new (asked l) refl (asked-plantedIn _ (breakpointAt a n) l))
 
   pub unbreak-proper : (a : ℕ) → hasBreak a (l .process) ≡ true → Proper (breakRemoved a l)
   unfolding breakRemoved removedFrom

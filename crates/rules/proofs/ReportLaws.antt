@@ -1,21 +1,20 @@
 -- The laws of machine reports and of stores by the machine. Assumes nothing.
 use mathlib.Core.Path.{_≡_, refl, sym, ap, _∙_}
-use mathlib.Core.Bool.{true, not}
+use mathlib.Core.Bool.{true}
 use mathlib.Core.List.{List, []}
 use mathlib.Core.Logic.{_⊎_, inl, inr}
 use native.Mathlib.Omega.{arith}
 use Prim.Native.Nat.{ℕ, _<_}
-use borrow.Author.Tests.{eq-eqb, ltb-true, not-false}
+use borrow.Author.Tests.{eq-eqb, eqb-false, ltb-true, not-true, not-false}
 use lib.Dec.{eqb, ltb}
 use Rattle.lists.specs.Word.{lowFirst}
-use Rattle.lists.proofs.Bool.{&&-both}
 use Rattle.format.specs.Outcome.{firstFailing}
 use Rattle.format.specs.Answer.{noticeOf}
 use Rattle.format.proofs.OutcomeLaws.{first-passes, rest-passes}
 use Rattle.session.specs.Session.{textHost, owes}
 use Rattle.process.specs.Local.{Local, Proper}
 use Rattle.process.specs.Report.{reported, recipientOf, answerOf}
-use Rattle.process.proofs.ReportLaws.{recipient-host}
+use Rattle.process.proofs.ReportLaws.{recipient-insider}
 use Rattle.process.proofs.AnswerLaws.{answer-owed}
 use Rattle.rules.specs.Rule.{Public, public, names}
 use Rattle.rules.specs.TextRule.{owedLine}
@@ -28,7 +27,7 @@ use Rattle.rules.specs.Isolation.{asker, subject, event, passedOver, fie
 use Rattle.rules.specs.Total.{testsOf, numbersOf, oneOf}
 use Rattle.rules.proofs.ProperLaws.{sound-of, report-proper, store-proper}
 use Rattle.rules.proofs.StateLaws.{fits-kept}
-use Rattle.rules.proofs.RuleLaws.{public-reported, count-reported}
+use Rattle.rules.proofs.RuleLaws.{host-in, insider-in, turns-kept, public-reported, count-reported}
 use Rattle.rules.proofs.NumberLaws.{by-test, same-cond, first-listed, orElse-zero}
 use Rattle.rules.proofs.TurnLaws.{report-number, report-turn, store-number, store-turn}
 use Rattle.rules.proofs.AccessLaws.{May, Sends, Discreet, Fair, outerNumber}
@@ -41,21 +40,20 @@ kept u = u
 -- ---- reports
 
 module _ (p kind reason : ℕ) (words : List ℕ) where
-  told-sees : (l : Local) → told kind words l ≡ true → insider (public (l .process)) (recipientOf kind words l) ≡ true
-  unfolding insider public
-  told-sees l e =
-      &&-both (not (eqb (recipientOf kind words l) 0)) _ e (eq-eqb (l .process .host) (recipientOf kind words l) (sym (recipient-host kind words l e)))
+  -- who is told debugs the process or watches it
+  told-sees : (l : Local) → Proper l → told kind words l ≡ true → insider (public (l .process)) (recipientOf kind words l) ≡ true
+  told-sees l g e = insider-in (l .process) (recipientOf kind words l) (eqb-false _ 0 (not-true _ e)) (recipient-insider kind words l g e)
 
   -- an answer is owed to host 253 alone, which debugs the process
   owed-sees : (l : Local) → Proper l → owes (answerOf kind words l) ≡ true → insider (public (l .process)) textHost ≡ true
-  unfolding insider public
-  owed-sees l g e = eq-eqb (l .process .host) textHost (sound-of l g .owed (ap owes (sym (answer-owed kind words l e)) ∙ e))
+  unfolding public
+  owed-sees l g e = host-in (public (l .process)) textHost (λ z. omega (arith, z)) (eq-eqb (l .process .host) textHost (sound-of l g .owed (ap owes (sym (answer-owed kind words l e)) ∙ e)))
 
   report-discreet : (l : Local) → Proper l → Discreet nobody (public (l .process)) (reportAccess p kind reason words .reply l)
   unfolding Discreet reportAccess noticeOf owedLine
   report-discreet l g = record {
     notice = by-test (λ (bytes : List ℕ). (bytes ≡ []) ⊎ Sends (public (l .process)) bytes) (told kind words l)
-        (λ e. inr (record { header = noticeOf (recipientOf kind words l) kind p reason; string = lowFirst words; is = refl; sees = told-sees l e }))
+        (λ e. inr (record { header = noticeOf (recipientOf kind words l) kind p reason; string = lowFirst words; is = refl; sees = told-sees l g e }))
         (λ e. inl refl);
     line = by-test (λ (bytes : List ℕ). (bytes ≡ []) ⊎ (insider (public (l .process)) textHost ≡ true)) (owes (answerOf kind words l))
         (λ e. inr (owed-sees l g e)) (λ e. inl refl);
@@ -100,7 +98,7 @@ module _ (p kind reason : ℕ) (words : List ℕ) where
       carries = λ l e. absurd (omega (arith, e));
       anew = λ e. absurd (omega (arith, e));
       told = λ d l q. report-silent d _ q ∙ sym (same-cond (eqb q p) (d q));
-      turns = λ z. inl refl;
+      turns = λ z. turns-kept _ _ p _;
     }
 
     pub report-lawful : Lawful here
@@ -152,7 +150,7 @@ module _ (p x v : ℕ) where
     carries = λ l e. absurd (omega (arith, e));
     anew = λ e. absurd (omega (arith, e));
     told = λ d l q. store-silent d _ q ∙ sym (same-cond (eqb q p) (d q));
-    turns = λ z. inl refl;
+    turns = λ z. turns-kept _ _ p _;
   }
 
   pub store-lawful : Lawful (store p x v)

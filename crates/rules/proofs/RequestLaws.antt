@@ -37,7 +37,7 @@ use Rattle.rules.specs.Isolation.{Processes, namesOne, deposits, without
 use Rattle.rules.specs.Total.{testsOf, numbersOf, oneOf}
 use Rattle.rules.proofs.ProperLaws.{new-proper, create-size}
 use Rattle.rules.proofs.StateLaws.{extentOf, Fits, each-sound, layout-of, used-shown, fits-kept}
-use Rattle.rules.proofs.RuleLaws.{Open, Kept, Row, rule-row}
+use Rattle.rules.proofs.RuleLaws.{Passing, Open, Kept, Row, rule-row}
 use Rattle.rules.proofs.RuleLaws.{Taking as RowTaking}
 use Rattle.rules.proofs.NumberLaws.{by-test, same-cond, first-listed, orElse-zero, first-append, Sent, layout-sent}
 use Rattle.rules.proofs.TurnLaws.{request-number, request-turn}
@@ -50,46 +50,50 @@ use Rattle.rules.proofs.CallLaws.{Shown, Silent, There, Nowhere, Placed
 passes : (t : Bool) → not t ≡ false → t ≡ true
 passes t e = not-false t e
 
-module _ (cmd : ℕ) (r : Rule) (row : Row cmd r) (h : Header) (string : List ℕ) (asked : h .host ≡ 0 → ⊥) (carried : length string ≤ h .arg2) where
-  host-in : (u : Public) → u .host ≡ h .host → insider u (h .host) ≡ true
-  unfolding insider
-  host-in u e = rw (ne-eqb (h .host) 0 asked, eq-eqb (u .host) (h .host) e)
+-- all that a request passed that is granted
+pub rule-passing : (r : Rule) (h : Header) (string : List ℕ) → (h .host ≡ 0 → ⊥) → length string ≤ h .arg2 → (l : Local) → numberAt (ruleAccess r h string) l ≡ 0
+    → Passing r h string (l .process)
+unfolding ruleAccess numberAt public
+rule-passing r h string asked carried l z =
+    let o = orElse-zero (outerNumber (ruleAccess r h string) l) (firstFailing (ruleAccess r h string .inner l)) z in
+    let e8 = rest-passes 6 _ _ (o .0) in
+    let e9 = o .1 in
+    let e10 = rest-passes 8 _ _ e9 in
+    let e11 = rest-passes 9 _ _ e10 in
+    let e12 = rest-passes 10 _ _ e11 in
+    let e16 = rest-passes 11 _ _ e12 in
+    record {
+      there = passes _ (head-passes 6 _ _ (o .0));
+      asked = asked;
+      carried = carried;
+      right = passes _ (head-passes 7 _ _ e8);
+      unwatched = passes _ (head-passes 14 _ _ (rest-passes 7 _ _ e8));
+      runs = passes _ (head-passes 8 _ _ e9);
+      range = passes _ (head-passes 9 _ _ e10);
+      room = passes _ (head-passes 10 _ _ e11);
+      found = passes _ (head-passes 11 _ _ e12);
+      his = passes _ (head-passes 15 _ _ e16);
+    }
 
+module _ (cmd : ℕ) (r : Rule) (row : Row cmd r) (h : Header) (string : List ℕ) (asked : h .host ≡ 0 → ⊥) (carried : length string ≤ h .arg2) where
   open-none : Open r → (l : Local) → firstFailing (ruleAccess r h string .inner l) ≡ 0
   unfolding ruleAccess firstFailing
-  open-none o l = rw (o .runs (l .process .run), o .range h (l .process .size), o .room (h .arg1) (l .process), o .found (h .arg1) (l .process))
+  open-none o l = rw (o .runs (l .process .run), o .range h (l .process .size), o .room h (l .process), o .found h (l .process), o .his h (l .process))
 
   rule-guarded : (u : Public) → firstFailing (ruleAccess r h string .outer u) ≡ 0 → May (by (h .host)) u (ruleAccess r h string) (publicThen cmd (h .host))
   unfolding ruleAccess May
-  rule-guarded u e = go (row .guarded u (h .host) (not-false _ (head-passes 7 _ _ (rest-passes 6 _ _ e))))
+  rule-guarded u e = go (row .guarded u (h .host) asked (not-false _ (head-passes 7 _ _ (rest-passes 6 _ _ e))))
     where
-      go : (u .host ≡ h .host) ⊎ RowTaking cmd r → (insider u (h .host) ≡ true) ⊎ Taking (h .host) (ruleAccess r h string) (publicThen cmd (h .host))
-      go (inl i) = inl (host-in u i)
+      go : (insider u (h .host) ≡ true) ⊎ RowTaking cmd r → (insider u (h .host) ≡ true) ⊎ Taking (h .host) (ruleAccess r h string) (publicThen cmd (h .host))
+      go (inl i) = inl i
       go (inr t) = inr (record {
         none = open-none (t .free);
         blind = λ l k. ap (λ (string : List ℕ). alone (written h string)) (t .free .shown h l ∙ sym (t .free .shown h k));
-        takes = λ v. host-in (publicThen cmd (h .host) v) (t .takes (h .host) v);
+        takes = λ v. t .takes (h .host) asked v;
       })
 
   rule-keeps : (l : Local) → Proper l → numberAt (ruleAccess r h string) l ≡ 0 → Proper (r .effect h string l)
-  unfolding ruleAccess numberAt public
-  rule-keeps l g z =
-      let o = orElse-zero (outerNumber (ruleAccess r h string) l) (firstFailing (ruleAccess r h string .inner l)) z in
-      let e9 = o .1 in
-      let e10 = rest-passes 8 _ _ e9 in
-      let e11 = rest-passes 9 _ _ e10 in
-      let e12 = rest-passes 10 _ _ e11 in
-      row .keeps h string l g
-      (record {
-        there = passes _ (head-passes 6 _ _ (o .0));
-        asked = asked;
-        carried = carried;
-        right = passes _ (head-passes 7 _ _ (rest-passes 6 _ _ (o .0)));
-        runs = passes _ (head-passes 8 _ _ e9);
-        range = passes _ (head-passes 9 _ _ e10);
-        room = passes _ (head-passes 10 _ _ e11);
-        found = passes _ (head-passes 11 _ _ e12);
-      })
+  rule-keeps l g z = row .keeps h string l g (rule-passing r h string asked carried l z)
 
   rule-fair : Fair (by (h .host)) (ruleAccess r h string) (publicThen cmd (h .host))
   unfolding ruleAccess Kept Discreet
@@ -114,10 +118,12 @@ unfolding publicThen
 then-narrows cmd asker u =
     by-test (λ (v : Public). extentOf v ≤ extentOf u) (eqb cmd 1) (λ e. omega arith)
     (λ e. by-test (λ (v : Public). extentOf v ≤ extentOf u) (eqb cmd 2) (λ i. omega arith)
-    (λ i. by-test (λ (v : Public). extentOf v ≤ extentOf u) (eqb cmd 13) (λ j. omega arith) (λ j. omega arith)))
+    (λ i. by-test (λ (v : Public). extentOf v ≤ extentOf u) (eqb cmd 13) (λ j. omega arith)
+    (λ j. by-test (λ (v : Public). extentOf v ≤ extentOf u) (eqb cmd 14) (λ k. omega arith)
+    (λ k. by-test (λ (v : Public). extentOf v ≤ extentOf u) (eqb cmd 15) (λ n. omega arith) (λ n. omega arith)))))
 
 abbrev pub createdThen : Header → Public → Public
-createdThen h u = record { there = true; host = h .host; size = sizeAsked h }
+createdThen h u = record { there = true; host = h .host; watcher = 0; size = sizeAsked h }
 
 -- the size that a CREATE asks for is right
 pub asked-right : (h : Header) → FittingSize (h .arg1) → SizeRight (sizeAsked h)
@@ -164,15 +170,28 @@ fits-named : (s : State) → Ready s → (cmd asker p : ℕ) → Fits s p (publi
 unfolding publicThen
 fits-named s r cmd asker p =
     by-test (Fits s p) (eqb cmd 1) (λ e. same (fits-kept s r p)) (λ e. by-test (Fits s p) (eqb cmd 2) (λ i. same (fits-kept s r p))
-    (λ i. by-test (Fits s p) (eqb cmd 13) (λ j. record { kept = λ b a. absurd (true≢false (sym a)); room = λ b. let all = layout-of s r .fits in omega arith }) (λ j. fits-kept s r p)))
+    (λ i. by-test (Fits s p) (eqb cmd 13) (λ j. record { kept = λ b a. absurd (true≢false (sym a)); room = λ b. let all = layout-of s r .fits in omega arith })
+    (λ j. by-test (Fits s p) (eqb cmd 14) (λ k. same (fits-kept s r p)) (λ k. by-test (Fits s p) (eqb cmd 15) (λ n. same (fits-kept s r p)) (λ n. fits-kept s r p)))))
   where
-    same : {host : ℕ} → Fits s p (publicOf s p) → Fits s p (record { there = publicOf s p .there; host = host; size = publicOf s p .size })
+    same : {host watcher : ℕ} → Fits s p (publicOf s p) → Fits s p (record { there = publicOf s p .there; host = host; watcher = watcher; size = publicOf s p .size })
     same f = record { kept = f .kept; room = f .room }
 
 -- the record that CREATE takes has no host
 absent-unheld : (s : State) → Ready s → lowestAbsent (s .records) < 8 → publicOf s (lowestAbsent (s .records)) .host ≡ 0
 unfolding public
 absent-unheld s r low = each-sound s r (lowestAbsent (s .records)) low .absent (lowest-absent s r low) .0
+
+-- and so no watcher
+absent-unwatched : (s : State) → Ready s → lowestAbsent (s .records) < 8 → 0 ≡ publicOf s (lowestAbsent (s .records)) .watcher
+unfolding public
+absent-unwatched s r low = go (eqb (publicOf s q .watcher) 0) refl
+  where
+    q : ℕ
+    q = lowestAbsent (s .records)
+
+    go : (t : Bool) → eqb (publicOf s q .watcher) 0 ≡ t → 0 ≡ publicOf s q .watcher
+    go true e = sym (eqb-true _ 0 e)
+    go false e = absurd (each-sound s r q low .watched (eqb-false _ 0 e) .0 (absent-unheld s r low))
 
 same-absent : (s t : State) → Ready s → Ready t → Shown s t → lowestAbsent (s .records) ≡ lowestAbsent (t .records)
 unfolding lowestAbsent public
@@ -219,7 +238,9 @@ module _ (m buffer : List ℕ) (s : State) (r : Ready s) (sent : Sent m) where
     carries = λ l e. absurd (true≢false (sym (eq-eqb (h .cmd) 12 e) ∙ create-unnamed (h .cmd) n));
     anew = λ e. absurd (true≢false (sym (eq-eqb (h .cmd) 12 e) ∙ create-unnamed (h .cmd) n));
     told = λ d l q. rw (n, create-unnamed (h .cmd) n);
-    turns = λ z. known .turns h refl (publicOf s (h .pid)) (not-false _ (head-passes 7 _ _ (rest-passes 6 _ _ z)));
+    turns = λ z.
+        let e8 = rest-passes 6 _ _ z in
+        known .turns h refl (publicOf s (h .pid)) (not-false _ (head-passes 7 _ _ e8)) (not-false _ (head-passes 14 _ _ (rest-passes 7 _ _ e8)));
   }
 
   place-created : names (headerOf m .cmd) ≡ false → creates (headerOf m .cmd) ≡ true → (lowestAbsent (s .records) < 8) × (sizeAsked (headerOf m) ≤ freeBytes (s .records))
@@ -237,7 +258,10 @@ module _ (m buffer : List ℕ) (s : State) (r : Ready s) (sent : Sent m) where
     carries = λ l e. refl;
     anew = λ e l k. refl;
     told = λ d l q. rw (n, c);
-    turns = λ z. inr (inl (record { op = inr (eqb-true (h .cmd) 12 c); before = absent-unheld s r (placed .0); after = refl }));
+    turns = λ z. record {
+      debugs = inr (inl (record { op = inr (eqb-true (h .cmd) 12 c); before = absent-unheld s r (placed .0); after = refl }));
+      watches = inl (absent-unwatched s r (placed .0));
+    };
   }
 
   place-idle : names (headerOf m .cmd) ≡ false → creates (headerOf m .cmd) ≡ false → Nowhere here (alone (written h []))

@@ -18,7 +18,7 @@ use Rattle.rules.specs.Ready.{Ready}
 use Rattle.rules.specs.Run.{final}
 use Rattle.rules.specs.Isolation.{asker, subject, fieldsOf, isGranted, publicOf}
 use Rattle.rules.specs.Rights.{holder, Allowed, Creates, Reaches, MayChange, Begins, Ends, NoneEnds, NoneBegins, Rights}
-use Rattle.rules.proofs.RuleLaws.{Turns}
+use Rattle.rules.proofs.RuleLaws.{BeginsBy, EndsBy, Turns}
 use Rattle.rules.proofs.AccessLaws.{May, outer-zero}
 use Rattle.rules.proofs.CallLaws.{There}
 use Rattle.rules.proofs.StepLaws.{Done, stays, idles, acts, done, acts-changed, step-ready}
@@ -60,32 +60,51 @@ changes s r c p low out = go (done s r c)
             absurd (out (subst (λ (k : ℕ). MayChange k s c) (sym same) rw e (acts-reaches s c q a t, acts-allowed s r c q a t z)))
         at false i = rw e (acts-changed s r c q a t z .else p low (eqb-false p q i))
 
--- what a call with these fields does to the right, where it is granted
-begun : (s : State) (c : Call) (p : ℕ) → isGranted (step s c .answer .outcome) ≡ true → (fieldsOf c .cmd ≡ CREATE → getD (step s c .answer .buffer) 5 0 ≡ p)
-    → Turns (asker c) (fieldsOf c) p (publicOf s p) (publicOf (step s c .after) p) → (holder (step s c .after) p ≡ holder s p) ⊎ (Begins p s c ⊎ Ends p s c)
-begun s c p g n (inl e) = inl e
-begun s c p g n (inr (inl b)) = inr (inl (record { granted = g; op = go (b .op); before = b .before; after = b .after }))
-  where
-    go : ((fieldsOf c .cmd ≡ DEBUG) × (fieldsOf c .pid ≡ p)) ⊎ (fieldsOf c .cmd ≡ CREATE) → ((fieldsOf c .cmd ≡ DEBUG) × (fieldsOf c .pid ≡ p)) ⊎ Creates p c (step s c .answer)
-    go (inl d) = inl d
-    go (inr e) = inr (e, n e)
-begun s c p g n (inr (inr b)) = inr (inr (record { granted = g; op = b .op; named = b .named; before = b .before; after = b .after }))
+-- what a granted call turned at process p: the right to debug it, and the watch
+pub record Turned (p : ℕ) (s : State) (c : Call) : Type 0 where
+  pub granted : isGranted (step s c .answer .outcome) ≡ true
+  pub carries : fieldsOf c .cmd ≡ CREATE → getD (step s c .answer .buffer) 5 0 ≡ p
+  pub turns : Turns (asker c) (fieldsOf c) p (publicOf s p) (publicOf (step s c .after) p)
 
-turns : (s : State) → Ready s → (c : Call) (p : ℕ) → p < 8 → (holder (step s c .after) p ≡ holder s p) ⊎ (Begins p s c ⊎ Ends p s c)
+-- the public part stays, or a granted call turned it
+pub turned : (s : State) → Ready s → (c : Call) (p : ℕ) → p < 8 → (publicOf (step s c .after) p ≡ publicOf s p) ⊎ Turned p s c
 unfolding isGranted
-turns s r c p low = go (done s r c)
+turned s r c p low = go (done s r c)
   where
-    go : Done s c (step s c) → (holder (step s c .after) p ≡ holder s p) ⊎ (Begins p s c ⊎ Ends p s c)
+    go : Done s c (step s c) → (publicOf (step s c .after) p ≡ publicOf s p) ⊎ Turned p s c
     go (stays number bytes e) = inl (rw e)
     go (idles bytes n e) = inl (rw e)
     go (acts q a t z e) = at (eqb p q) refl
       where
-        at : (b : Bool) → eqb p q ≡ b → (holder (step s c .after) p ≡ holder s p) ⊎ (Begins p s c ⊎ Ends p s c)
+        at : (b : Bool) → eqb p q ≡ b → (publicOf (step s c .after) p ≡ publicOf s p) ⊎ Turned p s c
         at true i =
             let same = eqb-true p q i in
-            begun s c p (ap (λ (x : StepResult). isGranted (x .answer .outcome)) e) (λ i. rw (e, same) (t .carries (localOf s q) i))
-            (subst (λ (k : ℕ). Turns (asker c) (fieldsOf c) k (publicOf s k) (publicOf (step s c .after) k)) (sym same) (rw e (acts-turns s r c q a t z)))
-        at false i = inl (rw e (ap (λ (u : Public). u .host) (acts-else s r c q a t z p (eqb-false p q i))))
+            inr (record {
+              granted = ap (λ (x : StepResult). isGranted (x .answer .outcome)) e;
+              carries = λ i. rw (e, same) (t .carries (localOf s q) i);
+              turns = subst (λ (k : ℕ). Turns (asker c) (fieldsOf c) k (publicOf s k) (publicOf (step s c .after) k)) (sym same) (rw e (acts-turns s r c q a t z));
+            })
+        at false i = inl (rw e (acts-else s r c q a t z p (eqb-false p q i)))
+
+turns : (s : State) → Ready s → (c : Call) (p : ℕ) → p < 8 → (holder (step s c .after) p ≡ holder s p) ⊎ (Begins p s c ⊎ Ends p s c)
+turns s r c p low = go (turned s r c p low)
+  where
+    op : (fieldsOf c .cmd ≡ CREATE → getD (step s c .answer .buffer) 5 0 ≡ p) → ((fieldsOf c .cmd ≡ DEBUG) × (fieldsOf c .pid ≡ p)) ⊎ (fieldsOf c .cmd ≡ CREATE)
+        → ((fieldsOf c .cmd ≡ DEBUG) × (fieldsOf c .pid ≡ p)) ⊎ Creates p c (step s c .answer)
+    op n (inl d) = inl d
+    op n (inr e) = inr (e, n e)
+
+    begun : Turned p s c
+        → (holder (step s c .after) p ≡ holder s p)
+        ⊎ (BeginsBy (asker c) (fieldsOf c) p (publicOf s p) (publicOf (step s c .after) p) ⊎ EndsBy (asker c) (fieldsOf c) p (publicOf s p) (publicOf (step s c .after) p))
+        → (holder (step s c .after) p ≡ holder s p) ⊎ (Begins p s c ⊎ Ends p s c)
+    begun t (inl e) = inl e
+    begun t (inr (inl b)) = inr (inl (record { granted = t .granted; op = op (t .carries) (b .op); before = b .before; after = b .after }))
+    begun t (inr (inr b)) = inr (inr (record { granted = t .granted; op = b .op; named = b .named; before = b .before; after = b .after }))
+
+    go : (publicOf (step s c .after) p ≡ publicOf s p) ⊎ Turned p s c → (holder (step s c .after) p ≡ holder s p) ⊎ (Begins p s c ⊎ Ends p s c)
+    go (inl e) = inl (ap (λ (u : Public). u .host) e)
+    go (inr t) = begun t (t .turns .debugs)
 
 -- ---- lists
 

@@ -1,6 +1,6 @@
 -- The law of text lines: one law for each letter's row, and all else goes by these. Assumes nothing.
 use mathlib.Core.Path.{_≡_, refl, sym, _∙_}
-use mathlib.Core.Bool.{true, false, _||_, true≢false}
+use mathlib.Core.Bool.{true, _||_, true≢false}
 use mathlib.Core.List.{List}
 use mathlib.Core.Logic.{inl, inr}
 use native.Mathlib.Omega.{arith}
@@ -24,6 +24,7 @@ use Rattle.process.specs.Local.{Local, Proper}
 use Rattle.process.specs.Request.{deposited, vectorAfter, continued, steppedFrom}
 use Rattle.process.proofs.KeptLaws.{shape, same-words, shape-continued, shape-steppedFrom}
 use Rattle.process.proofs.ProperLaws.{continued-proper, stepped-from-proper}
+use Rattle.process.proofs.WatcherKept.{watcherOf, watcher-continued, watcher-steppedFrom}
 use Rattle.rules.specs.Rule.{Public, public, names}
 use Rattle.rules.specs.TextRule.{TextRule, wordBytes, wordRange, readWordRule, writeWordRule, readRegisterRule, writeRegisterRule, goRule, textRuleOf}
 use Rattle.rules.specs.Tests.{State, textTests, textNumber}
@@ -35,7 +36,7 @@ use Rattle.rules.specs.Isolation.{Processes, lineNamesOne, withoutWritte
 use Rattle.rules.specs.Total.{testsOf, numbersOf, oneOf}
 use Rattle.rules.proofs.ProperLaws.{deposit-proper, vector-proper}
 use Rattle.rules.proofs.StateLaws.{fits-kept}
-use Rattle.rules.proofs.RuleLaws.{same-public, whole}
+use Rattle.rules.proofs.RuleLaws.{same-public, host-in, turns-kept, whole}
 use Rattle.rules.proofs.NumberLaws.{by-test, same-cond, first-listed, orElse-zero}
 use Rattle.rules.proofs.TurnLaws.{text-number, text-turn}
 use Rattle.rules.proofs.AccessLaws.{May, Discreet, Fair, outerNumber}
@@ -45,25 +46,24 @@ use Rattle.rules.proofs.ReportLaws.{kept}
 -- ---- the law of a row
 
 -- all that the tests of a process say of a line that passes them
-record Passing (r : TextRule) (x : Line) (p : Process) : Type 0 where
-  there : p .there ≡ true
-  right : r .right (public p) ≡ true
-  state : r .state x p ≡ true
-  range : r .range x (p .size) ≡ true
+pub record Passing (r : TextRule) (x : Line) (p : Process) : Type 0 where
+  pub there : p .there ≡ true
+  pub right : r .right (public p) ≡ true
+  pub state : r .state x p ≡ true
+  pub range : r .range x (p .size) ≡ true
 
 record TextRow (r : TextRule) : Type 0 where
   -- a sound process stays sound
   keeps : (x : Line) (l : Local) → Proper l → Passing r x (l .process) → Proper (r .effect x l)
   -- and its vector has nine words
   words : (x : Line) (l : Local) → NineWords (l .process) → NineWords (r .effect x l .process)
-  -- host 253 debugs the process, where it may ask
+  -- host 253 debugs the process, or watches it, where it may ask
   guarded : (u : Public) → r .right u ≡ true → insider u textHost ≡ true
   -- the public part stays
   publicly : (x : Line) (l : Local) → public (r .effect x l .process) ≡ public (l .process)
 
 holds-in : (u : Public) → eqb (u .host) textHost ≡ true → insider u textHost ≡ true
-unfolding insider
-holds-in u e = e
+holds-in u e = host-in u textHost (λ z. omega (arith, z)) e
 
 -- ---- the rows
 
@@ -89,14 +89,14 @@ unfolding public vectorAfter vectorOf
 write-register-row = record { keeps = λ x l g p. vector-proper _ l g; words = λ x l n. refl; guarded = holds-in; publicly = λ x l. refl }
 
 -- `c` and `s`, by what they leave
-go-row : (effect : ℕ → Local → Local) → ((a : ℕ) (l : Local) → shape (effect a l) ≡ shape l)
+go-row : (effect : ℕ → Local → Local) → ((a : ℕ) (l : Local) → shape (effect a l) ≡ shape l) → ((a : ℕ) (l : Local) → watcherOf (effect a l) ≡ watcherOf l)
     → ((l : Local) → Proper l → (a : ℕ) → stoppedOrAtBreak (l .process .run) ≡ true → l .process .host ≡ textHost → Proper (effect a l)) → TextRow (goRule effect)
 unfolding public
-go-row effect same proper = record {
+go-row effect same watched proper = record {
   keeps = λ x l g p. proper l g (x .third) (p .state) (eqb-true (l .process .host) textHost (p .right));
   words = λ x l n. same-words (same (x .third) l) ∙ n;
   guarded = holds-in;
-  publicly = λ x l. same-public (effect (x .third) l) l (same (x .third) l);
+  publicly = λ x l. same-public (effect (x .third) l) l (same (x .third) l) (watched (x .third) l);
 }
 
 text-row : (letter : ℕ) → TextRow (textRuleOf letter)
@@ -106,23 +106,25 @@ text-row letter =
     (λ e. by-test TextRow (eqb letter WRITE-CODE || eqb letter WRITE-DATA) (λ i. write-word-row)
     (λ i. by-test TextRow (eqb letter READ-REGISTER) (λ j. read-register-row)
     (λ j. by-test TextRow (eqb letter WRITE-REGISTER) (λ k. write-register-row)
-    (λ k. by-test TextRow (eqb letter CONTINUE) (λ c. go-row continued shape-continued continued-proper) (λ c. go-row steppedFrom shape-steppedFrom stepped-from-proper)))))
+    (λ k. by-test TextRow (eqb letter CONTINUE) (λ c. go-row continued shape-continued watcher-continued continued-proper) (λ c. go-row steppedFrom shape-steppedFrom watcher-steppedFrom stepped-from-proper)))))
 
 -- ---- at the process that a line names
 
 module _ (x : Line) where
-  text-keeps : (l : Local) → Proper l → numberAt (textAccess x) l ≡ 0 → Proper (textRuleOf (x .letter) .effect x l)
+  pub text-passing : (l : Local) → numberAt (textAccess x) l ≡ 0 → Passing (textRuleOf (x .letter)) x (l .process)
   unfolding textAccess numberAt public
-  text-keeps l g z =
+  text-passing l z =
       let o = orElse-zero (outerNumber (textAccess x) l) (firstFailing (textAccess x .inner l)) z in
       let owed = rest-passes 115 _ _ (o .1) in
-      text-row (x .letter) .keeps x l g
-      (record {
+      record {
         there = not-false _ (first-passes 102 _ _ (o .0));
         right = not-false _ (first-passes 100 _ _ (rest-passes 102 _ _ (o .0)));
         state = not-false _ (first-passes 121 _ _ owed);
         range = not-false _ (first-passes 113 _ _ (rest-passes 121 _ _ owed));
-      })
+      }
+
+  text-keeps : (l : Local) → Proper l → numberAt (textAccess x) l ≡ 0 → Proper (textRuleOf (x .letter) .effect x l)
+  text-keeps l g z = text-row (x .letter) .keeps x l g (text-passing l z)
 
   text-fair : Fair (by textHost) (textAccess x) kept
   unfolding textAccess May Discreet
@@ -185,7 +187,7 @@ module _ (text buffer : List ℕ) where
     carries = λ l e. absurd (omega (arith, e));
     anew = λ e. absurd (omega (arith, e));
     told = λ d l q. text-silent text buffer d _ q ∙ sym (same-cond (eqb q (lineOf text .pid)) (d q));
-    turns = λ z. inl refl;
+    turns = λ z. turns-kept _ _ (lineOf text .pid) _;
   }
 
   text-placed : (s : State) → Ready s → firstFailing (textTurn text buffer s .tests) ≡ 0 → Placed s here (textTurn text buffer s .place)

@@ -23,7 +23,7 @@ use Rattle.rules.specs.Access.{Asker, nobody, by, insider}
 use Rattle.rules.specs.Step.{Answer, Call, request, report, store, textLine, step, localOf}
 use Rattle.rules.specs.Ready.{Ready}
 use Rattle.rules.specs.Run.{TraceItem, run, final, leave}
-use Rattle.ops.specs.Codes.{DEBUG, DEPOSIT, DEPOSIT-VECTOR, DESTROY, END-DEBUG}
+use Rattle.ops.specs.Codes.{DEBUG, DEPOSIT, DEPOSIT-VECTOR, DESTROY, END-DEBUG, END-WATCH, WATCH}
 
 -- a set of hosts
 abbrev pub Hosts : Type 0
@@ -111,7 +111,7 @@ passedOver (textLine text buffer) = textLine (withoutValue text) buffer
 abbrev pub nop : Header
 nop = record { host = 0; cmd = 0; pid = 0; arg1 = 0; arg2 = 0 }
 
--- the fields of a request; any other call changes the right to debug no more than a NOP does
+-- the fields of a request; any other call changes who debugs and who watches no more than a NOP does
 unfoldable pub fieldsOf : Call → Header
 fieldsOf (request m buffer) = headerOf m
 fieldsOf (report p kind reason words buffer line) = nop
@@ -123,28 +123,31 @@ unfoldable pub isOne : Hosts → Asker → Bool
 isOne H nobody = false
 isOne H (by host) = H host
 
--- ---- who debugs, as the calls and their answers tell it
+-- ---- who debugs and who watches, as the calls and their answers tell it
 
--- 'from a granted DEBUG .. the asker; from a granted END DEBUG or DESTROY nobody'; 'a cleared record give[s] 4,096'
+-- 'from a granted DEBUG .. the asker; from a granted END DEBUG or DESTROY nobody'; 'a cleared record give[s] 4,096'; WATCH 'makes the asker the one
+-- watcher', END WATCH 'ends it', and 'END DEBUG and DESTROY end the watch'
 unfoldable pub publicThen : ℕ → ℕ → Public → Public
 publicThen cmd asker u =
-    cond (eqb cmd DEBUG) (record { there = u .there; host = asker; size = u .size })
-    (cond (eqb cmd END-DEBUG) (record { there = u .there; host = 0; size = u .size })
-    (cond (eqb cmd DESTROY) (record { there = false; host = 0; size = memoryBytes }) u))
+    cond (eqb cmd DEBUG) (record { there = u .there; host = asker; watcher = u .watcher; size = u .size })
+    (cond (eqb cmd END-DEBUG) (record { there = u .there; host = 0; watcher = 0; size = u .size })
+    (cond (eqb cmd DESTROY) (record { there = false; host = 0; watcher = 0; size = memoryBytes })
+    (cond (eqb cmd WATCH) (record { there = u .there; host = u .host; watcher = asker; size = u .size })
+    (cond (eqb cmd END-WATCH) (record { there = u .there; host = u .host; watcher = 0; size = u .size }) u))))
 
 -- 'from a granted .. CREATE the asker', of the process whose number the reply carries; 'Nothing else changes it.'
 unfoldable pub toldOf : (ℕ → Public) → Call → Answer → ℕ → Public
 toldOf d c a p =
     cond (isGranted (a .outcome))
     (cond (names (fieldsOf c .cmd) && eqb p (fieldsOf c .pid)) (publicThen (fieldsOf c .cmd) (fieldsOf c .host) (d p))
-    (cond (creates (fieldsOf c .cmd) && eqb p (getD (a .buffer) 5 0)) (record { there = true; host = fieldsOf c .host; size = sizeAsked (fieldsOf c) }) (d p)))
+    (cond (creates (fieldsOf c .cmd) && eqb p (getD (a .buffer) 5 0)) (record { there = true; host = fieldsOf c .host; watcher = 0; size = sizeAsked (fieldsOf c) }) (d p)))
     (d p)
 
 -- the public part of a process in a state
 abbrev pub publicOf : State → ℕ → Public
 publicOf s p = public (recordOf s p)
 
--- who is there and who debugs it is what the calls and their answers tell
+-- which processes are there, who debugs and who watches each, is what the calls and their answers tell
 unfoldable pub Debuggers : Type 0
 Debuggers = (s : State) → Ready s → (c : Call) (p : ℕ) → publicOf (step s c .after) p ≡ toldOf (publicOf s) c (step s c .answer) p
 
@@ -197,12 +200,12 @@ Alike H P l₁ l₂ = strike H P l₁ ≡ strike H P l₂
 
 -- ---- states that differ in these processes alone
 
--- 'The start states differ only in P's memory and P's record, and agree on whether P is there, on its host'
+-- 'The start states differ only in P's memory and P's record, and agree on whether P is there, on its host, and on whatever is later called public.'
 pub record Apart (P : Processes) (s₁ s₂ : State) : Type 0 where
   pub shown : (p : ℕ) → p < 8 → publicOf s₁ p ≡ publicOf s₂ p
   pub others : (p : ℕ) → p < 8 → P p ≡ false → localOf s₁ p ≡ localOf s₂ p
 
--- none of these hosts debugs one of these processes
+-- none of these hosts debugs or watches one of these processes
 abbrev pub NoneDebugs : Hosts → Processes → State → Type 0
 NoneDebugs H P s = (p : ℕ) → p < 8 → P p ≡ true → (host : ℕ) → H host ≡ true → insider (publicOf s p) host ≡ false
 
@@ -217,12 +220,12 @@ theirs H P c = isOne H (asker c) && subject P c
 
 -- ---- the claim, for a set of hosts and a set of processes, where the same processes stay hidden to the end
 
--- what a set of hosts is answered does not rest on processes that they do not debug, and their requests naming those could be left out
+-- what a set of hosts is answered does not rest on processes that they neither debug nor watch, and their requests naming those could be left out
 pub record Claim (H : Hosts) (P : Processes) : Type 0 where
   -- part one: what they are answered is the same in both gateways; it is enough that they stay away in one of the two
   pub same-heard : (s₁ s₂ : State) → Ready s₁ → Ready s₂ → Apart P s₁ s₂ → (l₁ l₂ : List Call) → Alike H P l₁ l₂ → NeverDebugs H P s₁ l₁
       → heard H (run s₁ l₁) ≡ heard H (run s₂ l₂)
-  -- and so is the next answer to one of them, also the one that makes him debug such a process
+  -- and so is the next answer to one of them, also the one that makes him debug or watch such a process
   pub same-next : (s₁ s₂ : State) → Ready s₁ → Ready s₂ → Apart P s₁ s₂ → (l₁ l₂ : List Call) → Alike H P l₁ l₂ → NeverDebugs H P s₁ l₁
       → (c : Call) → isOne H (asker c) ≡ true → step (final s₁ l₁) c .answer ≡ step (final s₂ l₂) c .answer
   pub both-away : (s₁ s₂ : State) → Ready s₁ → Ready s₂ → Apart P s₁ s₂ → (l₁ l₂ : List Call) → Alike H P l₁ l₂ → NeverDebugs H P s₁ l₁

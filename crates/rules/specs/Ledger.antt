@@ -33,7 +33,7 @@ toldAfter d (e ∷ es) = toldAfter (toldOf d (e .call) (e .answer)) es
 -- what is known of each process at a fresh start
 unfoldable pub freshPublic : List Bool → List ℕ → ℕ → Public
 freshPublic there sizes p =
-    cond (getD there p false) (record { there = true; host = 0; size = getD sizes p 0 }) (record { there = false; host = 0; size = memoryBytes })
+    cond (getD there p false) (record { there = true; host = 0; watcher = 0; size = getD sizes p 0 }) (record { there = false; host = 0; watcher = 0; size = memoryBytes })
 
 -- 'the sizes, summed', of those that are there
 unfoldable pub sumOfSizes : (ℕ → Public) → ℕ

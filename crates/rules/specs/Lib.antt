@@ -18,3 +18,4 @@ pub mod OneMemory
 pub mod Ledger
 pub mod Loops
 pub mod Owed
+pub mod Watch

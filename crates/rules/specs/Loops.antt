@@ -29,6 +29,7 @@ use Rattle.rules.specs.Turn.{buffersOf}
 use Rattle.fields.specs.Written.{lineBytes}
 use Rattle.rules.specs.Ready.{Ready}
 use Rattle.rules.specs.Run.{TraceItem, traceItem}
+use Rattle.breakpoints.specs.Entry.{inUse}
 
 -- ---- the loop
 
@@ -106,12 +107,12 @@ NoticeSent host p e =
 abbrev pub ProceedGranted : ℕ → ℕ → TraceItem → Type 0
 ProceedGranted host p e = e .answer ≡ plainAnswer (outcome 0 10) (overlay (proceedMessage host p) (buffersOf (e .call) .own))
 
--- the answer to each event
-abbrev pub AnswerOf : ℕ → ℕ → Event → TraceItem → Type 0
-AnswerOf host p passes e = NothingSent e
-AnswerOf host p goesOn e = NothingSent e
-AnswerOf host p stops e = NoticeSent host p e
-AnswerOf host p proceeds e = ProceedGranted host p e
+-- the answer to each event: the notice goes to the host that set the breakpoint
+abbrev pub AnswerOf : ℕ → ℕ → ℕ → Event → TraceItem → Type 0
+AnswerOf host setter p passes e = NothingSent e
+AnswerOf host setter p goesOn e = NothingSent e
+AnswerOf host setter p stops e = NoticeSent setter p e
+AnswerOf host setter p proceeds e = ProceedGranted host p e
 
 -- ---- lists
 
@@ -130,19 +131,20 @@ pub data Among (p : ℕ) : State → List Call → List TraceItem → Type 0 whe
 
 -- ---- the theorem
 
--- a process that this host debugs, in this run state, with a breakpoint at address a that has this remaining count
-pub record BreakAt (host a count : ℕ) (run : Run) (p : Process) : Type 0 where
+-- a process that this host debugs, in this run state, with a breakpoint at address a that this setter set and that has this remaining count
+pub record BreakAt (host setter a count : ℕ) (run : Run) (p : Process) : Type 0 where
   pub hosted : p .host ≡ host
   pub runs : p .run ≡ run
   pub found : hasBreak a p ≡ true
   pub left : entry p (find (At a) p) .count ≡ count
+  pub set-by : entry p (find (At a) p) .setter ≡ setter
 
 -- what a user may rely on
 pub record Loops : Type 0 where
   -- while a process of a sound state runs, every breakpoint of it is planted
   pub planted : (s : State) → Ready s → (p : ℕ) → p < 8 → recordOf s p .run ≡ Running → (k : ℕ) → k < entryCount
-      → entry (recordOf s p) k .used ≡ true → isPlanted (entry (recordOf s p) k) ≡ true
+      → inUse (entry (recordOf s p) k) ≡ true → isPlanted (entry (recordOf s p) k) ≡ true
   -- P10 at any count n: the breakpoint is passed n times and nothing is sent; then it sends the notice, and again after each PROCEED BPT
-  pub comes-back : (s : State) → Ready s → (p : ℕ) → p < 8 → (host a n m : ℕ) → BreakAt host a n Running (recordOf s p)
+  pub comes-back : (s : State) → Ready s → (p : ℕ) → p < 8 → (host setter a n m : ℕ) → BreakAt host setter a n Running (recordOf s p)
       → (l : List Call) (es : List TraceItem) → Among p s l es
-      → Each (CallOf host p a) (untilNotice n ++ afterNotice m) es → Each (AnswerOf host p) (untilNotice n ++ afterNotice m) es
+      → Each (CallOf host p a) (untilNotice n ++ afterNotice m) es → Each (AnswerOf host setter p) (untilNotice n ++ afterNotice m) es

@@ -112,7 +112,7 @@ pub record DestroyRule : Type 0 where
 -- ---- nothing of a destroyed process is left
 
 -- two states that differ only in the bytes and the record of process p, and agree on what is public of it: whether it is there, its host, its
--- size and where it begins
+-- watcher, its size and where it begins
 pub record DifferOnlyIn (p : ℕ) (s t : State) : Type 0 where
   pub shown : publicOf s p ≡ publicOf t p
   pub starts : s .records .starts ≡ t .records .starts

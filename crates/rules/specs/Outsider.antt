@@ -20,16 +20,18 @@ only n k = eqb n k
 pub record Differ (p : ℕ) (s₁ s₂ : State) : Type 0 where
   pub there : recordOf s₁ p .there ≡ recordOf s₂ p .there
   pub host : recordOf s₁ p .host ≡ recordOf s₂ p .host
-  -- 'and on whatever is later called public': its size
+  -- 'and on whatever is later called public': its watcher and its size
+  pub watcher : recordOf s₁ p .session .watcher ≡ recordOf s₂ p .session .watcher
   pub size : recordOf s₁ p .size ≡ recordOf s₂ p .size
   pub others : (q : ℕ) → q < 8 → (q ≡ p → ⊥) → localOf s₁ q ≡ localOf s₂ q
 
--- 'Who debugs a process: at the start the host in its record'; then by what each call is answered: not this host, at any time
+-- 'Who debugs a process: at the start the host in its record'; then by what each call is answered: not this host, at any time; 'Demand 3 counts
+-- a watcher as debugging'
 unfoldable pub Never : ℕ → ℕ → (ℕ → Public) → List TraceItem → Type 0
 Never host p who [] = insider (who p) host ≡ false
 Never host p who (e ∷ es) = (insider (who p) host ≡ false) × Never host p (toldOf who (e .call) (e .answer)) es
 
--- the host debugs the process neither at the start nor after any call
+-- the host debugs or watches the process neither at the start nor after any call
 abbrev pub Outside : ℕ → ℕ → State → List Call → Type 0
 Outside host p s l = Never host p (publicOf s) (run s l)
 
@@ -41,7 +43,7 @@ pub record Outsider (host p : ℕ) : Type 0 where
   -- part one: the sequence of answers to him is the same in both
   pub same-answers : (s₁ s₂ : State) → Ready s₁ → Ready s₂ → Differ p s₁ s₂ → (l₁ l₂ : List Call) → Alike (only host) (only p) l₁ l₂
       → Outside host p s₁ l₁ → heard (only host) (run s₁ l₁) ≡ heard (only host) (run s₂ l₂)
-  -- and so is the answer to his next request, also to the DEBUG or CREATE by which he debugs P
+  -- and so is the answer to his next request, also to the DEBUG, WATCH or CREATE by which he debugs or watches P
   pub same-next : (s₁ s₂ : State) → Ready s₁ → Ready s₂ → Differ p s₁ s₂ → (l₁ l₂ : List Call) → Alike (only host) (only p) l₁ l₂
       → Outside host p s₁ l₁ → (c : Call) → asker c ≡ by host → step (final s₁ l₁) c .answer ≡ step (final s₂ l₂) c .answer
   -- part two: without some or all of his requests that name P, every other call has the same answer and the same state after it

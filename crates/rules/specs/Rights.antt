@@ -19,7 +19,7 @@ use Rattle.ops.specs.Codes.{CREATE, DEBUG, DESTROY, END-DEBUG}
 abbrev pub holder : State → ℕ → ℕ
 holder s p = publicOf s p .host
 
--- asked by a host that debugs the process before the call or after it; nobody asks a report or a store
+-- asked by a host that debugs or watches the process before the call or after it; nobody asks a report or a store
 unfoldable pub Allowed : Asker → Public → Public → Type 0
 Allowed nobody before after = Unit {0}
 Allowed (by host) before after = (insider before host ≡ true) ⊎ (insider after host ≡ true)
@@ -32,7 +32,8 @@ Creates p c a = (fieldsOf c .cmd ≡ CREATE) × (getD (a .buffer) 5 0 ≡ p)
 abbrev pub Reaches : ℕ → Call → Answer → Type 0
 Reaches p c a = (subject (only p) c ≡ true) ⊎ Creates p c a
 
--- a request or a text line that names it, or the CREATE of it, of the host that debugs it or does then; a report about it; a store into it
+-- a request or a text line that names it, or the CREATE of it, of a host that debugs or watches it or does then; a report
+-- about it; a store into it
 abbrev pub MayChange : ℕ → State → Call → Type 0
 MayChange p s c = Reaches p c (step s c .answer) × Allowed (asker c) (publicOf s p) (publicOf (step s c .after) p)
 
@@ -65,7 +66,7 @@ NoneBegins p s (c ∷ l) = (Begins p s c → ⊥) × NoneBegins p (step s c .aft
 pub record Rights : Type 0 where
   -- nothing else changes a process
   pub changes : (s : State) → Ready s → (c : Call) (p : ℕ) → p < 8 → (MayChange p s c → ⊥) → localOf (step s c .after) p ≡ localOf s p
-  -- the host stays, or his right begins where nobody had one, or it ends by him: no host takes it from another, and none is beside another
+  -- the host stays, or his right begins where nobody had one, or it ends by him: no host takes it from another, and none debugs beside another
   pub turns : (s : State) → Ready s → (c : Call) (p : ℕ) → p < 8 → (holder (step s c .after) p ≡ holder s p) ⊎ (Begins p s c ⊎ Ends p s c)
   -- over lists: a host keeps his right until he ends it
   pub held : (s : State) → Ready s → (l : List Call) (p : ℕ) → p < 8 → (holder s p ≡ 0 → ⊥) → NoneEnds p s l → holder (final s l) p ≡ holder s p

@@ -11,32 +11,37 @@ use Rattle.process.specs.declared.record.Process.{Process}
 use Rattle.breakpoints.specs.Entry.{validBreakAddress}
 use Rattle.process.specs.Local.{Local}
 use Rattle.run_state.specs.RunState.{stoppedOrAtBreak, atBreak}
-use Rattle.process.specs.Request.{hasBreak, hasRoom, debugged, endDebugged, stopped, resumed, stepped, proceeded, examined, deposited, vectorDeposited, breakSet, breakRemoved, destroyed}
+use Rattle.process.specs.Request.{hasBreak, hasRoomFor, isHis, debugged, endDebugged, watched, endWatched, stopped, resumed, stepped, proceeded, examined, deposited, vectorDeposited, breakSet, breakRemoved, destroyed}
 use Rattle.ops.specs.Codes.{CREATE}
 use Rattle.process.specs.Sizes.{memoryBytes}
 
--- all that anyone may know of a process: 'which processes are there, who debugs each'; 'Sizes are public'
+-- all that anyone may know of a process: 'which processes are there, who debugs each'; 'Sizes are public', and 'who watches is public'
 pub record Public : Type 0 where
   pub there : Bool
   pub host : ℕ
+  pub watcher : ℕ
   pub size : ℕ
 
 -- of a process
 unfoldable pub public : Process → Public
-public p = record { there = p .there; host = p .host; size = p .size }
+public p = record { there = p .there; host = p .host; watcher = p .session .watcher; size = p .size }
 
 -- each field but the last two is true where a test passes
 pub record Rule : Type 0 where
   -- test 8, by the public part and the asker
   pub right : Public → ℕ → Bool
+  -- test 15, by the public part and the asker
+  pub unwatched : Public → ℕ → Bool
   -- test 9
   pub runs : Run → Bool
   -- test 10, by the size of the process
   pub range : Header → ℕ → Bool
-  -- test 11, at the address ARG1
-  pub room : ℕ → Process → Bool
+  -- test 11, for the asker at the address ARG1
+  pub room : Header → Process → Bool
   -- test 12, at the address ARG1
-  pub found : ℕ → Process → Bool
+  pub found : Header → Process → Bool
+  -- test 16, for the asker at the address ARG1
+  pub his : Header → Process → Bool
   -- what it does to the process, with the string of the request
   pub effect : Header → List ℕ → Local → Local
   -- the string of the reply
@@ -46,9 +51,22 @@ pub record Rule : Type 0 where
 abbrev pub holds : Public → ℕ → Bool
 holds u asker = eqb (u .host) asker
 
--- a host that may see the inside of a process with this public part: the one that debugs it
+-- a host that may see the inside of a process with this public part: the one that debugs it, or its watcher: 'Demand 3 counts a watcher as
+-- debugging'
 unfoldable pub insider : Public → ℕ → Bool
-insider u host = not (eqb host 0) && eqb (u .host) host
+insider u host = not (eqb host 0) && (eqb (u .host) host || eqb (u .watcher) host)
+
+-- 8 fails for 'END WATCH by any other host' than the watcher
+abbrev pub watches : Public → ℕ → Bool
+watches u asker = eqb (u .watcher) asker
+
+-- 8 fails for 'WATCH with no debugging host or by that host'
+abbrev pub anotherDebugs : Public → ℕ → Bool
+anotherDebugs u asker = not (eqb (u .host) 0) && not (eqb (u .host) asker)
+
+-- 15 fails with 'another watcher present (the same is granted again)'
+abbrev pub noOtherWatches : Public → ℕ → Bool
+noOtherWatches u asker = eqb (u .watcher) 0 || eqb (u .watcher) asker
 
 -- 8 fails, 'for DEBUG,' where 'another host is'
 abbrev pub noOther : Public → ℕ → Bool
@@ -62,10 +80,12 @@ upTo end h = leb (h .arg1 + h .arg2) end
 abbrev pub plain : (Header → List ℕ → Local → Local) → Rule
 plain effect = record {
   right = holds;
+  unwatched = λ u asker. true;
   runs = λ r. true;
   range = λ h size. true;
-  room = λ a p. true;
-  found = λ a p. true;
+  room = λ h p. true;
+  found = λ h p. true;
+  his = λ h p. true;
   effect = effect;
   shown = λ h l. [];
 }
@@ -74,10 +94,12 @@ plain effect = record {
 abbrev pub whileRun : (Run → Bool) → (Header → List ℕ → Local → Local) → Rule
 whileRun runs effect = record {
   right = holds;
+  unwatched = λ u asker. true;
   runs = runs;
   range = λ h size. true;
-  room = λ a p. true;
-  found = λ a p. true;
+  room = λ h p. true;
+  found = λ h p. true;
+  his = λ h p. true;
   effect = effect;
   shown = λ h l. [];
 }
@@ -86,10 +108,12 @@ whileRun runs effect = record {
 abbrev pub inRange : (Header → ℕ → Bool) → (Header → List ℕ → Local → Local) → Rule
 inRange range effect = record {
   right = holds;
+  unwatched = λ u asker. true;
   runs = λ r. true;
   range = range;
-  room = λ a p. true;
-  found = λ a p. true;
+  room = λ h p. true;
+  found = λ h p. true;
+  his = λ h p. true;
   effect = effect;
   shown = λ h l. [];
 }
@@ -98,10 +122,12 @@ inRange range effect = record {
 abbrev pub debugRule : Rule
 debugRule = record {
   right = noOther;
+  unwatched = λ u asker. true;
   runs = λ r. true;
   range = λ h size. true;
-  room = λ a p. true;
-  found = λ a p. true;
+  room = λ h p. true;
+  found = λ h p. true;
+  his = λ h p. true;
   effect = λ h s. debugged (h .host);
   shown = λ h l. [];
 }
@@ -110,39 +136,74 @@ debugRule = record {
 abbrev pub endDebugRule : Rule
 endDebugRule = plain (λ h s. endDebugged)
 
--- 10 fails for 'EXAMINE over 256'
+-- 'A watcher may EXAMINE'; 10 fails for 'EXAMINE over 256'
 abbrev pub examineRule : Rule
 examineRule = record {
-  right = holds;
+  right = insider;
+  unwatched = λ u asker. true;
   runs = λ r. true;
   range = λ h size. upTo size h && leb (h .arg2) 256;
-  room = λ a p. true;
-  found = λ a p. true;
+  room = λ h p. true;
+  found = λ h p. true;
+  his = λ h p. true;
   effect = λ h s l. l;
   shown = λ h. examined (h .arg1) (h .arg2);
 }
 
--- 10 fails for a BREAK address that is odd or over 'size − 2'; 11 fails with 'eight breakpoints and a ninth asked'
+-- 'A watcher may .. BREAK'; 10 fails for a BREAK address that is odd or over 'size − 2'; 11 fails with 'eight breakpoints and a ninth asked',
+-- 'also a fifth while watched'; 16 fails where 'the breakpoint is the other's'
 abbrev pub breakRule : Rule
 breakRule = record {
-  right = holds;
+  right = insider;
+  unwatched = λ u asker. true;
   runs = λ r. true;
   range = λ h size. validBreakAddress size (h .arg1);
-  room = λ a p. hasBreak a p || hasRoom p;
-  found = λ a p. true;
-  effect = λ h s. breakSet (h .arg1) (h .arg2);
+  room = λ h p. hasRoomFor (h .host) (h .arg1) p;
+  found = λ h p. true;
+  his = λ h p. isHis (h .host) (h .arg1) p;
+  effect = λ h s. breakSet (h .host) (h .arg1) (h .arg2);
   shown = λ h l. [];
 }
 
--- 12 fails where there is 'no breakpoint at that address'
+-- 'A watcher may .. UNBREAK'; 12 fails where there is 'no breakpoint at that address', 16 where it 'is the other's'
 abbrev pub unbreakRule : Rule
 unbreakRule = record {
-  right = holds;
+  right = insider;
+  unwatched = λ u asker. true;
   runs = λ r. true;
   range = λ h size. true;
-  room = λ a p. true;
-  found = hasBreak;
+  room = λ h p. true;
+  found = λ h p. hasBreak (h .arg1) p;
+  his = λ h p. isHis (h .host) (h .arg1) p;
   effect = λ h s. breakRemoved (h .arg1);
+  shown = λ h l. [];
+}
+
+-- WATCH: 8, and 15 'after 8'
+abbrev pub watchRule : Rule
+watchRule = record {
+  right = anotherDebugs;
+  unwatched = noOtherWatches;
+  runs = λ r. true;
+  range = λ h size. true;
+  room = λ h p. true;
+  found = λ h p. true;
+  his = λ h p. true;
+  effect = λ h s. watched (h .host);
+  shown = λ h l. [];
+}
+
+-- END WATCH: '8 for .. END WATCH by any other host'
+abbrev pub endWatchRule : Rule
+endWatchRule = record {
+  right = watches;
+  unwatched = λ u asker. true;
+  runs = λ r. true;
+  range = λ h size. true;
+  room = λ h p. true;
+  found = λ h p. true;
+  his = λ h p. true;
+  effect = λ h s. endWatched;
   shown = λ h l. [];
 }
 
@@ -167,6 +228,8 @@ rules =
     ∷ whileRun atBreak (λ h s. proceeded)  -- 11 PROCEED BPT
     ∷ noRule  -- 12 CREATE PROCESS
     ∷ plain (λ h s. destroyed)  -- 13 DESTROY PROCESS
+    ∷ watchRule  -- 14 WATCH
+    ∷ endWatchRule  -- 15 END WATCH
     ∷ []
 
 -- the rule of an op code

@@ -61,18 +61,19 @@ absent s p = not (ltb p 8 && recordOf s p .there)
 
 -- the tests by the public part alone
 abbrev pub outerTests : Rule → Header → Public → List Test
-outerTests r h u = test 8 (not (r .right u (h .host))) ∷ []
+outerTests r h u = test 8 (not (r .right u (h .host))) ∷ test 15 (not (r .unwatched u (h .host))) ∷ []
 
 -- the tests by the process
 abbrev pub innerTests : Rule → Header → Process → List Test
 innerTests r h p =
     test 9 (not (r .runs (p .run)))
     ∷ test 10 (not (r .range h (p .size)))
-    ∷ test 11 (not (r .room (h .arg1) p))
-    ∷ test 12 (not (r .found (h .arg1) p))
+    ∷ test 11 (not (r .room h p))
+    ∷ test 12 (not (r .found h p))
+    ∷ test 16 (not (r .his h p))
     ∷ []
 
--- the tests of a process by the rule of the op code, 8 to 12
+-- the tests of a process by the rule of the op code: 8, '15, after 8', 9 to 12, '16, after 12'
 abbrev pub ruleTests : Rule → Header → Process → List Test
 ruleTests r h p = outerTests r h (public p) ++ innerTests r h p
 
@@ -80,13 +81,13 @@ ruleTests r h p = outerTests r h (public p) ++ innerTests r h p
 abbrev pub noPlace : Header → State → Bool
 noPlace h s = not (ltb (lowestAbsent (s .records)) 8) || ltb (freeBytes (s .records)) (sizeAsked h)
 
--- the tests 7 to 12 of a request that names a process, and 13 of CREATE
+-- the tests 7 to 12, 15 and 16 of a request that names a process, and 13 of CREATE
 unfoldable pub askedTests : Header → State → List Test
 askedTests h s =
     cond (names (h .cmd)) (test 7 (absent s (h .pid)) ∷ ruleTests (ruleOf (h .cmd)) h (recordOf s (h .pid)))
     (cond (creates (h .cmd)) (test 13 (noPlace h s) ∷ []) [])
 
--- the tests of a request, in document 01's order
+-- the tests of a request, in document 01's order, with 15 after 8 and 16 after 12
 abbrev pub requestTests : State → List ℕ → List ℕ → List Test
 requestTests s m buffer =
     test 1 (noRoom (s .memory) buffer)

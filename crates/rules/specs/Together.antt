@@ -70,7 +70,7 @@ pub record TwoRuns (H : Hosts) (P : Processes) (s₁ s₂ : State) (l₁ l₂ : 
 pub record Together (H : Hosts) (P : Processes) : Type 0 where
   -- 'all they receive together is the same', in its order
   pub same-heard : (s₁ s₂ : State) (l₁ l₂ : List Call) → TwoRuns H P s₁ s₂ l₁ l₂ → heard H (run s₁ l₁) ≡ heard H (run s₂ l₂)
-  -- and so is the next answer to one of them, also to the DEBUG or CREATE that makes a process theirs
+  -- and so is the next answer to one of them, also to the DEBUG, WATCH or CREATE that makes a process theirs
   pub same-next : (s₁ s₂ : State) (l₁ l₂ : List Call) → TwoRuns H P s₁ s₂ l₁ l₂ → (c : Call) → isOne H (asker c) ≡ true
       → step (final s₁ l₁) c .answer ≡ step (final s₂ l₂) c .answer
   -- who stays away in one gateway does so in the other
@@ -82,8 +82,8 @@ pub record Together (H : Hosts) (P : Processes) : Type 0 where
   pub same-end : (s : State) → Ready s → (l : List Call) → Away H P s (run s l) → (marks : List Bool)
       → final s (callsOf (withoutTheirs H P marks (run s l))) ≡ final s l
 
--- isolation: who debugs is told by the calls and their answers; the claim for sets, where processes may be created again on the way; where
--- none is, by the lists alone; and for one host and one process
+-- isolation: who debugs and who watches is told by the calls and their answers; the claim for sets, where processes may be created again on the
+-- way; where none is, by the lists alone; and for one host and one process
 pub record Isolation : Type 0 where
   pub debuggers : Debuggers
   pub together : (H : Hosts) (P : Processes) → Together H P

@@ -27,7 +27,7 @@ testsOf s (textLine text buffer) = textTests s text buffer
 
 -- 'Numbers returned': those of each call
 unfoldable pub numbersOf : Call → List ℕ
-numbersOf (request m buffer) = 0 ∷ 1 ∷ 2 ∷ 3 ∷ 4 ∷ 5 ∷ 6 ∷ 7 ∷ 8 ∷ 9 ∷ 10 ∷ 11 ∷ 12 ∷ 13 ∷ []
+numbersOf (request m buffer) = 0 ∷ 1 ∷ 2 ∷ 3 ∷ 4 ∷ 5 ∷ 6 ∷ 7 ∷ 8 ∷ 15 ∷ 9 ∷ 10 ∷ 11 ∷ 12 ∷ 16 ∷ 13 ∷ []
 numbersOf (report p kind reason words buffer line) = 0 ∷ 1 ∷ 2 ∷ 14 ∷ 7 ∷ 9 ∷ []
 numbersOf (store p x v) = 0 ∷ []
 numbersOf (textLine text buffer) = 0 ∷ 1 ∷ 2 ∷ 6 ∷ 122 ∷ 103 ∷ 101 ∷ 116 ∷ 114 ∷ []
@@ -59,7 +59,7 @@ pub record Total : Type 0 where
   -- 'buffer bytes past those written are never touched'
   pub past : (s : State) (c : Call) (n : ℕ) → step s c .answer .outcome ≡ outcome 0 n → drop n (step s c .answer .buffer) ≡ drop n (buffersOf c .own)
   pub line-past : (s : State) (c : Call) → drop (step s c .answer .lineLength) (step s c .answer .line) ≡ drop (step s c .answer .lineLength) (buffersOf c .line)
-  -- the column 'Written': nothing under 7, and the ten bytes of the CAN'T from 7 on
+  -- the column 'Written': nothing under 7, and the ten bytes of the CAN'T from 7 on; '15 and 16 with CAN'T'
   pub request-silent : (s : State) (m buffer : List ℕ) (n : ℕ) → requestStep m buffer s .answer .outcome ≡ outcome (suc n) 0
       → requestStep m buffer s .answer .buffer ≡ cond (ltb (suc n) 7) buffer (cantOver m buffer)
   pub cant-ten : (m : List ℕ) → length (written (cantOf (headerOf m)) []) ≡ 10

@@ -6,6 +6,7 @@ ghost use Rattle.rules.specs.OneMemory.{OneMemory};
 ghost use Rattle.rules.specs.Ledger.{Ledger};
 ghost use Rattle.rules.specs.Loops.{Loops};
 ghost use Rattle.rules.specs.Owed.{OwedAnswers};
+ghost use Rattle.rules.specs.Watch.{Watching};
 ghost use Rattle.rules.specs.Together.{Isolation};
 
 // Every call is answered by the number of the first test that fails, or granted where none does; a refusal changes nothing; a sound state
@@ -14,14 +15,14 @@ pub fn total()
     ensures { λ _. ⌜ Total ⌝ }
 {}
 
-// A process changes only by a request or a text line of the host that debugs it before the call or after it, by a report or by a store; a right begins only
-// where nobody has one, and ends only by its holder.
+// A process changes only by a request or a text line of a host that debugs or watches it before the call or after it, by a report or by a store; a
+// right begins only where nobody has one, and ends only by its holder.
 pub fn rights()
     ensures { λ _. ⌜ Rights ⌝ }
 {}
 
-// Over whole lists of calls, hosts learn nothing of processes that they do not debug, and leave no trace there: any set of hosts and any
-// set of processes, also where one is created again for them; and one host and one process, in the words of the rules.
+// Over whole lists of calls, hosts learn nothing of processes that they neither debug nor watch, and leave no trace there: any set of hosts and
+// any set of processes, also where one is created again for them; and one host and one process, in the words of the rules.
 pub fn isolation()
     ensures { λ _. ⌜ Isolation ⌝ }
 {}
@@ -47,4 +48,11 @@ pub fn loops()
 // unless it is cancelled before; no line is sent for anything else.
 pub fn owed_answers()
     ensures { λ _. ⌜ OwedAnswers ⌝ }
+{}
+
+// Owner and installer together: a watch begins by a granted WATCH alone and ends by the watcher or by the host that debugs; a breakpoint keeps its
+// address and who set it until he removes it or the debugging or his watch ends; a watcher changes nothing that is seen; who set a breakpoint
+// is told there, of all else the host that debugs, and nobody besides.
+pub fn watching()
+    ensures { λ _. ⌜ Watching ⌝ }
 {}

@@ -7,7 +7,7 @@ use native.Mathlib.Omega.{arith}
 use borrow.Author.Tests.{eqb-true, ne-eqb, ltb-true, ltb-false, not-false}
 use lib.ListN.{length, List·getD-eq-default}
 use lib.Dec.{eqb, ltb}
-use Rattle.ops.specs.Codes.{DEBUG, END-DEBUG, DESTROY}
+use Rattle.ops.specs.Codes.{DEBUG, END-DEBUG, DESTROY, WATCH, END-WATCH}
 use Rattle.format.specs.declared.header.Header.{Header}
 use Rattle.format.specs.declared.outcome.Outcome.the-variants.{Refused}
 use Rattle.format.specs.Outcome.{firstFailing, isGranted}
@@ -75,19 +75,25 @@ destroyed-gone h string buffer l = gone-by (firstFailing (processTests h (l .pro
 -- and after any other request it is there, or absent, as it was
 rule-stays : (cmd : ℕ) → (cmd ≡ DESTROY → ⊥) → (h : Header) (string : List ℕ) (l : Local) → ruleOf cmd .effect h string l .process .there ≡ l .process .there
 unfolding ruleOf public publicThen
-rule-stays cmd other h string l = go (ltb cmd 14) refl
+rule-stays cmd other h string l = go (ltb cmd 16) refl
   where
-    shown : (a b : Bool) (u : Public)
-        → cond a (record { there = u .there; host = h .host; size = u .size }) (cond b (record { there = u .there; host = 0; size = u .size }) u) .there ≡ u .there
-    shown true b u = refl
-    shown false true u = refl
-    shown false false u = refl
+    shown : (a b w e : Bool) (u : Public)
+        → cond a (record { there = u .there; host = h .host; watcher = u .watcher; size = u .size })
+        (cond b (record { there = u .there; host = 0; watcher = 0; size = u .size })
+        (cond w (record { there = u .there; host = u .host; watcher = h .host; size = u .size })
+        (cond e (record { there = u .there; host = u .host; watcher = 0; size = u .size }) u))) .there
+        ≡ u .there
+    shown true b w e u = refl
+    shown false true w e u = refl
+    shown false false true e u = refl
+    shown false false false true u = refl
+    shown false false false false u = refl
 
-    go : (t : Bool) → ltb cmd 14 ≡ t → ruleOf cmd .effect h string l .process .there ≡ l .process .there
+    go : (t : Bool) → ltb cmd 16 ≡ t → ruleOf cmd .effect h string l .process .there ≡ l .process .there
     go true e =
-        ap (λ (u : Public). u .there) (rule-row cmd (omega (arith, ltb-true cmd 14 e)) .publicly h string l)
-        ∙ rw (ne-eqb cmd DESTROY other) (shown (eqb cmd DEBUG) (eqb cmd END-DEBUG) (public (l .process)))
-    go false e = let past : length rules ≤ cmd = omega (arith, ltb-false cmd 14 e) in rw (List·getD-eq-default rules noRule past)
+        ap (λ (u : Public). u .there) (rule-row cmd (omega (arith, ltb-true cmd 16 e)) .publicly h string l)
+        ∙ rw (ne-eqb cmd DESTROY other) (shown (eqb cmd DEBUG) (eqb cmd END-DEBUG) (eqb cmd WATCH) (eqb cmd END-WATCH) (public (l .process)))
+    go false e = let past : length rules ≤ cmd = omega (arith, ltb-false cmd 16 e) in rw (List·getD-eq-default rules noRule past)
 
 stays-by : (n : ℕ) (h : Header) (string buffer : List ℕ) (l : Local) → (h .cmd ≡ DESTROY → ⊥)
     → namedBy n h string buffer l .left .process .there ≡ l .process .there

@@ -1,6 +1,6 @@
--- What the tests 8 to 12 of a request that passed say to what it does. Assumes nothing.
-use mathlib.Core.Path.{_≡_, sym, ap, _∙_}
-use mathlib.Core.Bool.{true, _&&_}
+-- What the tests 8 to 12, 15 and 16 of a request that passed say to what it does. Assumes nothing.
+use mathlib.Core.Path.{_≡_, refl, sym, ap, _∙_}
+use mathlib.Core.Bool.{Bool, true, false, _&&_, _||_}
 use mathlib.Core.List.{List}
 use Prim.Native.Nat.{ℕ, _+_, _≤_, _<_, _%_}
 use native.Mathlib.Omega.{arith}
@@ -18,7 +18,7 @@ use Rattle.breakpoints.specs.declared.entry_query.EntryQuery.the-variants.{At}
 use Rattle.process.specs.Find.{find}
 use Rattle.process.specs.Local.{Present}
 use Rattle.breakpoints.specs.Entry.{validBreakAddress}
-use Rattle.process.specs.Request.{hasBreak, entryFor}
+use Rattle.process.specs.Request.{hasBreak, hasRoom, mayHaveMore, hasRoomFor, entryFor}
 use Rattle.process.proofs.EntryLaws.{entry-low}
 use Rattle.rules.specs.Rule.{Rule, ruleOf}
 use Rattle.rules.specs.Tests.{ruleTests}
@@ -38,13 +38,18 @@ stays bytes = sym (overlay-all bytes bytes (omega arith))
 
 module _ (r : Rule) (h : Header) (p : Process) (e : firstFailing (ruleTests r h p) ≡ 0) where
   pub rule-range : r .range h (p .size) ≡ true
-  rule-range = not-false _ (first-passes 9 _ _ (rest-passes 8 _ _ (rest-passes 7 _ _ e)))
+  rule-range = not-false _ (first-passes 9 _ _ (rest-passes 8 _ _ (rest-passes 14 _ _ (rest-passes 7 _ _ e))))
 
-  pub rule-room : r .room (h .arg1) p ≡ true
-  rule-room = not-false _ (first-passes 10 _ _ (rest-passes 9 _ _ (rest-passes 8 _ _ (rest-passes 7 _ _ e))))
+  pub rule-room : r .room h p ≡ true
+  rule-room = not-false _ (first-passes 10 _ _ (rest-passes 9 _ _ (rest-passes 8 _ _ (rest-passes 14 _ _ (rest-passes 7 _ _ e)))))
 
-  pub rule-found : r .found (h .arg1) p ≡ true
-  rule-found = not-false _ (first-passes 11 _ _ (rest-passes 10 _ _ (rest-passes 9 _ _ (rest-passes 8 _ _ (rest-passes 7 _ _ e)))))
+  pub rule-found : r .found h p ≡ true
+  rule-found = not-false _ (first-passes 11 _ _ (rest-passes 10 _ _ (rest-passes 9 _ _ (rest-passes 8 _ _ (rest-passes 14 _ _ (rest-passes 7 _ _ e))))))
+
+-- room for one more of a host is room
+room-for : (there room more : Bool) → there || (room && more) ≡ true → there || room ≡ true
+room-for true room more e = refl
+room-for false room more e = &&-left room more e
 
 -- ---- by the op code
 
@@ -69,10 +74,10 @@ module _ (h : Header) (p : Process) (e : firstFailing (ruleTests (ruleOf (h .cmd
     break-is op = rw op at i
 
     pub break-low : h .cmd ≡ 8 → k < 8
-    unfolding ruleOf
+    unfolding ruleOf hasRoomFor
     break-low op =
         let room = rw op at (rule-room (ruleOf (h .cmd)) h p e) in
-        ltb-true k 8 (ap (λ (n : ℕ). ltb n 8) (break-is op) ∙ entry-low (h .arg1) p ∙ room)
+        ltb-true k 8 (ap (λ (n : ℕ). ltb n 8) (break-is op) ∙ entry-low (h .arg1) p ∙ room-for (hasBreak (h .arg1) p) (hasRoom p) (mayHaveMore (h .host) p) room)
 
     pub unbreak-is : h .cmd ≡ 9 → k ≡ find (At (h .arg1)) p
     unfolding entryOf

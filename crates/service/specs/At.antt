@@ -61,7 +61,7 @@ unfoldable pub namedBy : ℕ → Header → List ℕ → List ℕ → Local → 
 namedBy zero h string buffer l = leaving (replyOf h (ruleOf (h .cmd) .shown h l) buffer) (laidOver (ruleOf (h .cmd) .effect h string l) l)
 namedBy (suc n) h string buffer l = leaving (cantBy (suc n) h buffer) l
 
--- the same by its tests 7 to 12
+-- the same by its tests 7 to 12, 15 and 16
 unfoldable pub namedAt : Header → List ℕ → List ℕ → Local → ProcessResult
 namedAt h string buffer l = namedBy (firstFailing (processTests h (l .process))) h string buffer l
 

@@ -6,12 +6,14 @@ use ops::DEPOSIT;
 use ops::DEPOSIT_VECTOR;
 use ops::DESTROY;
 use ops::END_DEBUG;
+use ops::END_WATCH;
 use ops::EXAMINE;
 use ops::PROCEED;
 use ops::RESUME;
 use ops::SINGLE_STEP;
 use ops::STOP;
 use ops::UNBREAK;
+use ops::WATCH;
 use process::Process;
 ghost use mathlib.Core.Path.{_≡_};
 ghost use Prim.Native.Nat.{_≤_};
@@ -55,11 +57,13 @@ pub(crate) fn perform(
         DEPOSIT => process.deposit(bytes, at as usize, string),
         RESUME => process.resume(),
         DEPOSIT_VECTOR => process.deposit_vector(at as usize, string),
-        BREAK => process.set_break(k, at, h.arg2, bytes),
+        BREAK => process.set_break(k, h.host, at, h.arg2, bytes),
         UNBREAK => process.remove_from(k, bytes),
         SINGLE_STEP => process.single_step(bytes),
         PROCEED => process.proceed(bytes),
         DESTROY => process.destroy(),
+        WATCH => process.watch(h.host),
+        END_WATCH => process.end_watch(bytes),
         _ => process,
     }
 }

@@ -1,14 +1,15 @@
--- Laws of owed answers: a number and its owed answer are each other's inverse, and when one may be owed. Assumes nothing.
-use mathlib.Core.Path.{_≡_, refl, sym}
-use mathlib.Core.Bool.{Bool, true, false, not, _||_}
+-- Laws of sessions: a number and its owed answer are each other's inverse, when one may be owed, and who may watch. Assumes nothing.
+use mathlib.Core.Path.{_≡_, refl}
+use mathlib.Core.Bool.{Bool, true, false, not, _&&_, _||_}
 use Prim.Native.Nat.{ℕ, zero, suc}
 use native.Mathlib.Omega.{arith}
-use borrow.Author.Tests.{leb-true, eqb-true, eq-eqb}
+use borrow.Author.Tests.{leb-true, eqb-true, eqb-false, eq-eqb, ne-eqb, not-true}
 use lib.Dec.{eqb}
+use Rattle.lists.proofs.Bool.{&&-left, &&-right, &&-both}
 use Rattle.session.specs.declared.Owed.{Owed}
 use Rattle.session.specs.declared.Owed.the-variants.{Nothing, Continue, Step}
 use Rattle.session.specs.declared.Session.{Session}
-use Rattle.session.specs.Session.{textHost, owedNumber, isOwedNumber, owedOf, owes, noSession, sessionSound}
+use Rattle.session.specs.Session.{textHost, owedNumber, isOwedNumber, owedOf, owes, noSession, owedSound, watcherSound, sessionSound}
 
 -- ---- numbers
 
@@ -30,31 +31,55 @@ owed-forth (suc zero) e = refl
 owed-forth (suc (suc zero)) e = refl
 owed-forth (suc (suc (suc x))) e = absurd (omega (arith, leb-true (suc (suc (suc x))) 2 e))
 
--- ---- when one may be owed
+-- ---- when one may be owed, and who may watch
 
--- 'none is owed unless host 253 debugs it', from the test
-pub owed-host : (host : ℕ) (s : Session) → sessionSound host s ≡ true → owes (s .owed) ≡ true → host ≡ textHost
-unfolding sessionSound
-owed-host host s e o = eqb-true host textHost (rw o at e)
+module _ (host : ℕ) (s : Session) where
+  -- 'none is owed unless host 253 debugs it', from the test
+  pub owed-host : sessionSound host s ≡ true → owes (s .owed) ≡ true → host ≡ textHost
+  unfolding sessionSound owedSound
+  owed-host e o = eqb-true host textHost (rw o at (&&-left (not (owes (s .owed)) || eqb host textHost) (watcherSound host s) e))
 
--- and the test from it
-pub host-owed : (host : ℕ) (s : Session) → (owes (s .owed) ≡ true → host ≡ textHost) → sessionSound host s ≡ true
-unfolding sessionSound
-host-owed host s f = go (owes (s .owed)) refl
-  where
-    go : (t : Bool) → owes (s .owed) ≡ t → (not (owes (s .owed)) || eqb host textHost) ≡ true
-    go true e = rw e (eq-eqb host textHost (f e))
-    go false e = rw e
+  -- and the test from it
+  owed-passes : (owes (s .owed) ≡ true → host ≡ textHost) → owedSound host s ≡ true
+  unfolding owedSound
+  owed-passes f = go (owes (s .owed)) refl
+    where
+      go : (t : Bool) → owes (s .owed) ≡ t → (not t || eqb host textHost) ≡ true
+      go true e = eq-eqb host textHost (f e)
+      go false e = refl
 
--- where another host debugs it, or none, nothing is owed
-pub none-owed : (host : ℕ) (s : Session) → sessionSound host s ≡ true → (host ≡ textHost → ⊥) → owes (s .owed) ≡ false
-none-owed host s e n = go (owes (s .owed)) refl
-  where
-    go : (t : Bool) → owes (s .owed) ≡ t → t ≡ false
-    go true i = absurd (n (owed-host host s e i))
-    go false i = refl
+  -- 'the one watcher of a process another host debugs', from the test
+  pub watcher-other : sessionSound host s ≡ true → (s .watcher ≡ 0 → ⊥) → (host ≡ 0 → ⊥) × (s .watcher ≡ host → ⊥)
+  unfolding sessionSound watcherSound
+  watcher-other e n =
+      let both = rw (ne-eqb (s .watcher) 0 n) at (&&-right (owedSound host s) (watcherSound host s) e) in (
+        eqb-false host 0 (not-true (eqb host 0) (&&-left (not (eqb host 0)) (not (eqb (s .watcher) host)) both)),
+        eqb-false (s .watcher) host (not-true (eqb (s .watcher) host) (&&-right (not (eqb host 0)) (not (eqb (s .watcher) host)) both)),
+      )
+
+  -- and the test from it
+  watcher-passes : ((s .watcher ≡ 0 → ⊥) → (host ≡ 0 → ⊥) × (s .watcher ≡ host → ⊥)) → watcherSound host s ≡ true
+  unfolding watcherSound
+  watcher-passes f = go (eqb (s .watcher) 0) refl
+    where
+      go : (t : Bool) → eqb (s .watcher) 0 ≡ t → t || (not (eqb host 0) && not (eqb (s .watcher) host)) ≡ true
+      go true e = refl
+      go false e = let o = f (eqb-false (s .watcher) 0 e) in rw (ne-eqb host 0 (o .0), ne-eqb (s .watcher) host (o .1))
+
+  -- both tests, from what they ask
+  pub session-passes : (owes (s .owed) ≡ true → host ≡ textHost) → ((s .watcher ≡ 0 → ⊥) → (host ≡ 0 → ⊥) × (s .watcher ≡ host → ⊥)) → sessionSound host s ≡ true
+  unfolding sessionSound
+  session-passes f g = &&-both (owedSound host s) (watcherSound host s) (owed-passes f) (watcher-passes g)
+
+  -- where another host debugs it, or none, nothing is owed
+  pub none-owed : sessionSound host s ≡ true → (host ≡ textHost → ⊥) → owes (s .owed) ≡ false
+  none-owed e n = go (owes (s .owed)) refl
+    where
+      go : (t : Bool) → owes (s .owed) ≡ t → t ≡ false
+      go true i = absurd (n (owed-host e i))
+      go false i = refl
 
 -- a process without a session may have any host
 pub none-sound : (host : ℕ) → sessionSound host noSession ≡ true
-unfolding sessionSound
+unfolding sessionSound owedSound watcherSound
 none-sound host = refl

@@ -1,5 +1,5 @@
--- What belongs to a debugging session: the answer that is owed to the host of the text lines.
-use mathlib.Core.Bool.{Bool, true, false, not, cond, _||_}
+-- What belongs to a debugging session: the answer that is owed to the host of the text lines, and the watcher.
+use mathlib.Core.Bool.{Bool, true, false, not, cond, _&&_, _||_}
 use Prim.Native.Nat.{ℕ}
 use lib.Dec.{eqb, leb}
 use Rattle.session.specs.declared.Owed.{Owed}
@@ -42,12 +42,24 @@ owes Step = true
 
 -- nothing belongs to a process that nobody debugs
 abbrev pub noSession : Session
-noSession = record { owed = Nothing }
+noSession = record { owed = Nothing; watcher = 0 }
 
 -- the session with this owed answer
 abbrev pub withOwed : Owed → Session → Session
-withOwed o s = record { owed = o }
+withOwed o s = record { owed = o; watcher = s .watcher }
+
+-- the session with this watcher; 0 is nobody
+abbrev pub withWatcher : ℕ → Session → Session
+withWatcher w s = record { owed = s .owed; watcher = w }
 
 -- 'none is owed unless host 253 debugs it'
+unfoldable pub owedSound : ℕ → Session → Bool
+owedSound host s = not (owes (s .owed)) || eqb host textHost
+
+-- 'the one watcher of a process another host debugs' (K5)
+unfoldable pub watcherSound : ℕ → Session → Bool
+watcherSound host s = eqb (s .watcher) 0 || (not (eqb host 0) && not (eqb (s .watcher) host))
+
+-- what may belong to the debugging of a process by this host
 unfoldable pub sessionSound : ℕ → Session → Bool
-sessionSound host s = not (owes (s .owed)) || eqb host textHost
+sessionSound host s = owedSound host s && watcherSound host s

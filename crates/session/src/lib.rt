@@ -1,6 +1,6 @@
-// What belongs to a debugging session of a process, and ends with it: the answer that is owed to the host of the text lines.
+// What belongs to a debugging session of a process, and ends with it: the answer that is owed to the host of the text lines, and the watcher.
 ghost use mathlib.Core.Path.{_≡_};
-ghost use Rattle.session.specs.Session.{owedNumber, isOwedNumber, owedOf, owedLetter, owes, noSession, withOwed, sessionSound};
+ghost use Rattle.session.specs.Session.{owedNumber, isOwedNumber, owedOf, owedLetter, owes, noSession, withOwed, withWatcher, owedSound, watcherSound, sessionSound};
 
 // The host that the text lines come from.
 pub const TEXT_HOST: u8 = 253;
@@ -18,6 +18,8 @@ pub enum Owed {
 // What belongs to the debugging session of a process.
 pub struct Session {
     pub owed: Owed,
+    // The host that watches; 0 is nobody.
+    pub watcher: u8,
 }
 
 impl Owed {
@@ -75,6 +77,7 @@ impl Session {
     {
         Session {
             owed: Owed::Nothing,
+            watcher: 0,
         }
     }
 
@@ -82,17 +85,51 @@ impl Session {
     pub fn with_owed(self, owed: Owed) -> Session
         ensures { λ r. ⌜ r ≡ withOwed owed self ⌝ }
     {
-        Session { owed: owed }
+        Session {
+            owed: owed,
+            watcher: self.watcher,
+        }
     }
 
-    // Whether a process that this host debugs may have it.
-    pub fn sound(self, host: u8) -> bool
-        ensures { λ r. ⌜ r ≡ sessionSound host self ⌝ }
+    // With another watcher.
+    pub fn with_watcher(mut self, watcher: u8) -> Session
+        ensures { λ r. ⌜ r ≡ withWatcher watcher self ⌝ }
+    {
+        self.watcher = watcher;
+        self
+    }
+
+    // Whether nothing is owed, or the host of the text lines debugs the process.
+    fn owed_sound(self, host: u8) -> bool
+        ensures { λ r. ⌜ r ≡ owedSound host self ⌝ }
     {
         let owed = self.owed;
         if !owed.owes() {
             return true;
         }
         host == TEXT_HOST
+    }
+
+    // Whether nobody watches, or another host than the one that debugs the process.
+    fn watcher_sound(self, host: u8) -> bool
+        ensures { λ r. ⌜ r ≡ watcherSound host self ⌝ }
+    {
+        if self.watcher == 0 {
+            return true;
+        }
+        if host == 0 {
+            return false;
+        }
+        self.watcher != host
+    }
+
+    // Whether a process that this host debugs may have it.
+    pub fn sound(self, host: u8) -> bool
+        ensures { λ r. ⌜ r ≡ sessionSound host self ⌝ }
+    {
+        if !self.owed_sound(host) {
+            return false;
+        }
+        self.watcher_sound(host)
     }
 }

@@ -10,7 +10,6 @@ use lib.Dec.{eqb, leb}
 use lib.ListN.{length, take, drop, getD}
 use lib.Seq.{getD-drop, drop-drop}
 use Rattle.lists.specs.Buffer.{Bytes}
-use Rattle.lists.proofs.Bool.{&&-left, &&-right}
 use Rattle.lists.proofs.Word.{word-high-low, high-word, low-word}
 use Rattle.breakpoints.specs.declared.entry.Breakpoint.{Breakpoint}
 use Rattle.breakpoints.specs.Entry.{free}
@@ -19,7 +18,7 @@ use Rattle.state_bytes.specs.Entry.{entryBytes, entryOf, entryOfNumber, 
 use Rattle.state_bytes.specs.Number.{u32Le, u64Le}
 use Rattle.state_bytes.specs.Widths.{entryCount, entryWidth}
 use Rattle.state_bytes.proofs.ChunkLaws.{every-same, piece}
-use Rattle.state_bytes.proofs.NumberLaws.{flag-back, flag-formed, flag-forth, by-elements, first-byte, second-byte, used-bit, lifted-bit, address-word, count-word, low-part, high-part, zero-or, flags-or}
+use Rattle.state_bytes.proofs.NumberLaws.{flag-back, flag-formed, flag-forth, by-elements, first-byte, setter-byte, lifted-bit, address-word, count-word, low-part, high-part, zero-or, flags-or}
 
 pub length-entryBytes : (b : Breakpoint) → length (entryBytes b) ≡ entryWidth
 unfolding entryBytes
@@ -35,26 +34,26 @@ unfolding entryOfNumber entryOf
 entry-of-u64 m z =
     rw (
       last-four m,
-      used-bit _ _ _ _ _ _ _ _ (z 0) (z 1) (z 2) (z 3) (z 4) (z 5) (z 6) (z 7),
       lifted-bit _ _ _ _ _ _ _ _ (z 0) (z 1) (z 2) (z 3) (z 4) (z 5) (z 6) (z 7),
       address-word _ _ _ _ _ _ _ _ (z 0) (z 1) (z 2) (z 3) (z 4) (z 5) (z 6) (z 7),
       count-word _ _ _ _ _ _ _ _ (z 0) (z 1) (z 2) (z 3) (z 4) (z 5) (z 6) (z 7),
       low-part _ _ _ _ _ _ _ _ (z 0) (z 1) (z 2) (z 3) (z 4) (z 5) (z 6) (z 7),
       high-part _ _ _ _ _ _ _ _ (z 0) (z 1) (z 2) (z 3) (z 4) (z 5) (z 6) (z 7),
+      setter-byte _ _ _ _ _ _ _ _ (z 0) (z 1) (z 2) (z 3) (z 4) (z 5) (z 6) (z 7),
     )
 
 pub entry-back : (b : Breakpoint) → entryOf (entryBytes b) ≡ b
 unfolding entryOf entryBytes
-entry-back b = rw (flag-back (b .used), flag-back (b .lifted), word-high-low (b .address), word-high-low (b .count))
+entry-back b = rw (flag-back (b .lifted), word-high-low (b .address), word-high-low (b .count))
 
 pub entry-formed : (b : Breakpoint) → entryFormed (entryBytes b) ≡ true
 unfolding entryFormed entryBytes
-entry-formed b = rw (flag-formed (b .used), flag-formed (b .lifted))
+entry-formed b = flag-formed (b .lifted)
 
 pub entry-forth : (m : List ℕ) → length m ≡ entryWidth → Bytes m → entryFormed m ≡ true → entryBytes (entryOf m) ≡ m
 unfolding entryFormed entryBytes entryOf
 entry-forth m size b e =
-    rw (flag-forth (getD m 0 0) (&&-left (leb (getD m 0 0) 1) _ e), flag-forth (getD m 1 0) (&&-right (leb (getD m 0 0) 1) (leb (getD m 1 0) 1) e), low-word (getD m 3 0) (getD m 2 0) (b 2), high-word (getD m 3 0) (getD m 2 0) (b 2), low-word (getD m 5 0) (getD m 4 0) (b 4), high-word (getD m 5 0) (getD m 4 0) (b 4))
+    rw (flag-forth (getD m 0 0) e, low-word (getD m 3 0) (getD m 2 0) (b 2), high-word (getD m 3 0) (getD m 2 0) (b 2), low-word (getD m 5 0) (getD m 4 0) (b 4), high-word (getD m 5 0) (getD m 4 0) (b 4))
     (sym (by-elements entryWidth m size))
 
 -- ---- all entries at once
@@ -108,7 +107,6 @@ flags-of-bytes c z =
     rw (
       last-four c,
       first-byte _ _ _ _ _ _ _ _ (z 0) (z 1) (z 2) (z 3) (z 4) (z 5) (z 6) (z 7),
-      second-byte _ _ _ _ _ _ _ _ (z 0) (z 1) (z 2) (z 3) (z 4) (z 5) (z 6) (z 7),
     )
 
 no-flags : flagsFormed 0 ≡ true
@@ -135,4 +133,4 @@ module _ (m : List ℕ) (e : entryZero m ≡ true) where
 
   pub zero-formed : entryFormed m ≡ true
   unfolding entryFormed
-  zero-formed = rw (near .0, near .1)
+  zero-formed = rw (near .0)

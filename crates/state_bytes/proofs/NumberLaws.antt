@@ -13,7 +13,7 @@ use Rattle.lists.specs.Buffer.{Bytes}
 use Rattle.lists.specs.Elements.{elements}
 use Rattle.lists.specs.Flag.{flag}
 use Rattle.lists.specs.Word.{low, high}
-use Rattle.lists.proofs.Bool.{same-truth, &&-pairs}
+use Rattle.lists.proofs.Bool.{same-truth}
 use Rattle.lists.proofs.Elements.{take-elements}
 use Rattle.state_bytes.specs.Number.{u32Le, u64Le, u64LeBytes, flagOf}
 use Rattle.state_bytes.specs.Entry.{flagsFormed}
@@ -46,13 +46,10 @@ module _ (a b c d e f g h : ℕ) (a-byte : a < 256) (b-byte : b < 256) (c-byte :
   pub first-byte : number % 256 ≡ a
   first-byte = omega arith
 
-  pub second-byte : number / 256 % 256 ≡ b
-  second-byte = omega arith
+  pub setter-byte : number / 256 % 256 ≡ b
+  setter-byte = omega arith
 
-  pub used-bit : number % 2 ≡ a % 2
-  used-bit = omega arith
-
-  pub lifted-bit : number / 256 % 2 ≡ b % 2
+  pub lifted-bit : number % 2 ≡ a % 2
   lifted-bit = omega arith
 
   pub address-word : number / 65536 % 65536 ≡ d * 256 + c
@@ -68,14 +65,14 @@ module _ (a b c d e f g h : ℕ) (a-byte : a < 256) (b-byte : b < 256) (c-byte :
   high-part = omega arith
 
 -- the fields of an entry as a number, and its bytes
-module _ (u l a n s h : ℕ) (u-byte : u < 256) (l-byte : l < 256) (a-word : a < 65536) (n-word : n < 65536) (s-byte : s < 256) (h-byte : h < 256) where
+module _ (f w a n s h : ℕ) (f-byte : f < 256) (w-byte : w < 256) (a-word : a < 65536) (n-word : n < 65536) (s-byte : s < 256) (h-byte : h < 256) where
   abbrev pub packed : ℕ
-  packed = u + l * 256 + a * 65536 + n * 4294967296 + s * 281474976710656 + h * 72057594037927936
+  packed = f + w * 256 + a * 65536 + n * 4294967296 + s * 281474976710656 + h * 72057594037927936
 
-  byte-0 : packed % 256 ≡ u
+  byte-0 : packed % 256 ≡ f
   byte-0 = omega arith
 
-  byte-1 : packed / 256 % 256 ≡ l
+  byte-1 : packed / 256 % 256 ≡ w
   byte-1 = omega arith
 
   byte-2 : packed / 65536 % 256 ≡ a % 256
@@ -96,7 +93,7 @@ module _ (u l a n s h : ℕ) (u-byte : u < 256) (l-byte : l < 256) (a-word : a <
   byte-7 : packed / 72057594037927936 % 256 ≡ h
   byte-7 = omega arith
 
-  pub packed-bytes : u64LeBytes packed ≡ u ∷ l ∷ low a ∷ high a ∷ low n ∷ high n ∷ s ∷ h ∷ []
+  pub packed-bytes : u64LeBytes packed ≡ f ∷ w ∷ low a ∷ high a ∷ low n ∷ high n ∷ s ∷ h ∷ []
   unfolding u64LeBytes
   packed-bytes = rw (byte-0, byte-1, byte-2, byte-3, byte-4, byte-5, byte-6, byte-7)
 
@@ -122,8 +119,4 @@ one-or a b =
 
 pub flags-or : (a b : ℕ) → flagsFormed (bitOr a b) ≡ flagsFormed a && flagsFormed b
 unfolding flagsFormed
-flags-or a b =
-    let first : leb (bitOr a b % 256) 1 ≡ leb (a % 256) 1 && leb (b % 256) 1 = ap (λ (n : ℕ). leb n 1) (or-mod a b 8) ∙ one-or (a % 256) (b % 256) in
-    let second : leb (bitOr a b / 256 % 256) 1 ≡ leb (a / 256 % 256) 1 && leb (b / 256 % 256) 1 =
-    ap (λ (n : ℕ). leb (n % 256) 1) (or-shr a b 8) ∙ ap (λ (n : ℕ). leb n 1) (or-mod (a / 256) (b / 256) 8) ∙ one-or (a / 256 % 256) (b / 256 % 256) in
-    rw (first, second) (&&-pairs (leb (a % 256) 1) (leb (b % 256) 1) (leb (a / 256 % 256) 1) (leb (b / 256 % 256) 1))
+flags-or a b = ap (λ (n : ℕ). leb n 1) (or-mod a b 8) ∙ one-or (a % 256) (b % 256)

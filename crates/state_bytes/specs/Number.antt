@@ -35,6 +35,6 @@ u64LeBytes w =
     ∷ w / 72057594037927936 % 256
     ∷ []
 
--- a flag is read by its lowest bit; that its byte is 0 or 1 is tested
+-- a flag is read by its lowest bit; that no other bit is set is tested
 abbrev pub flagOf : ℕ → Bool
 flagOf n = eqb (n % 2) 1

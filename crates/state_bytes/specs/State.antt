@@ -47,7 +47,7 @@ withStartsBytes starts m = take startsAt m ++ startsBytes starts
 
 -- ---- bytes that are a state's
 
--- so many, and each flag, run state and owed answer is one; any start is
+-- so many, and each byte of flags, run state and owed answer is one; any start is
 unfoldable pub stateFormed : List ℕ → Bool
 stateFormed m = eqb (length m) stateWidth && everyChunk processWidth processFormed processCount m
 

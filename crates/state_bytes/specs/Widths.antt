@@ -7,7 +7,7 @@ use Prim.Native.Nat.{ℕ, _+_, _*_}
 abbrev pub entryCount : ℕ
 entryCount = 8
 
--- flags, address, count and saved word
+-- lifted or not, setter, address, count and saved word
 abbrev pub entryWidth : ℕ
 entryWidth = 8
 
@@ -37,9 +37,13 @@ sizeAt = 3
 abbrev pub owedAt : ℕ
 owedAt = 5
 
--- these five
+-- the host that watches it
+abbrev pub watcherAt : ℕ
+watcherAt = 6
+
+-- these six
 abbrev pub headWidth : ℕ
-headWidth = 6
+headWidth = 7
 
 -- ---- a process
 

@@ -23,8 +23,8 @@ fn entry_of_number(w: u64) -> Breakpoint
     ensures { λ r. ⌜ r ≡ entryOfNumber w ⌝ }
 {
     Breakpoint {
-        used: w % 2 == 1,
-        lifted: w / 256 % 2 == 1,
+        lifted: w % 2 == 1,
+        setter: (w / 256 % 256) as u8,
         address: (w / 65536 % 65536) as u16,
         count: (w / 4294967296 % 65536) as u16,
         low: (w / 281474976710656 % 256) as u8,
@@ -65,12 +65,18 @@ fn entry_number(entries: [Breakpoint; 8], k: usize) -> u64
     requires { ⌜ k < entryCount ⌝ }
     ensures { λ r. ⌜ u64LeBytes r ≡ entryBytes (getD entries k free) ⌝ }
 {
-    let flags = flag(entries[k].used) as u64 + flag(entries[k].lifted) as u64 * 256;
+    let lifted = flag(entries[k].lifted) as u64;
+    let setter = byte_to_u64(entries[k].setter);
     let address = to_u64(entries[k].address);
     let count = to_u64(entries[k].count);
     let low = byte_to_u64(entries[k].low);
     let high = byte_to_u64(entries[k].high);
-    flags + address * 65536 + count * 4294967296 + low * 281474976710656 + high * 72057594037927936
+    lifted
+        + setter * 256
+        + address * 65536
+        + count * 4294967296
+        + low * 281474976710656
+        + high * 72057594037927936
 }
 
 // Writes entry k.
@@ -111,9 +117,9 @@ pub(crate) fn entries_bits(entries: &[u8]) -> u64
     bits
 }
 
-// Both flags of every entry are 0 or 1.
+// No bit but the lowest is set in the first byte of an entry.
 pub(crate) fn flags_formed(bits: u64) -> bool
     ensures { λ r. ⌜ r ≡ flagsFormed bits ⌝ }
 {
-    bits % 256 <= 1 && bits / 256 % 256 <= 1
+    bits % 256 <= 1
 }

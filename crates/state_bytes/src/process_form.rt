@@ -8,6 +8,7 @@ use crate::widths::RUN_AT;
 use crate::widths::SIZE_AT;
 use crate::widths::THERE_AT;
 use crate::widths::VECTOR_AT;
+use crate::widths::WATCHER_AT;
 use process::Process;
 use process::valid_size;
 use run_state::is_run_number;
@@ -62,7 +63,10 @@ fn read_session(bytes: &[u8]) -> Session
     ensures { λ r. ⌜ r ≡ sessionOf (now (bytes .entry)) ⌝ }
 {
     let owed = owed_of(bytes[OWED_AT]);
-    Session { owed: owed }
+    Session {
+        owed: owed,
+        watcher: bytes[WATCHER_AT],
+    }
 }
 
 // How many bytes of memory the process has: its size, or none where it is absent.
@@ -111,6 +115,7 @@ fn put_head(p: Process, bytes: &mut [u8])
     bytes[SIZE_AT] = low_byte(p.size);
     bytes[SIZE_AT + 1] = high_byte(p.size);
     bytes[OWED_AT] = owed.number();
+    bytes[WATCHER_AT] = session.watcher;
 }
 
 // Writes the nine words.
@@ -136,14 +141,11 @@ pub(crate) fn put_process(p: Process, bytes: &mut [u8])
     put_entries(breaks, &mut bytes[ENTRIES_AT..]);
 }
 
-// The session in the head is formed, and the host there may be owed the answer. That nothing is owed is told first, by one comparison.
+// The session in the head is formed, and the host there may have it.
 fn session_fits(bytes: &[u8]) -> bool
     requires { ⌜ headWidth ≤ length (now bytes) ⌝ }
     ensures { λ r. ⌜ r ≡ sessionFits (now (bytes .entry)) ⌝ }
 {
-    if bytes[OWED_AT] == 0 {
-        return true;
-    }
     if bytes[OWED_AT] > LAST_OWED_NUMBER {
         return false;
     }

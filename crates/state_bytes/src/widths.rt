@@ -18,7 +18,9 @@ pub(crate) const SIZE_AT: usize = 3;
 
 pub(crate) const OWED_AT: usize = 5;
 
-pub(crate) const HEAD_BYTES: usize = 6;
+pub(crate) const WATCHER_AT: usize = 6;
+
+pub(crate) const HEAD_BYTES: usize = 7;
 
 // A process.
 pub(crate) const VECTOR_AT: usize = HEAD_BYTES;

@@ -61,7 +61,7 @@ fn k9_a_fresh_start_lays_them_in_number_order() {
     assert!(sound(&state));
     assert_eq!((used_bytes(&state), free_bytes(&state)), (9732, 6652));
     let bytes = encode(&state);
-    assert_eq!(bytes[704..720], [0, 0, 0, 0, 2, 0, 2, 6, 0, 0, 0, 22, 0, 0, 0, 38]);
+    assert_eq!(bytes[BEGINS_AT..], [0, 0, 0, 0, 2, 0, 2, 6, 0, 0, 0, 22, 0, 0, 0, 38]);
 }
 
 #[test]

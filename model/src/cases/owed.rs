@@ -145,10 +145,10 @@ fn k7_the_owed_answer_in_the_byte_form() {
     for (letter, byte) in [('c', 1), ('s', 2)] {
         assert_eq!(g.line(&format!("0x2 {letter} 0x1 0x0")), 0);
         let mut bytes = encode(&g.state);
-        assert_eq!(bytes[2 * 88 + 5], byte);
+        assert_eq!(bytes[2 * RECORD_BYTES + OWED_AT], byte);
         assert_eq!(decode(&bytes), Some(g.state.clone()));
         for other in 3..=255 {
-            bytes[2 * 88 + 5] = other;
+            bytes[2 * RECORD_BYTES + OWED_AT] = other;
             assert_eq!(decode(&bytes), None);
         }
         assert_eq!(to(&mut g, STOP), 10);

@@ -196,7 +196,8 @@ fn k3_other_requests_leave_it_passing() {
     assert_eq!(g.written(12)[10..], [70, 71]);
     assert_eq!(g.report(2, TTRAP, 0, AT + 2), 0);
     assert_eq!(shown(&mut g), (Run::Running, BPT_WORD));
-    let planted = Breakpoint { used: true, address: AT, remaining: 7, saved: [70, 71], ..FREE };
+    let saved = [70, 71];
+    let planted = Breakpoint { setter: 5, address: AT, remaining: 7, saved, ..FREE };
     assert_eq!(g.process().breakpoints[0], planted);
 }
 

@@ -2,13 +2,11 @@
 use mathlib.Core.Path.{sym, _∙_}
 use borrow.Author.Needs.{needs}
 use borrow.Author.Tests.{lt-ltb, le-ltb}
-use Rattle.format.specs.Outcome.{firstFailing}
 use Rattle.breakpoints.specs.declared.entry_query.EntryQuery.the-variants.{At}
 use Rattle.process.specs.Find.{find}
 use Rattle.process.specs.Request.{hasBreak}
 use Rattle.process.proofs.FindLaws.{found-index, found-nowhere}
-use Rattle.rules.specs.Rule.{ruleOf}
-use Rattle.checks.specs.Decision.{decisionBy, entryOf, entryDecision}
+use Rattle.checks.specs.Decision.{unbreakDecision}
 use Rattle.checks.proofs.rule.unbreak_decision.Statement.{statement}
 use Rattle.checks.proofs.rule.unbreak_decision.Tie as tie
 
@@ -18,20 +16,28 @@ find-requires c κs = search needs
 enum-known-found : tie.Need-enum-known-found
 enum-known-found c = search needs
 
-enum-told : tie.Need-enum-told
-enum-told c = search needs
-
-returns : tie.Need-returns
-unfolding entryDecision entryOf decisionBy firstFailing ruleOf hasBreak
-returns c =
+own-decision-requires : tie.Need-own-decision-requires
+own-decision-requires c κs =
     let g = c .before in
     let f = g .before .before in
     let a = f .before .args in
     let at = found-index (find (At (a .a)) (a .process)) _ (sym (f .find .ensures) ∙ g .found .given .1) in
-    rw (lt-ltb _ _ (at .low), at .same)
+    rw (at .same) at (at .low)
+
+enum-told : tie.Need-enum-told
+enum-told c = search needs
+
+returns : tie.Need-returns
+unfolding unbreakDecision hasBreak
+returns c =
+    let g = c .before .before in
+    let f = g .before .before in
+    let a = f .before .args in
+    let at = found-index (find (At (a .a)) (a .process)) _ (sym (f .find .ensures) ∙ g .found .given .1) in
+    rw (lt-ltb _ _ (at .low), at .same) (c .own-decision .ensures)
 
 returns-2 : tie.Need-returns-2
-unfolding entryDecision entryOf decisionBy firstFailing ruleOf hasBreak
+unfolding unbreakDecision hasBreak
 returns-2 c =
     let f = c .before .before in
     let a = f .before .args in
@@ -39,4 +45,6 @@ returns-2 c =
     rw (le-ltb _ _ none)
 
 pub unbreak-decision-spec : {M : Type 1} → statement M
-unbreak-decision-spec = tie.close (tie.spec find-requires enum-known-found enum-told returns returns-2)
+unbreak-decision-spec =
+    tie.close
+    (tie.spec find-requires enum-known-found own-decision-requires enum-told returns returns-2)

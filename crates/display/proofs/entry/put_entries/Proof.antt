@@ -1,4 +1,4 @@
--- `display::entry::put_entries` meets its contract. The loop's invariant: what was passed is put, in 30 bytes each at most. Assumes nothing.
+-- `display::entry::put_entries` meets its contract. The loop's invariant: what was passed is put, in 36 bytes each at most. Assumes nothing.
 use mathlib.Core.Path.{_≡_, refl}
 use Prim.Native.Nat.{_+_, _-_, _*_, _≤_}
 use native.Mathlib.Omega.{arith}
@@ -13,7 +13,7 @@ use Rattle.display.proofs.entry.put_entries.Statement.{statement}
 use Rattle.display.proofs.entry.put_entries.Tie as tie
 
 abbrev Inv-loop : tie.InvT-loop
-Inv-loop from out₀ breaks at₀ i₀ out at i = (i ≤ 8) × (length breaks ≡ 8) × (at ≤ from + 30 * i) × (length out ≡ length out₀) × Put from (joined entryText (take i breaks)) out₀ at out
+Inv-loop from out₀ breaks at₀ i₀ out at i = (i ≤ 8) × (length breaks ≡ 8) × (at ≤ from + 36 * i) × (length out ≡ length out₀) × Put from (joined entryText (take i breaks)) out₀ at out
 
 abbrev μ-loop : tie.MeasureT-loop
 μ-loop from out₀ breaks at₀ i₀ out at i = 8 - i

@@ -1,10 +1,10 @@
--- `display::record::put_record` meets its contract: head, words, entries, size, session. Assumes nothing.
+-- `display::record::put_record` meets its contract: head, words, entries, size, watcher, owed answer. Assumes nothing.
 use mathlib.Core.List.{_++_}
 use native.Mathlib.Omega.{arith}
-use borrow.Author.Needs.{needs}
 use Rattle.lists.specs.Joined.{joined}
 use Rattle.lines.proofs.PutLaws.{put-then}
-use Rattle.display.specs.Line.{wordText, entryText, headText, named, sizeName, sessionText, recordText}
+use Rattle.display.specs.Line.{wordText, entryText, headText, named, sizeName, watcherName, owedText, recordText}
+use borrow.Author.Needs.{needs}
 use Rattle.display.proofs.record.put_record.Statement.{statement}
 use Rattle.display.proofs.record.put_record.Tie as tie
 
@@ -23,8 +23,17 @@ slice-aggregate-put-named c = search needs
 put-named-requires : tie.Need-put-named-requires
 put-named-requires c κs = search needs
 
-put-session-requires : tie.Need-put-session-requires
-put-session-requires c κs = search needs
+slice-aggregate-put-named-2 : tie.Need-slice-aggregate-put-named-2
+slice-aggregate-put-named-2 c = search needs
+
+cast-put-named : tie.Need-cast-put-named
+cast-put-named c = search needs
+
+put-named-requires-2 : tie.Need-put-named-requires-2
+put-named-requires-2 c κs = search needs
+
+put-owed-requires : tie.Need-put-owed-requires
+put-owed-requires c κs = search needs
 
 same-length : tie.Need-same-length
 same-length c = search needs
@@ -33,7 +42,8 @@ returns : tie.Need-returns
 unfolding recordText
 returns c =
     let o = c .before .before in
-    let n = o .before .before .before .before in
+    let v = o .before .before .before .before in
+    let n = v .before .before .before .before .before .before in
     let e = n .before .before .before .before .before in
     let w = e .before .before .before .before in
     let h = w .before .before .before .before in
@@ -42,18 +52,33 @@ returns c =
     let out2 = w .put-words .last .1 .1 .0 in
     let out3 = e .put-entries .last .1 .1 .0 in
     let out4 = n .put-named .last .1 .1 .1 .0 in
-    let out5 = o .put-session .last .1 .1 .0 in
+    let out5 = v .put-named2 .last .1 .1 .1 .0 in
+    let out6 = o .put-owed .last .1 .1 .0 in
     let t1 = headText (a .p .there) (a .p .host) (a .p .run) in
     let p2 = put-then 0 (h .put-head .result) (w .put-words .result) t1 (joined wordText (a .p .vector)) (a .out .now) out1 out2 (h .put-head .ensures .0) (w .put-words .ensures .0) in
     let t2 = t1 ++ joined wordText (a .p .vector) in
     let p3 = put-then 0 (w .put-words .result) (e .put-entries .result) t2 (joined entryText (a .p .breaks)) (a .out .now) out2 out3 p2 (e .put-entries .ensures .0) in
     let t3 = t2 ++ joined entryText (a .p .breaks) in
-    let p4 = put-then 0 (e .put-entries .result) (n .put-named .result) t3 (named sizeName (a .p .size)) (a .out .now) out3 out4 p3 (n .put-named .ensures .0) in (
-      put-then 0 (n .put-named .result) (o .put-session .result) (t3 ++ named sizeName (a .p .size)) (sessionText (a .p .session)) (a .out .now) out4 out5 p4 (o .put-session .ensures .0),
-      omega (arith, h .put-head .ensures .1, w .put-words .ensures .1, e .put-entries .ensures .1, n .put-named .ensures .1, o .put-session .ensures .1),
+    let p4 = put-then 0 (e .put-entries .result) (n .put-named .result) t3 (named sizeName (a .p .size)) (a .out .now) out3 out4 p3 (n .put-named .ensures .0) in
+    let t4 = t3 ++ named sizeName (a .p .size) in
+    let p5 = put-then 0 (n .put-named .result) (v .put-named2 .result) t4 (named watcherName (a .p .session .watcher)) (a .out .now) out4 out5 p4 (v .put-named2 .ensures .0) in
+    let t5 = t4 ++ named watcherName (a .p .session .watcher) in (
+      put-then 0 (v .put-named2 .result) (o .put-owed .result) t5 (owedText (a .p .session .owed)) (a .out .now) out5 out6 p5 (o .put-owed .ensures .0),
+      omega (arith, h .put-head .ensures .1, w .put-words .ensures .1, e .put-entries .ensures .1, n .put-named .ensures .1, v .put-named2 .ensures .1, o .put-owed .ensures .1),
     )
 
 pub put-record-spec : {M : Type 1} → statement M
 put-record-spec =
     tie.close
-    (tie.spec put-head-requires put-words-requires put-entries-requires slice-aggregate-put-named put-named-requires put-session-requires same-length returns)
+    (tie.spec
+    put-head-requires
+    put-words-requires
+    put-entries-requires
+    slice-aggregate-put-named
+    put-named-requires
+    slice-aggregate-put-named-2
+    cast-put-named
+    put-named-requires-2
+    put-owed-requires
+    same-length
+    returns)

@@ -50,6 +50,12 @@ proceed-requires c κs = search needs
 destroy-requires : tie.Need-destroy-requires
 destroy-requires c κs = search needs
 
+watch-requires : tie.Need-watch-requires
+watch-requires c κs = search needs
+
+end-watch-requires : tie.Need-end-watch-requires
+end-watch-requires c κs = search needs
+
 returns : tie.Need-returns
 unfolding ruleOf
 returns c = rw (c .before .match .keys1) (c .debug .ensures, stays _)
@@ -139,10 +145,24 @@ unfolding ruleOf overlay
 returns-11 c = rw (c .before .match .keys11) (c .destroy .ensures, refl)
 
 returns-12 : tie.Need-returns-12
-returns-12 c =
+unfolding ruleOf
+returns-12 c = rw (c .before .match .keys12) (c .watch .ensures, stays _)
+
+same-length-8 : tie.Need-same-length-8
+same-length-8 c = search needs
+
+returns-13 : tie.Need-returns-13
+unfolding ruleOf
+returns-13 c =
+    let d = c .before .before in
+    let m = d .before .before in
+    rw (m .match .keys13) (d .end-watch .ensures .0, laid _ _ _ (search needs) (d .end-watch .ensures .1))
+
+returns-14 : tie.Need-returns-14
+returns-14 c =
     let a = c .before .before .before .args in
     let n = c .match .rest in
-    rw (coded (a .h .cmd) .idle (rw (ne-eqb _ 1 (n .0 .0 .0 .0 .0 .0 .0 .0 .0 .0 .1), ne-eqb _ 2 (n .0 .0 .0 .0 .0 .0 .0 .0 .0 .1), ne-eqb _ 3 (n .0 .0 .0 .0 .0 .0 .0 .0 .1), ne-eqb _ 4 (n .0 .0 .0 .0 .0 .0 .0 .1), ne-eqb _ 5 (n .0 .0 .0 .0 .0 .0 .1), ne-eqb _ 7 (n .0 .0 .0 .0 .0 .1), ne-eqb _ 8 (n .0 .0 .0 .0 .1), ne-eqb _ 9 (n .0 .0 .0 .1), ne-eqb _ 10 (n .0 .0 .1), ne-eqb _ 11 (n .0 .1), ne-eqb _ 13 (n .1))) (a .h) _ _) (refl, stays _)
+    rw (coded (a .h .cmd) .idle (rw (ne-eqb _ 1 (n .0 .0 .0 .0 .0 .0 .0 .0 .0 .0 .0 .0 .1), ne-eqb _ 2 (n .0 .0 .0 .0 .0 .0 .0 .0 .0 .0 .0 .1), ne-eqb _ 3 (n .0 .0 .0 .0 .0 .0 .0 .0 .0 .0 .1), ne-eqb _ 4 (n .0 .0 .0 .0 .0 .0 .0 .0 .0 .1), ne-eqb _ 5 (n .0 .0 .0 .0 .0 .0 .0 .0 .1), ne-eqb _ 7 (n .0 .0 .0 .0 .0 .0 .0 .1), ne-eqb _ 8 (n .0 .0 .0 .0 .0 .0 .1), ne-eqb _ 9 (n .0 .0 .0 .0 .0 .1), ne-eqb _ 10 (n .0 .0 .0 .0 .1), ne-eqb _ 11 (n .0 .0 .0 .1), ne-eqb _ 13 (n .0 .0 .1), ne-eqb _ 14 (n .0 .1), ne-eqb _ 15 (n .1))) (a .h) _ _) (refl, stays _)
 
 pub perform-spec : {M : Type 1} → statement M
 perform-spec =
@@ -161,6 +181,8 @@ perform-spec =
     single-step-requires
     proceed-requires
     destroy-requires
+    watch-requires
+    end-watch-requires
     returns
     same-length
     returns-2
@@ -179,4 +201,7 @@ perform-spec =
     same-length-7
     returns-10
     returns-11
-    returns-12)
+    returns-12
+    same-length-8
+    returns-13
+    returns-14)

@@ -1,20 +1,25 @@
--- `session::Session::sound` meets its contract, by whether an answer is owed. Assumes nothing.
+-- `session::Session::sound` meets its contract: it asks both tests. Assumes nothing.
 use borrow.Author.Tests.{not-true, not-false}
 use borrow.Author.Needs.{needs}
 use Rattle.session.specs.Session.{sessionSound}
 use Rattle.session.proofs.Session.sound.Statement.{statement}
 use Rattle.session.proofs.Session.sound.Tie as tie
 
-owes-requires : tie.Need-owes-requires
-owes-requires c κs = search needs
+owed-sound-requires : tie.Need-owed-sound-requires
+owed-sound-requires c κs = search needs
 
 returns : tie.Need-returns
 unfolding sessionSound
-returns c = rw (← c .before .owes .ensures, not-true (c .before .owes .result) (c .if1 .taken))
+returns c = rw (← c .before .owed-sound .ensures, not-true (c .before .owed-sound .result) (c .if1 .taken))
+
+watcher-sound-requires : tie.Need-watcher-sound-requires
+watcher-sound-requires c κs = search needs
 
 returns-2 : tie.Need-returns-2
 unfolding sessionSound
-returns-2 c = rw (← c .before .owes .ensures, not-false (c .before .owes .result) (c .if1 .left))
+returns-2 c =
+    let i = c .before in
+    rw (← i .before .owed-sound .ensures, not-false (i .before .owed-sound .result) (i .if1 .left)) (c .watcher-sound .ensures)
 
 pub sound-spec : {M : Type 1} → statement M
-sound-spec = tie.close (tie.spec owes-requires returns returns-2)
+sound-spec = tie.close (tie.spec owed-sound-requires returns watcher-sound-requires returns-2)

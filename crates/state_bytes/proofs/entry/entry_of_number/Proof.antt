@@ -5,6 +5,9 @@ use borrow.Author.Needs.{needs}
 use Rattle.state_bytes.proofs.entry.entry_of_number.Statement.{statement}
 use Rattle.state_bytes.proofs.entry.entry_of_number.Tie as tie
 
+cast-t6 : tie.Need-cast-t6
+cast-t6 c = search needs
+
 cast-t9 : tie.Need-cast-t9
 cast-t9 c = search needs
 
@@ -22,4 +25,4 @@ unfolding entryOfNumber
 returns c = refl
 
 pub entry-of-number-spec : {M : Type 1} → statement M
-entry-of-number-spec = tie.close (tie.spec cast-t9 cast-t12 cast-t15 cast-t18 returns)
+entry-of-number-spec = tie.close (tie.spec cast-t6 cast-t9 cast-t12 cast-t15 cast-t18 returns)

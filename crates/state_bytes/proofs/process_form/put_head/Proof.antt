@@ -1,9 +1,9 @@
--- `state_bytes::process_form::put_head` meets its contract: six stores. Assumes nothing.
+-- `state_bytes::process_form::put_head` meets its contract: seven stores. Assumes nothing.
 use native.Mathlib.Omega.{arith}
-use borrow.Author.Needs.{needs}
 use lib.ListN.{length-set}
 use Rattle.lists.proofs.Buffer.{sets-overlay}
 use Rattle.state_bytes.specs.Process.{headBytes}
+use borrow.Author.Needs.{needs}
 use Rattle.state_bytes.proofs.process_form.put_head.Statement.{statement}
 use Rattle.state_bytes.proofs.process_form.put_head.Tie as tie
 
@@ -43,6 +43,9 @@ number-requires-2 c κs = search needs
 slice-write-bytes-6 : tie.Need-slice-write-bytes-6
 slice-write-bytes-6 c = simp length-set (omega arith)
 
+slice-write-bytes-7 : tie.Need-slice-write-bytes-7
+slice-write-bytes-7 c = simp length-set (omega arith)
+
 same-length : tie.Need-same-length
 same-length c = search needs
 
@@ -71,5 +74,6 @@ put-head-spec =
     slice-write-bytes-5
     number-requires-2
     slice-write-bytes-6
+    slice-write-bytes-7
     same-length
     returns)

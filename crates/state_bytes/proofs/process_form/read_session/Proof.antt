@@ -9,8 +9,12 @@ shared-slice-read-owed-of c = search needs
 owed-of-requires : tie.Need-owed-of-requires
 owed-of-requires c κs = search needs
 
+shared-slice-read-t4 : tie.Need-shared-slice-read-t4
+shared-slice-read-t4 c = search needs
+
 returns : tie.Need-returns
-returns c = rw (c .owed-of .ensures)
+returns c = rw (c .before .owed-of .ensures)
 
 pub read-session-spec : {M : Type 1} → statement M
-read-session-spec = tie.close (tie.spec shared-slice-read-owed-of owed-of-requires returns)
+read-session-spec =
+    tie.close (tie.spec shared-slice-read-owed-of owed-of-requires shared-slice-read-t4 returns)

@@ -5,7 +5,6 @@ use Rattle.process.specs.Local.{local}
 use Rattle.process.specs.Record.{withVector}
 use Rattle.process.specs.Report.{storeVectorAndReplant, recipientOf, answerOf, reported}
 use Rattle.process.specs.declared.record.Process.{Process}
-use Rattle.process.proofs.KeptLaws.{same-host, shape-stored}
 use Rattle.process.proofs.AnswerLaws.{owed-stored}
 use Rattle.process.proofs.ReportLaws.{counts-low, counts-count}
 use Rattle.process.proofs.PlantingLaws.{inside-replanted}
@@ -20,14 +19,14 @@ store-vector-and-replant-requires c κs = let s = c .before .before in tested-in
 verdict-requires : tie.Need-verdict-requires
 verdict-requires c κs = search needs
 
-enum-told : tie.Need-enum-told
-enum-told c = search needs
+enum-known-verdict : tie.Need-enum-known-verdict
+enum-known-verdict c = search needs
 
 stopping-requires : tie.Need-stopping-requires
 stopping-requires c κs = search needs
 
-enum-known-verdict : tie.Need-enum-known-verdict
-enum-known-verdict c = search needs
+enum-known-verdict-2 : tie.Need-enum-known-verdict-2
+enum-known-verdict-2 c = search needs
 
 pass-requires : tie.Need-pass-requires
 unfolding storeVectorAndReplant
@@ -39,7 +38,7 @@ pass-requires c κs =
     let a = s .args in
     let eight = simp length-map at (s .good .0 .1 .1 .1 .1 .1 .1 .0 .1 .0 .1) in
     let p = r .store-vector-and-replant .result in
-    let counted = sym (q .verdict .ensures) ∙ v .verdict2 .given .1 in
+    let counted = sym (q .verdict .ensures) ∙ v .verdict3 .given .1 in
     let inside = inside-replanted (withVector (a .vector) (a .self)) (a .bytes .now) eight (tested-inside (a .self) (a .bytes .now) (s .pre)) in (
       counts-low (a .kind) p _ counted,
       rw (r .store-vector-and-replant .ensures .0, r .store-vector-and-replant .ensures .1) inside,
@@ -49,8 +48,8 @@ pass-requires c κs =
 quietly-requires : tie.Need-quietly-requires
 quietly-requires c κs = search needs
 
-enum-told-2 : tie.Need-enum-told-2
-enum-told-2 c = search needs
+enum-told : tie.Need-enum-told
+enum-told c = search needs
 
 with-run-requires : tie.Need-with-run-requires
 with-run-requires c κs = search needs
@@ -64,19 +63,18 @@ same-length c = search needs
 returns : tie.Need-returns
 unfolding reported recipientOf answerOf
 returns c =
-    let e = c .before in
+    let e = c .before .before in
     let q = e .before .before in
     let r = q .before .before .before in
     let s = r .before .before .before in
     let a = s .args in
     let l = local (a .self) (a .bytes .now) in
     let p = r .store-vector-and-replant .result in
-    let stops = sym (q .verdict .ensures) ∙ e .enum-told .given .1 in
+    let stops = sym (q .verdict .ensures) ∙ e .verdict2 .given .1 in
     let whole : storeVectorAndReplant (a .vector) (local (a .self) (a .bytes .now)) ≡ local p (r .store-vector-and-replant .last .1 .1 .0) =
     rw (r .store-vector-and-replant .ensures .0, r .store-vector-and-replant .ensures .1) in
-    let host = ap (λ (x : Process). x .host) (r .store-vector-and-replant .ensures .0) ∙ same-host (shape-stored (a .vector) l) in
     let owed = ap (λ (x : Process). x .session .owed) (r .store-vector-and-replant .ensures .0) ∙ owed-stored (a .vector) l in
-    rw (whole, stops) (c .stopping .ensures .0, (c .stopping .ensures .1 ∙ host, (c .stopping .ensures .2 ∙ owed, refl)))
+    rw (whole, stops) (c .stopping .ensures .0, (c .stopping .ensures .1, (c .stopping .ensures .2 ∙ owed, refl)))
 
 same-length-2 : tie.Need-same-length-2
 same-length-2 c = search needs
@@ -91,7 +89,7 @@ returns-2 c =
     let s = r .before .before .before in
     let a = s .args in
     let p = r .store-vector-and-replant .result in
-    let counted = sym (q .verdict .ensures) ∙ v .verdict2 .given .1 in
+    let counted = sym (q .verdict .ensures) ∙ v .verdict3 .given .1 in
     let whole : storeVectorAndReplant (a .vector) (local (a .self) (a .bytes .now)) ≡ local p (r .store-vector-and-replant .last .1 .1 .0) =
     rw (r .store-vector-and-replant .ensures .0, r .store-vector-and-replant .ensures .1) in
     rw (whole, counted) (c .quietly .ensures .0 ∙ w .pass .ensures .0, (c .quietly .ensures .1, (c .quietly .ensures .2, w .pass .ensures .1)))
@@ -109,7 +107,7 @@ returns-3 c =
     let s = r .before .before .before in
     let a = s .args in
     let p = r .store-vector-and-replant .result in
-    let goes = sym (q .verdict .ensures) ∙ e .enum-told2 .given .1 in
+    let goes = sym (q .verdict .ensures) ∙ e .enum-told .given .1 in
     let whole : storeVectorAndReplant (a .vector) (local (a .self) (a .bytes .now)) ≡ local p (r .store-vector-and-replant .last .1 .1 .0) =
     rw (r .store-vector-and-replant .ensures .0, r .store-vector-and-replant .ensures .1) in
     rw (whole, goes) (c .quietly2 .ensures .0 ∙ w .with-run .ensures, (c .quietly2 .ensures .1, (c .quietly2 .ensures .2, refl)))
@@ -120,12 +118,12 @@ report-spec =
     (tie.spec
     store-vector-and-replant-requires
     verdict-requires
-    enum-told
-    stopping-requires
     enum-known-verdict
+    stopping-requires
+    enum-known-verdict-2
     pass-requires
     quietly-requires
-    enum-told-2
+    enum-told
     with-run-requires
     quietly-requires-2
     same-length

@@ -3,11 +3,13 @@ use mathlib.Core.Path.{refl, sym, ap, _∙_}
 use Prim.Native.Nat.{ℕ}
 use borrow.Author.Needs.{needs}
 use lib.ListN.{length-map}
+use Rattle.breakpoints.proofs.SeenLaws.{none-set, some-set}
 use Rattle.process.specs.Request.{breakSet}
 use Rattle.process.specs.Record.{entry}
 use Rattle.process.proofs.EntryLaws.{entry-there, entry-new, entry-used}
 use Rattle.process.proofs.record.Process.set_break.Statement.{statement}
 use Rattle.process.proofs.record.Process.set_break.Tie as tie
+use Rattle.breakpoints.specs.Entry.{inUse}
 
 mul-b : tie.Need-mul-b
 mul-b c = search needs
@@ -26,10 +28,10 @@ unfolding breakSet
 returns c =
     let w = c .before in
     let i = w .before in
-    let s = i .before .before .before in
+    let s = i .before .before .before .before in
     let eight = simp length-map at (s .good .0 .1 .1 .1 .1 .1 .1 .0 .1 .0 .1) in
     let a = s .args in
-    let used = sym (entry-used (a .a) (a .t1) eight (rw (s .pre .1) at (s .pre .0))) ∙ ap (λ (k : ℕ). entry (a .t1) k .used) (sym (s .pre .1)) ∙ i .if1 .taken in
+    let used = sym (entry-used (a .a) (a .t1) eight (rw (s .pre .1) at (s .pre .0))) ∙ ap (λ (k : ℕ). inUse (entry (a .t1) k)) (sym (s .pre .1)) ∙ some-set (entry (a .t1) (a .k)) (i .if1 .taken) in
     rw (used, ← entry-there (a .a) (a .t1) used, ← s .pre .1, c .with-entry .ensures, w .with-count .ensures) (refl, refl)
 
 at-requires : tie.Need-at-requires
@@ -38,7 +40,7 @@ at-requires c κs = search needs
 plant-in-requires : tie.Need-plant-in-requires
 plant-in-requires c κs =
     let n = c .before in
-    let s = n .before .before .before .before in
+    let s = n .before .before .before .before .before in
     (s .pre .0, rw (n .at .ensures) (s .pre .2))
 
 same-length : tie.Need-same-length
@@ -50,10 +52,10 @@ returns-2 c =
     let w = c .before .before in
     let n = w .before .before in
     let i = n .before in
-    let s = i .before .before .before in
+    let s = i .before .before .before .before in
     let eight = simp length-map at (s .good .0 .1 .1 .1 .1 .1 .1 .0 .1 .0 .1) in
     let a = s .args in
-    let used = sym (entry-used (a .a) (a .t1) eight (rw (s .pre .1) at (s .pre .0))) ∙ ap (λ (k : ℕ). entry (a .t1) k .used) (sym (s .pre .1)) ∙ i .if1 .left in
+    let used = sym (entry-used (a .a) (a .t1) eight (rw (s .pre .1) at (s .pre .0))) ∙ ap (λ (k : ℕ). inUse (entry (a .t1) k)) (sym (s .pre .1)) ∙ none-set (entry (a .t1) (a .k)) (i .if1 .left) in
     rw (used, ← entry-new (a .a) (a .t1) used, ← s .pre .1, ← n .at .ensures) (w .plant-in .ensures)
 
 pub set-break-spec : {M : Type 1} → statement M

@@ -5,7 +5,7 @@ use borrow.Author.Tests.{eq-eqb, ne-eqb, lt-ltb, le-ltb}
 use Rattle.breakpoints.specs.declared.entry_query.EntryQuery.the-variants.{At}
 use Rattle.process.specs.Find.{find}
 use Rattle.process.specs.Request.{hasBreak}
-use Rattle.process.specs.Report.{passes, verdictOf}
+use Rattle.process.specs.Report.{passes, noticeHost, verdictOf}
 use Rattle.process.proofs.FindLaws.{found-index, found-nowhere}
 use borrow.Author.Needs.{needs}
 use Rattle.process.proofs.record.Process.verdict.Statement.{statement}
@@ -19,7 +19,7 @@ unfolding verdictOf
 returns c = rw (← c .before .goes-on .ensures, c .if1 .taken)
 
 returns-2 : tie.Need-returns-2
-unfolding verdictOf passes
+unfolding verdictOf passes noticeHost
 returns-2 c =
     let i = c .before in
     rw (← i .before .goes-on .ensures, i .if1 .left, ne-eqb _ _ (c .if2 .taken))
@@ -37,7 +37,7 @@ enum-told : tie.Need-enum-told
 enum-told c = search needs
 
 returns-3 : tie.Need-returns-3
-unfolding verdictOf passes hasBreak
+unfolding verdictOf passes noticeHost hasBreak
 returns-3 c =
     let f = c .before .before in
     let p = f .before in
@@ -72,7 +72,7 @@ returns-4 c =
     rw (← i .before .goes-on .ensures, i .if1 .left, eq-eqb _ _ (p .before .if2 .left), ← p .pc .ensures, lt-ltb _ _ (at .low), at .same, lt-ltb _ _ (c .if3 .taken))
 
 returns-5 : tie.Need-returns-5
-unfolding verdictOf passes hasBreak
+unfolding verdictOf passes noticeHost hasBreak
 returns-5 c =
     let g = c .before .before .before .before in
     let f = g .before .before in
