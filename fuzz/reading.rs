@@ -72,7 +72,7 @@ pub fn request_from(r: [u8; 8], records: &State) -> Call {
     let (mut arg1, mut arg2) = (moved(r[0], word(r[4], r[5])), moved(r[0], word(r[6], r[7])));
     if !any {
         let processes = if near { 2 } else { 8 };
-        (host, cmd, pid) = ([5, 5, 6, TEXT_HOST][usize::from(host) % 4], cmd % 16, pid % processes);
+        (host, cmd, pid) = ([5, 5, 6, TEXT_HOST][usize::from(host) % 4], cmd % 17, pid % processes);
         if matches!(cmd, NOP | CREATE_PROCESS) {
             pid = 0;
         }

@@ -10,7 +10,8 @@
 //!     3       a request of any bytes: a length, and the message from the bytes that follow the record
 //!     4       a machine report
 //!     5       a store by the machine into a process's own bytes, or, with bit 4, a call of the desk's end
-//!     6       damage: bytes of the state are changed for the next call, or, with bit 4, where its processes lie
+//!     6       damage: bytes of the state are changed for the next call, and the numbers of breakpoints made true again, or not; or, with bit 4,
+//!             where its processes lie
 //!     7       lengths: the next call is lent other lengths
 //!
 //! A call after damage or lengths is made on copies; damage is kept where bit 6 asks for it and the state is still sound. Bit 7 takes all
@@ -35,6 +36,8 @@ mod sides;
 #[allow(dead_code)] // how deep it is gone is not asked here
 #[path = "../model/compare/stack.rs"]
 mod stack;
+#[path = "../model/compare/status.rs"]
+mod status;
 #[path = "../model/compare/watching.rs"]
 mod watching;
 
@@ -42,6 +45,7 @@ use layout::{lay_out, order, out_of_order};
 use model::*;
 use reading::{desk_from, line_from, report_from, request_from, word, Records};
 use sides::{is_sound, Call, Pair, Side};
+use status::count_again;
 use std::os::raw::c_int;
 
 /// Prints what is wrong and aborts, which is how the fuzzer learns of it.
@@ -53,9 +57,9 @@ fn stop(text: &str) -> ! {
 /// Makes the call on both sides.
 fn compare(call: &Call, pair: &mut Pair) {
     let found = condition_for(call, pair.model.state.bytes());
-    let laid = layout_for(call, pair.model.state.bytes());
+    let found_too = found_by(call, pair.model.state.bytes());
     match pair.call(call) {
-        Ok(answer) => note(call, found, laid, answer),
+        Ok(answer) => note(call, found, found_too, answer),
         Err(text) => stop(&text),
     }
 }
@@ -63,9 +67,13 @@ fn compare(call: &Call, pair: &mut Pair) {
 // ---------------------------------------------------------------- guiding
 
 /// The library is not instrumented. The fuzzer also counts as new what it answers to which call in which condition of the process.
-/// After the calls come CREATE and DESTROY once more, in the layout that they find, and then the letters of lines, and lines with none.
+/// After the calls come CREATE and DESTROY once more, in the layout that they find, STATUS by what it tells, and then the letters of lines, and
+/// lines with none.
 const CALLS: usize = LINES + LETTERS.len() + 1;
-const LINES: usize = 27;
+const CREATES: usize = 26;
+const DESTROYS: usize = CREATES + 1;
+const STATUSES: usize = DESTROYS + 1;
+const LINES: usize = STATUSES + 1;
 const ANSWERS: usize = 19;
 /// Six run states with three conditions of breakpoints, three of what is owed and three of who watches; those of a layout are fewer.
 const CONDITIONS: usize = 6 * 3 * 3 * 3;
@@ -100,8 +108,9 @@ fn condition_for(call: &Call, state: &[u8]) -> usize {
 }
 
 /// What a CREATE or a DESTROY finds: of CREATE, whether it asks for fewer bytes than are free, just them or more, and whether a number is
-/// free, below another or not; of DESTROY, whether it moves none, one or more, and breakpoints among them.
-fn layout_for(call: &Call, state: &[u8]) -> Option<(usize, usize)> {
+/// free, below another or not; of DESTROY, whether it moves none, one or more, and breakpoints among them. And what a STATUS tells: how many are
+/// set, and the run state.
+fn found_by(call: &Call, state: &[u8]) -> Option<(usize, usize)> {
     let Call::Request { message: m } = call else { return None };
     let state = decode(state).filter(|state| m.len() >= HEAD && sound(state))?;
     let there = |p: usize| state.processes[p].there;
@@ -113,7 +122,7 @@ fn layout_for(call: &Call, state: &[u8]) -> Option<(usize, usize)> {
                 None => 0,
                 Some(new) => 1 + usize::from((new..PROCESSES).any(there)),
             };
-            Some((25, 3 * room as usize + number))
+            Some((CREATES, 3 * room as usize + number))
         }
         DESTROY_PROCESS => {
             let gone = state.processes.get(usize::from(m[5]))?;
@@ -122,20 +131,24 @@ fn layout_for(call: &Call, state: &[u8]) -> Option<(usize, usize)> {
             let points = moved.clone().flat_map(|p| &p.breakpoints).filter(|b| b.used());
             let kinds = points.map(|b| 1 + usize::from(b.lifted)).max().unwrap_or(0);
             let order = usize::from(out_of_order(&state));
-            Some((26, moved.count().min(2) * 3 + kinds + 9 * order))
+            Some((DESTROYS, moved.count().min(2) * 3 + kinds + 9 * order))
+        }
+        STATUS => {
+            let process = state.processes.get(usize::from(m[5]))?;
+            Some((STATUSES, usize::from(process.set) * Run::ALL.len() + process.run as usize))
         }
         _ => None,
     }
 }
 
-fn note(call: &Call, found: usize, laid: Option<(usize, usize)>, answer: i64) {
+fn note(call: &Call, found: usize, found_too: Option<(usize, usize)>, answer: i64) {
     let what = match call {
-        Call::Request { message: m } if m.len() >= HEAD => usize::from(m[4]).min(16),
-        Call::Request { .. } => 17,
-        Call::Report { kind, .. } => 18 + (*kind).min(3) as usize,
-        Call::Write { .. } => 22,
-        Call::Read { .. } => 23,
-        Call::FreshStart { .. } => 24,
+        Call::Request { message: m } if m.len() >= HEAD => usize::from(m[4]).min(17),
+        Call::Request { .. } => 18,
+        Call::Report { kind, .. } => 19 + (*kind).min(3) as usize,
+        Call::Write { .. } => 23,
+        Call::Read { .. } => 24,
+        Call::FreshStart { .. } => 25,
         Call::Line { text } => LINES + letter_of(text),
     };
     let answered = match answer {
@@ -147,7 +160,7 @@ fn note(call: &Call, found: usize, laid: Option<(usize, usize)>, answer: i64) {
         // of a line: 101, 103, 114, 116, 122
         _ => 8 + (-answer - 100) as usize / 3,
     };
-    for (what, found) in [Some((what, found)), laid].into_iter().flatten() {
+    for (what, found) in [Some((what, found)), found_too].into_iter().flatten() {
         let index = (what * ANSWERS + answered) * CONDITIONS + found;
         unsafe { SEEN[index] = 1 };
     }
@@ -165,6 +178,8 @@ fn letter_of(text: &[u8]) -> usize {
 #[derive(Default)]
 struct Spoiled {
     damage: Vec<(usize, u8)>,
+    /// The numbers of breakpoints are true again after the damage.
+    count: bool,
     /// Those of the first byte are there too, and they lie in another order: that of these bytes, one for each process.
     order: Option<[u8; 8]>,
     keep: bool,
@@ -200,6 +215,8 @@ impl Spoiled {
             return;
         }
         let record = RECORD_BYTES * (usize::from(r[1]) % if r[0] & 8 != 0 { 2 } else { 8 });
+        // a byte of the state may be damage to its number too
+        self.count = r[0] & 32 != 0 || r[7] & 1 == 0;
         if r[0] & 32 == 0 {
             // host 253 is the one whose answers are owed
             let small = |byte: u8| if byte % 8 == 7 { TEXT_HOST } else { byte % 8 };
@@ -220,6 +237,9 @@ impl Spoiled {
     fn change(&self, side: &mut Side) {
         for &(at, value) in &self.damage {
             side.state.change()[at % STATE_BYTES] = value;
+        }
+        if self.count {
+            count_again(side.state.change());
         }
         if let (Some(keys), Some(mut records)) = (self.order, decode(side.state.bytes())) {
             for (p, process) in records.processes.iter_mut().enumerate() {

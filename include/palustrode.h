@@ -6,13 +6,13 @@
 #include <stddef.h>
 #include <stdint.h>
 
-/* A state is eight processes of 89 bytes, the last 64 of which are eight breakpoint entries of 8 bytes; then, from byte 712 on, where each
+/* A state is eight processes of 90 bytes, the last 64 of which are eight breakpoint entries of 8 bytes; then, from byte 720 on, where each
  * process begins in memory, two bytes each, low byte first. All processes lie in one memory of 16,384 bytes, one after the other without gaps,
  * each with as many bytes as its size says; free bytes follow the last. */
-#define PALUSTRODE_STATE_BYTES 728
-#define PALUSTRODE_PROCESS_BYTES 89
+#define PALUSTRODE_STATE_BYTES 736
+#define PALUSTRODE_PROCESS_BYTES 90
 #define PALUSTRODE_ENTRY_BYTES 8
-#define PALUSTRODE_STARTS_AT 712
+#define PALUSTRODE_STARTS_AT 720
 #define PALUSTRODE_MEMORY_BYTES 16384
 
 /* The number of processes, and of their sizes; and the least and the greatest size in bytes, which is even. In ARG1 of a CREATE 0 stands for
@@ -32,8 +32,8 @@
 #define PALUSTRODE_LINE_BYTES 35
 #define PALUSTRODE_TEXT_HOST 253
 
-/* The stack that a call needs, in bytes, what it calls included: 1,344 were measured on x86-64 (docs/EMBEDDING.md says how). */
-#define PALUSTRODE_STACK_BYTES 1408
+/* The stack that a call needs, in bytes, what it calls included: 1,472 were measured on x86-64 (docs/EMBEDDING.md says how). */
+#define PALUSTRODE_STACK_BYTES 1536
 
 /* The op codes of requests, in CMD. A CAN'T has PALUSTRODE_CANT added. */
 #define PALUSTRODE_NOP 0
@@ -52,6 +52,7 @@
 #define PALUSTRODE_DESTROY 13
 #define PALUSTRODE_WATCH 14
 #define PALUSTRODE_END_WATCH 15
+#define PALUSTRODE_STATUS 16
 #define PALUSTRODE_CANT 128
 
 /* The kinds of machine report. A notice has its kind and PALUSTRODE_NOTICE in CMD. */
@@ -62,16 +63,18 @@
 #define PALUSTRODE_NOTICE 64
 
 /* Of a process's bytes in the state, those that the firmware acts on: 1 if it is there, its run state, its size, which answer is owed to the text
- * debugger (0 none, 1 to a `c`, 2 to an `s`), and its nine words; and the host that watches it, or 0, which it need not look at. */
+ * debugger (0 none, 1 to a `c`, 2 to an `s`), and its nine words; and two that it need not look at: how many breakpoints are set in it, 0 to 8, and
+ * the host that watches it, or 0. */
 #define PALUSTRODE_THERE_AT 0
 #define PALUSTRODE_RUN_STATE_AT 2
 #define PALUSTRODE_SIZE_AT 3
-#define PALUSTRODE_OWED_AT 5
-#define PALUSTRODE_WATCHER_AT 6
-#define PALUSTRODE_VECTOR_AT 7
+#define PALUSTRODE_SET_AT 5
+#define PALUSTRODE_OWED_AT 6
+#define PALUSTRODE_WATCHER_AT 7
+#define PALUSTRODE_VECTOR_AT 8
 
-/* The run states. A process executes only while it is there and running, stepping or passing, and one instruction only while stepping or passing
- * (docs/EMBEDDING.md, "What the firmware does around the calls"). */
+/* The run states, which ARG2 of a reply to STATUS tells too. A process executes only while it is there and running, stepping or passing, and one
+ * instruction only while stepping or passing (docs/EMBEDDING.md, "What the firmware does around the calls"). */
 #define PALUSTRODE_RUNNING 0
 #define PALUSTRODE_STEPPING 1
 #define PALUSTRODE_STOPPED 2
@@ -111,7 +114,7 @@ extern "C" {
 /* A fresh start: process p is there where bit p of `there` is set, running, with no host and with sizes[p] bytes, and the others are not; their
  * sizes are passed over. In memory they lie one after the other in the order of their numbers, from byte 0 on. Every byte of the state is
  * written, whatever it held; memory is not touched, and stays as it is. 0; or, with nothing written, -1 where not eight sizes are lent or the
- * state has not its 728 bytes, else -2 where the size of a process that is to be there is odd, 0 or over 4,096 or all these sizes together are
+ * state has not its 736 bytes, else -2 where the size of a process that is to be there is odd, 0 or over 4,096 or all these sizes together are
  * more than 16,384, and else -7 where a bit above the eighth is set. */
 int64_t palustrode_fresh_start(uint64_t there, const uint16_t *sizes, size_t sizes_count, uint8_t *state, size_t state_length);
 
@@ -156,7 +159,7 @@ int64_t palustrode_read_answer(const uint8_t *message, size_t message_length, ui
 }
 #endif
 
-/* The 89 bytes of process p, 0 to 7, in a state; found by a table, since the core has no multiply instruction. */
+/* The 90 bytes of process p, 0 to 7, in a state; found by a table, since the core has no multiply instruction. */
 static inline const uint8_t *palustrode_process(const uint8_t *state, unsigned p) {
     static const uint16_t at[PALUSTRODE_PROCESSES] = {0 * PALUSTRODE_PROCESS_BYTES, 1 * PALUSTRODE_PROCESS_BYTES,
                                                       2 * PALUSTRODE_PROCESS_BYTES, 3 * PALUSTRODE_PROCESS_BYTES,
@@ -165,7 +168,7 @@ static inline const uint8_t *palustrode_process(const uint8_t *state, unsigned p
     return state + at[p];
 }
 
-/* Where process p, 0 to 7, begins in memory, read from the 728 bytes of a state: its bytes are memory[start] to memory[start + size - 1]. Of a
+/* Where process p, 0 to 7, begins in memory, read from the 736 bytes of a state: its bytes are memory[start] to memory[start + size - 1]. Of a
  * process that is not there it says nothing. Read it anew after each fresh start and each granted CREATE or DESTROY, of any process; nothing
  * else moves one. */
 static inline size_t palustrode_start(const uint8_t *state, unsigned p) {

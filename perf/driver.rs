@@ -5,7 +5,7 @@
 //!     driver stack SIDE ROW    the deepest stack of the row's calls, in bytes
 //!     driver SIDE ROW TURNS    the row on one side, and nothing printed
 //!
-//! SIDE is `library`, `typed` (the model on a state kept as a struct), `bytes` (the model on the 728 bytes of a state) or `empty` (no call
+//! SIDE is `library`, `typed` (the model on a state kept as a struct), `bytes` (the model on the 736 bytes of a state) or `empty` (no call
 //! is made; what is left is the harness).
 #![no_main]
 

@@ -134,6 +134,7 @@ pub fn rows() -> Vec<Row> {
     let mut rows = vec![
         row("nop", "NOP", vec![], vec![ask(OWNER, NOP, 0, 0, 0, 0)], 10),
         row("debug", "DEBUG, again by the same host", vec![], vec![to(DEBUG, 0, 0)], 10),
+        row("status", "STATUS", vec![], vec![to(STATUS, 0, 0)], 10),
     ];
     for (name, cmd) in [("examine", EXAMINE), ("deposit", DEPOSIT)] {
         for planted in [0, 8] {

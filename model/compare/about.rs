@@ -28,7 +28,7 @@ fn cmd_of(m: &[u8]) -> Option<u8> {
     let right = (HEAD..=LONGEST).contains(&m.len())
         && [m[0], m[2], m[3]] == [0, 255, 0]
         && m[1] != NOBODY
-        && m[4] <= END_WATCH;
+        && m[4] <= STATUS;
     right.then(|| m[4])
 }
 

@@ -27,11 +27,11 @@ const RANGES: [(u16, u16); 3] = [(65535, 2), (0, 256), (0, 257)];
 /// The same of the vector.
 const VECTOR_RANGES: [(u16, u16); 6] = [(0, 18), (16, 2), (17, 2), (18, 0), (18, 1), (65535, 2)];
 
-/// What a list tends to: the weights of the sixteen op codes, how many of sixteen
+/// What a list tends to: the weights of the seventeen op codes, how many of sixteen
 /// calls are reports and how many lines, whether the reports are such as a machine makes
 /// in the run state at hand, and whether host 253 asks rather than another.
 pub struct Mood {
-    weights: [usize; 16],
+    weights: [usize; 17],
     reports: usize,
     lines: usize,
     machine: bool,
@@ -39,47 +39,47 @@ pub struct Mood {
 }
 
 /// A list without lines.
-const fn mood(weights: [usize; 16], reports: usize, machine: bool) -> Mood {
+const fn mood(weights: [usize; 17], reports: usize, machine: bool) -> Mood {
     Mood { weights, reports, lines: 0, machine, bench: false }
 }
 
 /// A list of host 253, with so many lines.
-const fn bench(weights: [usize; 16], reports: usize, lines: usize) -> Mood {
+const fn bench(weights: [usize; 17], reports: usize, lines: usize) -> Mood {
     Mood { weights, reports, lines, machine: true, bench: true }
 }
 
 pub const MOODS: [Mood; 16] = [
     // a little of everything
-    mood([1, 6, 2, 2, 4, 3, 4, 2, 5, 2, 3, 3, 2, 2, 3, 2], 4, false),
+    mood([1, 6, 2, 2, 4, 3, 4, 2, 5, 2, 3, 3, 2, 2, 3, 2, 3], 4, false),
     // all eight breakpoints of a process
-    mood([1, 6, 0, 1, 3, 2, 3, 1, 26, 2, 1, 9, 1, 1, 1, 0], 5, true),
+    mood([1, 6, 0, 1, 3, 2, 3, 1, 26, 2, 1, 9, 1, 1, 1, 0, 3], 5, true),
     // all eight processes
-    mood([1, 2, 1, 1, 1, 1, 1, 1, 1, 1, 1, 1, 5, 2, 1, 1], 2, false),
+    mood([1, 2, 1, 1, 1, 1, 1, 1, 1, 1, 1, 1, 5, 2, 1, 1, 2], 2, false),
     // running, stepping, proceeding
-    mood([1, 6, 1, 4, 3, 9, 3, 2, 8, 2, 9, 9, 2, 2, 1, 1], 8, false),
+    mood([1, 6, 1, 4, 3, 9, 3, 2, 8, 2, 9, 9, 2, 2, 1, 1, 2], 8, false),
     // processes come and go, with breakpoints
-    mood([1, 5, 1, 1, 2, 3, 2, 1, 9, 1, 2, 3, 14, 9, 3, 1], 3, false),
+    mood([1, 5, 1, 1, 2, 3, 2, 1, 9, 1, 2, 3, 14, 9, 3, 1, 2], 3, false),
     // breakpoints in loops
-    mood([1, 6, 1, 3, 3, 6, 3, 2, 8, 3, 5, 14, 2, 1, 1, 1], 9, true),
+    mood([1, 6, 1, 3, 3, 6, 3, 2, 8, 3, 5, 14, 2, 1, 1, 1, 2], 9, true),
     // and such as are taken away while a process passes them
-    mood([1, 6, 8, 9, 2, 6, 2, 2, 12, 18, 4, 14, 1, 1, 0, 0], 8, true),
+    mood([1, 6, 8, 9, 2, 6, 2, 2, 12, 18, 4, 14, 1, 1, 0, 0, 3], 8, true),
     // a little of everything, and lines
-    Mood { lines: 3, ..mood([1, 6, 2, 2, 4, 3, 4, 2, 5, 2, 3, 3, 2, 2, 3, 2], 4, false) },
+    Mood { lines: 3, ..mood([1, 6, 2, 2, 4, 3, 4, 2, 5, 2, 3, 3, 2, 2, 3, 2, 2], 4, false) },
     // the bench's text debugger: continuing and stepping
-    bench([1, 8, 1, 4, 1, 1, 1, 1, 8, 1, 1, 1, 1, 1, 1, 0], 6, 7),
+    bench([1, 8, 1, 4, 1, 1, 1, 1, 8, 1, 1, 1, 1, 1, 1, 0, 1], 6, 7),
     // looking and storing, breakpoints planted
-    bench([1, 6, 1, 3, 2, 1, 2, 2, 9, 2, 1, 1, 2, 1, 1, 1], 3, 10),
+    bench([1, 6, 1, 3, 2, 1, 2, 2, 9, 2, 1, 1, 2, 1, 1, 1, 1], 3, 10),
     // and answers that are owed are cancelled, and breakpoints taken away
-    bench([1, 8, 8, 9, 1, 4, 1, 2, 14, 18, 2, 12, 2, 4, 0, 0], 6, 4),
+    bench([1, 8, 8, 9, 1, 4, 1, 2, 14, 18, 2, 12, 2, 4, 0, 0, 2], 6, 4),
     // two hosts at a process, each with as many breakpoints as he may have
-    mood([1, 5, 1, 1, 2, 3, 3, 1, 30, 3, 1, 6, 1, 1, 6, 1], 4, true),
+    mood([1, 5, 1, 1, 2, 3, 3, 1, 30, 3, 1, 6, 1, 1, 6, 1, 4], 4, true),
     // watches come and go, with breakpoints planted and lifted
-    mood([1, 6, 2, 2, 2, 5, 3, 1, 20, 5, 6, 12, 1, 2, 8, 9], 7, true),
+    mood([1, 6, 2, 2, 2, 5, 3, 1, 20, 5, 6, 12, 1, 2, 8, 9, 3], 7, true),
     // both at breakpoints in loops
-    mood([1, 6, 1, 2, 2, 6, 2, 1, 12, 3, 4, 14, 1, 1, 5, 1], 9, true),
+    mood([1, 6, 1, 2, 2, 6, 2, 1, 12, 3, 4, 14, 1, 1, 5, 1, 3], 9, true),
     // and the bench's text debugger is one of the two, more often the one who debugs
-    bench([1, 8, 1, 3, 1, 1, 1, 1, 16, 2, 1, 1, 1, 1, 8, 2], 5, 5),
-    bench([1, 8, 0, 1, 1, 1, 1, 1, 18, 1, 1, 2, 1, 0, 10, 1], 6, 5),
+    bench([1, 8, 1, 3, 1, 1, 1, 1, 16, 2, 1, 1, 1, 1, 8, 2, 3], 5, 5),
+    bench([1, 8, 0, 1, 1, 1, 1, 1, 18, 1, 1, 2, 1, 0, 10, 1, 3], 6, 5),
 ];
 
 pub fn make_call(random: &mut Random, state: &State, mood: &Mood) -> Call {
@@ -124,8 +124,16 @@ fn process_for(random: &mut Random, state: &State, cmd: u8) -> u8 {
     if any_is(&passing_bare) && random.one_in(2) {
         return some_process(random, state, passing_bare);
     }
-    if any_is(&lifted_of_watcher) && random.one_in(if cmd == END_WATCH { 1 } else { 8 }) {
+    let seldom = match cmd {
+        END_WATCH => 1,
+        END_DEBUG => 2,
+        _ => 8,
+    };
+    if any_is(&lifted_of_watcher) && random.one_in(seldom) {
         return some_process(random, state, lifted_of_watcher);
+    }
+    if cmd == WATCH && any_is(&crowded) && random.one_in(2) {
+        return some_process(random, state, crowded);
     }
     if matches!(cmd, WATCH | END_WATCH) && random.one_in(2) {
         return some_process(random, state, |p| fits_watch(p, cmd));
@@ -158,6 +166,11 @@ fn has_lifted(process: &Process) -> bool {
     process.breakpoints.iter().any(|b| b.used() && b.lifted)
 }
 
+/// Whether seven are set in a process that nobody watches.
+fn crowded(process: &Process) -> bool {
+    process.watcher == NOBODY && process.breakpoints.iter().filter(|b| b.used()).count() == 7
+}
+
 /// Whether a process passes a breakpoint that is gone.
 pub fn passing_bare(process: &Process) -> bool {
     process.there && process.run == Run::Passing && !has_lifted(process)
@@ -171,11 +184,16 @@ fn lifts(process: &Process) -> bool {
 
 /// A well-formed request, mostly one that can be granted.
 pub fn make_request(random: &mut Random, state: &State, mood: &Mood) -> Vec<u8> {
-    // a watch seldom ends just then
-    let lifted = state.processes.iter().any(lifted_of_watcher);
-    let cmd = match lifted && random.one_in(10) {
-        true => END_WATCH,
-        false => random.weighted(&mood.weights) as u8,
+    // a watch seldom ends just then, a process that passes nothing seldom stops, and a
+    // breakpoint seldom goes while an answer is owed
+    let any_is = |test: fn(&Process) -> bool| state.processes.iter().any(test);
+    let cmd = match random.below(20) {
+        0 | 1 if any_is(lifted_of_watcher) => {
+            random.pick(&[END_WATCH, END_WATCH, END_WATCH, END_DEBUG])
+        }
+        2 if any_is(passing_bare) => random.pick(&[STOP, END_DEBUG]),
+        3 if any_is(|p| p.owed != Owed::Nothing && has_lifted(p)) => UNBREAK,
+        _ => random.weighted(&mood.weights) as u8,
     };
     let pid = match cmd {
         NOP | CREATE_PROCESS => 0,
@@ -234,8 +252,10 @@ fn make_arguments(random: &mut Random, process: &Process, cmd: u8) -> (u16, u16,
             (address, count, Vec::new())
         }
         UNBREAK if has_lifted(process) && !random.one_in(4) => {
-            let lifted = process.breakpoints.iter().find(|b| b.used() && b.lifted);
-            (lifted.map_or(0, |b| b.address), 0, Vec::new())
+            // mostly the lifted one, at times one beside it
+            let lifted = !random.one_in(6);
+            let found = process.breakpoints.iter().find(|b| b.used() && b.lifted == lifted);
+            (found.map_or(0, |b| b.address), 0, Vec::new())
         }
         UNBREAK if !random.one_in(3) => (used_address(random, process), 0, Vec::new()),
         UNBREAK if random.one_in(3) => (some_edge(random, process), 0, Vec::new()),
@@ -252,6 +272,9 @@ fn some_range(random: &mut Random, process: &Process) -> (u16, u16) {
             return (0, process.size);
         }
         return (random.below(past) as u16, random.below(past) as u16);
+    }
+    if process.size == LARGEST - 2 && random.one_in(8) {
+        return (process.size - 4, 4);
     }
     match random.below(20) {
         0 => return random.pick(&RANGES),
@@ -403,8 +426,8 @@ pub fn spoil_message(random: &mut Random, message: &mut Vec<u8>) {
         3 => message[1] = byte(&[0]),
         4 => message[2] = byte(&[0, 1, 127, 254]),
         5 => message[3] = byte(&[1, 2, 128, 255]),
-        6 => message[4] = byte(&[16, 17, 18, 63, 64, 66, 127, 128, 129, 143, 144, 255]),
-        7 => message[4] = random.below(16) as u8,
+        6 => message[4] = byte(&[17, 18, 19, 63, 64, 66, 127, 128, 129, 144, 145, 255]),
+        7 => message[4] = random.below(17) as u8,
         8 => message[5] = byte(&[0, 1, 7, 8, 255]),
         9 | 10 => {
             let at = if choice == 9 { 6 } else { 8 };

@@ -65,7 +65,8 @@ impl Change<'_> {
     }
 }
 
-/// The model's answer, after which what came of it is changed where it was granted.
+/// The model's answer, after which what came of it is changed where it was granted. The
+/// number of breakpoints is true then, unless the change is one of that number.
 pub fn after(mut made: Made, change: impl Fn(&mut Change)) -> i64 {
     let (Some((cause, p)), Some(old)) = (cause_of(&made), made.records()) else {
         return made.right();
@@ -76,7 +77,11 @@ pub fn after(mut made: Made, change: impl Fn(&mut Change)) -> i64 {
     let (Some(mut records), Some(memory)) = (granted, made.memory()) else { return answer };
     let (old, new) = (&old.processes[p], &mut records.processes[p]);
     let (old_bytes, bytes) = (&old_memory[old.place()], &mut memory[old.place()]);
+    let number = new.set;
     change(&mut Change { cause, old, new, old_bytes, bytes });
+    if new.set == number {
+        new.set = new.breakpoints.iter().filter(|b| b.used()).count() as u8;
+    }
     made.put(&records);
     answer
 }

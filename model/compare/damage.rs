@@ -7,13 +7,14 @@ use crate::layout::close_gaps;
 use crate::random::Random;
 use crate::sizes::{shared, some_size, wrong_size};
 use crate::states::{lay_in_any_order, some_run};
+use crate::status::count_again;
 use model::*;
 
 /// A kind of damage, done to the bytes of a state.
 type Damage = fn(&mut Random, &mut [u8]);
 
 /// Every kind, and how often it is done.
-const DAMAGES: [(usize, Damage); 34] = [
+const DAMAGES: [(usize, Damage); 36] = [
     (4, some_bytes),
     (2, another_begin),
     (1, same_begin),
@@ -48,14 +49,20 @@ const DAMAGES: [(usize, Damage); 34] = [
     (1, another_watcher),
     (2, another_setter),
     (1, many_of_one),
+    (3, another_number),
+    (1, number_with_no_host),
 ];
 
 /// The first so many of these touch the layout, and it is left as they leave it.
 const LAYOUT_DAMAGES: usize = 8;
 
-/// Wrong lengths of a state's bytes. Without the watchers there would be 720, without the
-/// begins 712.
-pub const STATE_LENGTHS: [usize; 9] = [0, 1, 89, 704, 712, 720, 727, 729, 1456];
+/// The last so many touch the numbers of breakpoints; after the others these are mostly made
+/// true again.
+const NUMBER_DAMAGES: usize = 2;
+
+/// Wrong lengths of a state's bytes. Without the numbers there would be 728, without the
+/// begins 720.
+pub const STATE_LENGTHS: [usize; 9] = [0, 1, 90, 712, 720, 728, 735, 737, 1472];
 
 /// Changes a state's bytes by one kind of damage, or their number. Where that opens a gap,
 /// since a size is another or a process is there or not, it is mostly closed again.
@@ -65,6 +72,9 @@ pub fn damage_state(random: &mut Random, state: &mut Vec<u8>) {
     }
     let kind = random.weighted(&DAMAGES.map(|(weight, _)| weight));
     DAMAGES[kind].1(random, state);
+    if kind < DAMAGES.len() - NUMBER_DAMAGES && !random.one_in(8) {
+        count_again(state);
+    }
     if kind >= LAYOUT_DAMAGES && !random.one_in(8) {
         change(state, close_gaps);
     }
@@ -307,6 +317,36 @@ fn one_more_breakpoint(random: &mut Random, state: &mut [u8]) {
     let record = some_debugged(random, state);
     let address = 2 * random.below(usize::from(size_of(state, record)) / 2) as u16;
     put_entry(state, some_entry(random, record), 0, address);
+}
+
+/// Another number of breakpoints than there are, or the true one, which alone is sound: one
+/// more, one less, those of one of both, those that are planted, or any.
+fn another_number(random: &mut Random, state: &mut [u8]) {
+    let at = some_debugged(random, state);
+    if count(&state[at..], |_| true) == 0 {
+        put_entry(state, some_entry(random, at), 0, 0);
+    }
+    let record = &mut state[at..at + RECORD_BYTES];
+    let (host, watcher) = (record[1], record[WATCHER_AT]);
+    let right = count(record, |_| true);
+    let mut told = vec![right, right + 1, right - 1, 0, BREAKPOINTS, right + BREAKPOINTS];
+    told.push(count(record, |entry| entry[0] == 0));
+    told.extend([host, watcher].map(|host| count(record, |entry| entry[1] == host)));
+    let entries = record[ENTRIES_AT..].chunks_exact(ENTRY_BYTES);
+    told.push(entries.filter(|entry| entry.iter().any(|&byte| byte != 0)).count());
+    told.push(random.free_byte().into());
+    record[SET_AT] = random.pick(&told) as u8;
+}
+
+/// A number of breakpoints of a process that nobody debugs, there or not.
+fn number_with_no_host(random: &mut Random, state: &mut [u8]) {
+    let records = (0..PROCESSES).map(|p| RECORD_BYTES * p);
+    let free: Vec<usize> = records.filter(|&record| state[record + 1] == NOBODY).collect();
+    if free.is_empty() {
+        return another_number(random, state);
+    }
+    let any = random.free_byte();
+    state[random.pick(&free) + SET_AT] = random.pick(&[1, 1, 2, 8, 255, any]);
 }
 
 /// What is owed is none that there is.

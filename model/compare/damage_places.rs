@@ -69,7 +69,7 @@ pub fn size_of(state: &[u8], record: usize) -> u16 {
 }
 
 pub fn put_size(state: &mut [u8], record: usize, size: u16) {
-    state[record + SIZE_AT..record + OWED_AT].copy_from_slice(&size.to_le_bytes());
+    state[record + SIZE_AT..record + SET_AT].copy_from_slice(&size.to_le_bytes());
 }
 
 /// Makes an entry a breakpoint that the debugging host set.
@@ -82,6 +82,12 @@ pub fn put_entry(state: &mut [u8], entry: usize, lifted: u8, address: u16) {
 /// Whether an entry is a breakpoint: somebody set it.
 pub fn in_use(entry: &[u8]) -> bool {
     entry[1] != NOBODY
+}
+
+/// How many such breakpoints a record has.
+pub fn count(record: &[u8], test: impl Fn(&[u8]) -> bool) -> usize {
+    let entries = record[ENTRIES_AT..RECORD_BYTES].chunks_exact(ENTRY_BYTES);
+    entries.filter(|entry| in_use(entry) && test(entry)).count()
 }
 
 /// Makes another host debug a process; what the one before set is his then, and so is what

@@ -62,7 +62,7 @@ fn spoil_field(random: &mut Random, fields: &mut [u64; FIELDS]) {
     let i = random.below(FIELDS);
     fields[i] = match random.below(5) {
         0 => 0,
-        1 => random.pick(&[1, 7, 15, 16, 128, 255, 256, 65_535, 65_536]),
+        1 => random.pick(&[1, 7, 16, 17, 128, 255, 256, 65_535, 65_536]),
         2 => random.free(BITS[i]),
         3 => random.beyond(BITS[i], fields[i]),
         _ => random.free(64),
@@ -71,7 +71,7 @@ fn spoil_field(random: &mut Random, fields: &mut [u64; FIELDS]) {
 
 /// The fields that an answer uses, by the paper, and its string's length.
 fn make_answer(random: &mut Random) -> Vec<u8> {
-    let kinds = [0..16, 0..16, 129..144, 64..68].map(Vec::from_iter);
+    let kinds = [0..17, 0..17, 129..145, 64..68].map(Vec::from_iter);
     let cmds = &kinds[random.below(4)];
     let cmd = random.pick(cmds);
     let host = random.free_byte().max(1);
@@ -80,9 +80,10 @@ fn make_answer(random: &mut Random) -> Vec<u8> {
     let arg1 = match cmd & 127 {
         CREATE_PROCESS if random.one_in(4) => wrong_size(random),
         CREATE_PROCESS => size_to_create(random, &NONE_THERE),
-        _ if arg1 => random.free_word(),
+        _ if arg1 || cmd == STATUS + 128 && random.one_in(8) => random.free_word(),
         _ => 0,
     };
+    let arg2 = arg2 || cmd == STATUS + 128 && random.one_in(8);
     let mut arg2 = if arg2 { random.free_word() } else { 0 };
     let string = match cmd {
         64..=67 => VECTOR,
@@ -108,6 +109,7 @@ fn used(cmd: u8) -> [bool; 3] {
         9 => [true, true, false],
         0 => [false, false, false],
         12 => [cmd == 12, true, false],
+        16 => [true, cmd == 16, cmd == 16],
         _ => [true, false, false],
     }
 }

@@ -38,6 +38,7 @@ mod passages_layout;
 mod passages_lines;
 mod passages_owed;
 mod passages_passing;
+mod passages_status;
 mod passages_watches;
 mod passages_watching;
 mod passing;
@@ -50,15 +51,18 @@ mod stack;
 #[cfg(feature = "standin")]
 mod standin;
 mod states;
+mod status;
 mod sweeps;
 mod sweeps_lines;
 mod sweeps_runs;
+mod sweeps_status;
 mod sweeps_watches;
 mod table;
 mod values;
 mod values_layout;
 mod values_lines;
 mod values_passing;
+mod values_status;
 mod values_watches;
 #[cfg(feature = "standin")]
 mod watched;
@@ -79,6 +83,8 @@ mod wrong_layout;
 #[cfg(feature = "standin")]
 mod wrong_lines;
 #[cfg(feature = "standin")]
+mod wrong_numbers;
+#[cfg(feature = "standin")]
 mod wrong_owed;
 #[cfg(feature = "standin")]
 mod wrong_passing;
@@ -86,6 +92,10 @@ mod wrong_passing;
 mod wrong_setters;
 #[cfg(feature = "standin")]
 mod wrong_sizes;
+#[cfg(feature = "standin")]
+mod wrong_status;
+#[cfg(feature = "standin")]
+mod wrong_status_desk;
 #[cfg(feature = "standin")]
 mod wrong_text;
 #[cfg(feature = "standin")]
@@ -98,7 +108,7 @@ use std::process::ExitCode;
 
 /// The stack that include/palustrode.h says a call needs. The model in the library's
 /// place may need any.
-const STACK: usize = if cfg!(feature = "standin") { usize::MAX } else { 1408 };
+const STACK: usize = if cfg!(feature = "standin") { usize::MAX } else { 1536 };
 
 fn main() -> ExitCode {
     let mut arguments = std::env::args().skip(1);

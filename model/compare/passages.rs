@@ -6,6 +6,7 @@ use crate::passages_layout::LAYOUT_PASSAGES;
 use crate::passages_lines::LINE_PASSAGES;
 use crate::passages_owed::OWED_PASSAGES;
 use crate::passages_passing::PASSING_PASSAGES;
+use crate::passages_status::STATUS_PASSAGES;
 use crate::passages_watches::WATCH_PASSAGES;
 use crate::passages_watching::WATCHING_PASSAGES;
 use crate::sides::Call;
@@ -183,7 +184,7 @@ const PASSAGES: &[Passage] = &[
 /// Every passage, in the order in which they are counted.
 fn every() -> impl Iterator<Item = &'static Passage> {
     let lines = LINE_PASSAGES.iter().chain(OWED_PASSAGES);
-    let watches = WATCH_PASSAGES.iter().chain(WATCHING_PASSAGES);
+    let watches = WATCH_PASSAGES.iter().chain(WATCHING_PASSAGES).chain(STATUS_PASSAGES);
     let later = PASSING_PASSAGES.iter().chain(lines).chain(watches);
     PASSAGES.iter().chain(LAYOUT_PASSAGES).chain(later)
 }

@@ -30,8 +30,8 @@ pub fn broken_passing(call: &Call, before: &Side, after: &Side) -> Option<&'stat
 }
 
 /// The requests that store nothing: those that change the run state alone, and lift or
-/// plant for that, and K5's two.
-const RUNS: [u8; 6] = [STOP, RESUME, SINGLE_STEP, PROCEED_BPT, WATCH, END_WATCH];
+/// plant for that, K5's two and K6's one.
+const RUNS: [u8; 7] = [STOP, RESUME, SINGLE_STEP, PROCEED_BPT, WATCH, END_WATCH, STATUS];
 
 /// The letters of lines that store a word.
 fn stores(request: u8) -> bool {

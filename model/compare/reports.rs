@@ -83,9 +83,9 @@ fn by_run_state(random: &mut Random, state: &State) -> (u8, u8) {
     let kind = match random.below(32) {
         0 => HALT,
         1 | 2 => TRAP,
-        3..=5 if reporting.owed != Owed::Nothing => TRAP,
+        3 | 4 if reporting.owed != Owed::Nothing => TRAP,
         3..=18 if reporting.run != Run::Running => TTRAP,
-        3 => TTRAP,
+        3 | 5 => TTRAP,
         _ => BPT,
     };
     (process, kind)

@@ -6,6 +6,7 @@ use crate::layout::{accepted_fault, broken_layout};
 use crate::library::*;
 use crate::passing::broken_passing;
 use crate::stack::on_painted;
+use crate::status::{broken_numbers, broken_status};
 use crate::watching::broken_watch;
 use model::*;
 use std::borrow::Cow;
@@ -305,13 +306,15 @@ fn broken_rule(call: &Call, answer: i64, before: &Side, after: &Side) -> Option<
     if accepted_fault(call, answer, before) {
         return Some("both: a layout that is not sound is accepted");
     }
-    let wrong_line = broken_line(call, answer, before, after);
-    if refused || wrong_line.is_some() {
-        return wrong_line;
+    let wrong = broken_line(call, answer, before, after)
+        .or_else(|| broken_status(call, answer, before, after));
+    if refused || wrong.is_some() {
+        return wrong;
     }
     broken_layout(call, before, after)
         .or_else(|| broken_passing(call, before, after))
         .or_else(|| broken_watch(call, answer, before, after))
+        .or_else(|| broken_numbers(call, after))
 }
 
 /// Whether bytes are those of a sound state.

@@ -47,6 +47,7 @@ fn some_sound_process(random: &mut Random, cleared: Process) -> Process {
     for e in 0..BREAKPOINTS {
         add_breakpoint(random, &mut process, e, most);
     }
+    process.set = process.breakpoints.iter().filter(|b| b.used()).count() as u8;
     let e = random.below(BREAKPOINTS);
     process.breakpoints[e].lifted = process.breakpoints[e].used() && process.run.allows_lifted();
     process

@@ -77,6 +77,7 @@ impl Sweep<'_> {
         sweep.runs()?;
         sweep.lines()?;
         sweep.watches()?;
+        sweep.statuses()?;
         sweep.lengths()?;
         sweep.starts()?;
         sweep.writes()?;
@@ -113,7 +114,7 @@ impl Sweep<'_> {
 
     /// Each byte of the header, and each address and count.
     fn requests(&mut self) -> Result<(), String> {
-        for cmd in [NOP, DEBUG, EXAMINE, BREAK, CREATE_PROCESS, WATCH, END_WATCH] {
+        for cmd in [NOP, DEBUG, EXAMINE, BREAK, CREATE_PROCESS, WATCH, END_WATCH, STATUS] {
             for at in 0..HEAD {
                 for byte in 0..=255 {
                     let pid = if matches!(cmd, NOP | CREATE_PROCESS) { 0 } else { P };
@@ -292,7 +293,7 @@ impl Sweep<'_> {
 
     /// Each value of each field of each op code, and each bit above it.
     fn writes(&mut self) -> Result<(), String> {
-        for cmd in 0..=16 {
+        for cmd in 0..=17 {
             let right = match cmd {
                 4 | 6 | 7 | 8 => [5, cmd, 2, 3, 0],
                 9 => [5, cmd, 2, 3, 0],
@@ -337,7 +338,8 @@ impl Sweep<'_> {
                 }
             }
         }
-        for (cmd, string) in [(NOP, 0), (EXAMINE, 4), (64, VECTOR), (134, 0)] {
+        for (cmd, string) in [(NOP, 0), (EXAMINE, 4), (64, VECTOR), (134, 0), (STATUS, 0), (144, 0)]
+        {
             for at in 0..HEAD {
                 for byte in 0..=255 {
                     let arg2 = if cmd == EXAMINE { 4 } else { 0 };
@@ -352,6 +354,10 @@ impl Sweep<'_> {
             self.make(&Call::Read { message: message(5, 134, 2, 2, n, 0) })?;
             self.make(&Call::Read { message: message(5, CREATE_PROCESS, 2, n, 0, 0) })?;
             self.make(&Call::Read { message: message(5, 140, 0, n, 0, 0) })?;
+            for cmd in [STATUS, 144] {
+                self.make(&Call::Read { message: message(5, cmd, 2, n, 0, 0) })?;
+                self.make(&Call::Read { message: message(5, cmd, 2, 0, n, 0) })?;
+            }
         }
         for length in 0..600 {
             self.make(&Call::Read { message: message(5, EXAMINE, 2, 0, length as u16, length) })?;

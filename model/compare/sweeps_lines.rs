@@ -163,7 +163,8 @@ impl Sweep<'_> {
     fn on_owed(&mut self, setting: [u8; 4]) -> Result<(), String> {
         let lines = LETTERS.iter().map(|&request| line(request, right(request), 0));
         let here = [line(b'c', 1, 0), line(b's', 1, 0), line(b'c', AT.into(), 0)];
-        let cmds = [DEBUG, END_DEBUG, STOP, RESUME, SINGLE_STEP, PROCEED_BPT, DESTROY_PROCESS];
+        let cmds =
+            [DEBUG, END_DEBUG, STOP, RESUME, SINGLE_STEP, PROCEED_BPT, DESTROY_PROCESS, STATUS];
         let asked = cmds.map(|cmd| to(BENCH, cmd, 0));
         let reports = [AT, AT + 2].map(|pc| [TRAP, HALT, BPT, TTRAP].map(|kind| told(kind, pc)));
         let calls = lines.chain(here).chain(asked).chain(reports.into_iter().flatten());

@@ -78,7 +78,9 @@ impl Sweep<'_> {
     /// Each request, and each report from several places, after which one more comes.
     fn in_run_state(&mut self, setting: Setting) -> Result<(), String> {
         let ttrap = || told(TTRAP, AT + 4);
-        for cmd in [DEBUG, END_DEBUG, STOP, RESUME, SINGLE_STEP, PROCEED_BPT, DESTROY_PROCESS] {
+        let plain =
+            [DEBUG, END_DEBUG, STOP, RESUME, SINGLE_STEP, PROCEED_BPT, DESTROY_PROCESS, STATUS];
+        for cmd in plain {
             self.beside(setting, &[to(cmd, 0, 0, 0), ttrap()])?;
         }
         for (cmd, first, count) in [(EXAMINE, AT - 1, 4), (BREAK, AT, 3), (BREAK, 300, 0)] {

@@ -3,26 +3,27 @@
 
 use crate::lines::printed;
 use crate::sides::Call;
+use crate::status::count_again;
 use crate::sweeps::{message, report_at, Sweep, OWNER, P};
 use model::*;
 
 /// The one who watches process 2, and a third.
-const WATCHER: u8 = 78;
-const THIRD: u8 = 79;
+pub const WATCHER: u8 = 78;
+pub const THIRD: u8 = 79;
 /// The breakpoint of the debugging host, in the first entry, and where the watcher's are.
-const AT: u16 = 256;
-const HIS: u16 = 512;
+pub const AT: u16 = 256;
+pub const HIS: u16 = 512;
 
-fn by(host: u8, cmd: u8, arg1: u16, arg2: u16) -> Call {
+pub fn by(host: u8, cmd: u8, arg1: u16, arg2: u16) -> Call {
     let string = if matches!(cmd, DEPOSIT | DEPOSIT_STATE_VECTOR) { arg2.into() } else { 0 };
     Call::Request { message: message(host, cmd, P, arg1, arg2, string) }
 }
 
-fn told(kind: u8, pc: u16) -> Call {
+pub fn told(kind: u8, pc: u16) -> Call {
     report_at(P.into(), kind.into(), 0, pc)
 }
 
-fn line(request: u8, addr: u32) -> Call {
+pub fn line(request: u8, addr: u32) -> Call {
     Call::Line { text: printed(P.into(), request, addr, 0) }
 }
 
@@ -77,8 +78,13 @@ impl Sweep<'_> {
         Ok(())
     }
 
+    /// Makes the numbers of breakpoints true, after bytes are put.
+    pub fn count_again(&mut self) {
+        self.pair.change(|side| count_again(side.state.change()));
+    }
+
     /// Puts a byte into the record of process 2.
-    fn put_byte(&mut self, at: usize, byte: u8) {
+    pub fn put_byte(&mut self, at: usize, byte: u8) {
         let at = RECORD_BYTES * usize::from(P) + at;
         self.pair.change(|side| side.state.change()[at] = byte);
     }
@@ -100,6 +106,7 @@ impl Sweep<'_> {
                     line(b'i', AT.into()),
                 ] {
                     self.put_byte(place, byte);
+                    self.count_again();
                     self.apart(call)?;
                 }
             }
@@ -113,6 +120,7 @@ impl Sweep<'_> {
             for at in [0, 7].map(|p| RECORD_BYTES * p) {
                 for place in [WATCHER_AT, ENTRIES_AT, ENTRIES_AT + 1] {
                     self.pair.change(|side| side.state.change()[at + place] = byte);
+                    self.count_again();
                     self.apart(by(OWNER, EXAMINE, AT, 2))?;
                 }
             }
@@ -123,7 +131,7 @@ impl Sweep<'_> {
     /// Each op code of each host.
     fn each_asker(&mut self) -> Result<(), String> {
         for host in 0..=255 {
-            for cmd in 0..=END_WATCH {
+            for cmd in 0..=STATUS {
                 for (arg1, arg2) in [(0, 0), (AT, 0), (HIS, 0), (AT, 2), (HIS, 2)] {
                     let mut message = message(host, cmd, P, arg1, arg2, 0);
                     if matches!(cmd, DEPOSIT | DEPOSIT_STATE_VECTOR) {
@@ -217,6 +225,7 @@ fn both_ask() -> Vec<Call> {
         DESTROY_PROCESS,
         WATCH,
         END_WATCH,
+        STATUS,
     ];
     let mut calls = Vec::new();
     for host in [OWNER, WATCHER, THIRD] {

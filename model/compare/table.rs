@@ -24,11 +24,11 @@ const fn refused_row(name: &'static str, refusals: &'static [usize]) -> Row {
     Row { name, granted: false, silent: false, refusals }
 }
 
-const ROW_COUNT: usize = 22;
-const NO_OP: usize = 16;
-const REPORTS: usize = 17;
+const ROW_COUNT: usize = 23;
+const NO_OP: usize = 17;
+const REPORTS: usize = 18;
 
-/// A request's row is its CMD, right or wrong otherwise; a CMD over 15, and a
+/// A request's row is its CMD, right or wrong otherwise; a CMD over 16, and a
 /// message that has none, is in the row `no op`. Tests 1 and 2 can fail in every
 /// call, 3, 4 and 6 in every request that has a CMD. All that name a process can
 /// fail 7 and 8; only 5, 10 and 11 ask for a run state (9); 4, 6, 7 and 8 have
@@ -53,6 +53,7 @@ const ROWS: [Row; ROW_COUNT] = [
     request_row("13 DESTROY", &[1, 2, 3, 4, 6, 7, 8]),
     request_row("14 WATCH", &[1, 2, 3, 4, 6, 7, 8, 15]),
     request_row("15 END WATCH", &[1, 2, 3, 4, 6, 7, 8]),
+    request_row("16 STATUS", &[1, 2, 3, 4, 6, 7, 8]),
     refused_row("no op", &[1, 2, 3, 4, 5]),
     report_row("TRAP", &[1, 2, 7, 9, 14]),
     report_row("HALT", &[1, 2, 7, 9, 14]),
@@ -66,7 +67,7 @@ fn row_of(call: &Call) -> Option<usize> {
     match call {
         Call::Report { kind, .. } => Some(REPORTS + (*kind).min(4) as usize),
         Call::Request { message } => match message.get(4) {
-            Some(&cmd) if cmd <= END_WATCH => Some(usize::from(cmd)),
+            Some(&cmd) if cmd <= STATUS => Some(usize::from(cmd)),
             _ => Some(NO_OP),
         },
         _ => None,
@@ -172,9 +173,9 @@ pub struct DeskTable {
 }
 
 /// "The desk reader accepts CMD 0 to 13, 129 to 141 and 64 to 67"; K5: "The desk end learns
-/// this op"
+/// this op and every later one."
 fn accepted(cmd: usize) -> bool {
-    matches!(cmd, 0..=15 | 64..=67 | 129..=143)
+    matches!(cmd, 0..=16 | 64..=67 | 129..=144)
 }
 
 /// A CMD that is not accepted stands for all of them.

@@ -9,6 +9,7 @@ use crate::sizes::SIZES;
 use crate::values_layout::LAYOUT_VALUES;
 use crate::values_lines::LINE_VALUES;
 use crate::values_passing::PASSING_VALUES;
+use crate::values_status::STATUS_VALUES;
 use crate::values_watches::WATCH_VALUES;
 use model::*;
 
@@ -34,7 +35,7 @@ const VALUES: &[Value] = &[
     value(WRONG_HEAD, "request, TYPE alone wrong", |c, _| head(c, 0)),
     value(WRONG_HEAD, "request, LINK alone wrong", |c, _| head(c, 2)),
     value(WRONG_HEAD, "request, STYPE alone wrong", |c, _| head(c, 3)),
-    value(UNKNOWN_CMD, "request, CMD 16 to 63", |c, _| request(c, |m| (16..64).contains(&m[4]))),
+    value(UNKNOWN_CMD, "request, CMD 17 to 63", |c, _| request(c, |m| (17..64).contains(&m[4]))),
     value(UNKNOWN_CMD, "request, CMD 64 to 127", |c, _| request(c, |m| (64..128).contains(&m[4]))),
     value(UNKNOWN_CMD, "request, CMD 128 to 255", |c, _| request(c, |m| m[4] > 127)),
     value(ABSENT, "request, PID over 15", |c, _| request(c, |m| m[5] > 15)),
@@ -161,7 +162,7 @@ const VALUES: &[Value] = &[
     // the desk's end
     value(WRONG_HEAD, "write, HOST over 255", |c, _| wide(c, 0)),
     value(UNKNOWN_CMD, "write, CMD over 255, as a byte an op code", |c, _| {
-        wide(c, 1) && matches!(c, Call::Write { fields, .. } if fields[1] % 256 < 16)
+        wide(c, 1) && matches!(c, Call::Write { fields, .. } if fields[1] % 256 < 17)
     }),
     value(WRONG_FIELDS, "write, PID alone too wide", |c, _| wide(c, 2)),
     value(WRONG_FIELDS, "write, ARG1 alone too wide", |c, _| wide(c, 3)),
@@ -286,7 +287,7 @@ fn wide(call: &Call, field: usize) -> bool {
 
 /// Every value, in the order in which they are counted.
 fn every() -> impl Iterator<Item = &'static Value> {
-    let later = PASSING_VALUES.iter().chain(LINE_VALUES).chain(WATCH_VALUES);
+    let later = PASSING_VALUES.iter().chain(LINE_VALUES).chain(WATCH_VALUES).chain(STATUS_VALUES);
     VALUES.iter().chain(LAYOUT_VALUES).chain(later)
 }
 

@@ -66,7 +66,7 @@ pub fn asked(made: &mut Made) -> Option<Asked> {
 }
 
 /// The model's answer to a request; nothing is written.
-fn tried(made: &Made) -> i64 {
+pub fn tried(made: &Made) -> i64 {
     let Made::Request { state, memory, message, reply } = made else { return 0 };
     request_bytes(&mut state.to_vec(), &mut memory.to_vec(), message, &mut reply.to_vec())
 }
@@ -128,5 +128,6 @@ pub fn ended(process: &mut Process, bytes: &mut [u8], host: u8) {
             bytes[usize::from(b.address)..][..2].copy_from_slice(&b.saved);
         }
         *b = NONE_THERE.processes[0].breakpoints[0];
+        process.set -= 1;
     }
 }

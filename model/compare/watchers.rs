@@ -28,7 +28,7 @@ pub fn asker(random: &mut Random, process: &Process, cmd: u8, mood: &Mood) -> u8
     if mood.bench && process.host == NOBODY && !random.one_in(4) {
         return TEXT_HOST;
     }
-    let shares = matches!(cmd, EXAMINE | BREAK | UNBREAK);
+    let shares = matches!(cmd, EXAMINE | BREAK | UNBREAK | STATUS);
     match cmd {
         WATCH => some_watcher(random, process, mood),
         END_WATCH if process.watcher != NOBODY && !random.one_in(4) => process.watcher,

@@ -9,10 +9,13 @@ use crate::wrong_end_watch::WRONG_END_WATCH;
 use crate::wrong_going::WRONG_GOING;
 use crate::wrong_layout::WRONG_LAYOUT;
 use crate::wrong_lines::WRONG_LINES;
+use crate::wrong_numbers::WRONG_NUMBERS;
 use crate::wrong_owed::WRONG_OWED;
 use crate::wrong_passing::WRONG_PASSING;
 use crate::wrong_setters::WRONG_SETTERS;
 use crate::wrong_sizes::WRONG_SIZES;
+use crate::wrong_status::WRONG_STATUS;
+use crate::wrong_status_desk::WRONG_STATUS_DESK;
 use crate::wrong_text::WRONG_TEXT;
 use crate::wrong_told::WRONG_TOLD;
 use crate::wrong_watches::WRONG_WATCHES;
@@ -52,7 +55,9 @@ fn every() -> impl Iterator<Item = &'static Wrong> {
     let layout = WRONG_LAYOUT.iter().chain(WRONG_CREATE);
     let watches =
         WRONG_WATCHES.iter().chain(WRONG_END_WATCH).chain(WRONG_SETTERS).chain(WRONG_TOLD);
-    WRONG.iter().chain(WRONG_SIZES).chain(layout).chain(WRONG_PASSING).chain(lines).chain(watches)
+    let status = WRONG_NUMBERS.iter().chain(WRONG_STATUS).chain(WRONG_STATUS_DESK);
+    let later = lines.chain(watches).chain(status);
+    WRONG.iter().chain(WRONG_SIZES).chain(layout).chain(WRONG_PASSING).chain(later)
 }
 
 /// Each is the model's answer, but for one error.

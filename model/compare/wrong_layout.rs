@@ -19,9 +19,9 @@ pub const WRONG_LAYOUT: &[Wrong] = &[
         },
     },
     Wrong {
-        name: "a fresh start into 712 bytes is accepted",
+        name: "a fresh start into 720 bytes is accepted",
         answer: |mut made| match &made {
-            Made::Start { sizes: &[_, _, _, _, _, _, _, _], state, .. } if state.len() == 712 => 0,
+            Made::Start { sizes: &[_, _, _, _, _, _, _, _], state, .. } if state.len() == 720 => 0,
             _ => made.right(),
         },
     },

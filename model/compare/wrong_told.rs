@@ -202,7 +202,8 @@ pub const WRONG_TOLD: &[Wrong] = &[
         name: "a free entry that says it is lifted counts beside a lifted one",
         answer: |made| {
             unsound(made, |p| {
-                p.host != NOBODY && p.breakpoints.iter().filter(|b| b.lifted).count() > 1
+                let some = |used| p.breakpoints.iter().any(|b| b.lifted && b.used() == used);
+                some(true) && some(false)
             })
         },
     },
@@ -252,9 +253,9 @@ pub const WRONG_TOLD: &[Wrong] = &[
     Wrong { name: "the desk does not read CAN'T WATCH", answer: |made| unread(made, 142) },
     Wrong { name: "the desk does not read CAN'T END WATCH", answer: |made| unread(made, 143) },
     Wrong {
-        name: "the desk reads CMD 144",
+        name: "the desk reads CMD 145",
         answer: |mut made| match made {
-            Made::Read { message, fields } if message.get(4) == Some(&144) => {
+            Made::Read { message, fields } if message.get(4) == Some(&145) => {
                 let mut message = message.to_vec();
                 message[4] = 143;
                 read_answer(&message, fields)
@@ -302,7 +303,7 @@ fn setter_for(meant: u8, kind: u8, to: u8, process: &Process) -> u8 {
 
 /// The model's answer on records that are repaired first where they are not sound; of a
 /// refusal they are put back.
-fn repaired(mut made: Made, repair: impl Fn(&mut Process)) -> i64 {
+pub fn repaired(mut made: Made, repair: impl Fn(&mut Process)) -> i64 {
     let Some(old) = made.records().filter(|state| !sound(state)) else { return made.right() };
     let mut records = old.clone();
     records.processes.iter_mut().for_each(repair);
@@ -350,7 +351,7 @@ fn on_entries(mut made: Made, change: impl Fn(&mut [u8])) -> i64 {
 }
 
 /// The desk refuses to write this op code.
-fn unwritten(mut made: Made, cmd: u8) -> i64 {
+pub fn unwritten(mut made: Made, cmd: u8) -> i64 {
     match &made {
         Made::Write { fields, request, .. } if fields[1] == u64::from(cmd) => {
             let known = request.len() >= LONGEST && (1..256).contains(&fields[0]);
@@ -365,7 +366,7 @@ fn unwritten(mut made: Made, cmd: u8) -> i64 {
 }
 
 /// The desk refuses to read this one.
-fn unread(mut made: Made, cmd: u8) -> i64 {
+pub fn unread(mut made: Made, cmd: u8) -> i64 {
     let meant = matches!(&made, Made::Read { message, .. } if message.get(4) == Some(&cmd));
     let before = match &made {
         Made::Read { fields, .. } => fields.to_vec(),

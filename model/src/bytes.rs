@@ -2,15 +2,17 @@
 
 use super::*;
 
-/// Bytes of a process record: there, host, run state, size, what is owed, watcher, nine
-/// words, 8 entries.
+/// Bytes of a process record: there, host, run state, size, number of breakpoints, what is
+/// owed, watcher, nine words, 8 entries.
 pub const RECORD_BYTES: usize = ENTRIES_AT + BREAKPOINTS * ENTRY_BYTES;
 /// Bytes of a breakpoint entry: whether it is lifted, who set it, address, count, saved word.
 pub const ENTRY_BYTES: usize = 8;
 /// Where the size, low byte first, stands in a record.
 pub const SIZE_AT: usize = 3;
+/// Where a record says how many breakpoints it has.
+pub const SET_AT: usize = SIZE_AT + 2;
 /// Where a record says what is owed.
-pub const OWED_AT: usize = SIZE_AT + 2;
+pub const OWED_AT: usize = SET_AT + 1;
 /// Where a record says who watches.
 pub const WATCHER_AT: usize = OWED_AT + 1;
 /// Where the nine words begin in a record.
@@ -56,7 +58,7 @@ fn owed_from(byte: u8) -> Option<Owed> {
     Owed::ALL.get(usize::from(byte)).copied()
 }
 
-/// The state of 728 bytes; nothing where the length, a flag, a run state or what is owed
+/// The state of 736 bytes; nothing where the length, a flag, a run state or what is owed
 /// is none that `encode` gives.
 pub fn decode(bytes: &[u8]) -> Option<State> {
     if bytes.len() != STATE_BYTES {
@@ -72,6 +74,7 @@ pub fn decode(bytes: &[u8]) -> Option<State> {
         process.host = record[1];
         process.run = run_from(record[2])?;
         process.size = u16::from_le_bytes([record[SIZE_AT], record[SIZE_AT + 1]]);
+        process.set = record[SET_AT];
         process.owed = owed_from(record[OWED_AT])?;
         process.watcher = record[WATCHER_AT];
         process.vector = vector_from(&record[VECTOR_AT..ENTRIES_AT]);
@@ -89,7 +92,7 @@ pub fn decode(bytes: &[u8]) -> Option<State> {
     Some(state)
 }
 
-/// The 728 bytes of a state.
+/// The 736 bytes of a state.
 pub fn encode(state: &State) -> [u8; STATE_BYTES] {
     let mut bytes = [0; STATE_BYTES];
     let (records, begins) = bytes.split_at_mut(BEGINS_AT);
@@ -100,7 +103,8 @@ pub fn encode(state: &State) -> [u8; STATE_BYTES] {
         record[0] = u8::from(process.there);
         record[1] = process.host;
         record[2] = process.run as u8;
-        record[SIZE_AT..OWED_AT].copy_from_slice(&process.size.to_le_bytes());
+        record[SIZE_AT..SET_AT].copy_from_slice(&process.size.to_le_bytes());
+        record[SET_AT] = process.set;
         record[OWED_AT] = process.owed as u8;
         record[WATCHER_AT] = process.watcher;
         record[VECTOR_AT..ENTRIES_AT].copy_from_slice(&vector_bytes(&process.vector));
@@ -183,7 +187,7 @@ fn write_back(records: &State, answer: i64, state: &mut [u8]) {
     }
 }
 
-/// `fresh_start` into 728 bytes: 0, or minus 1 where the buffer has not 728 or the
+/// `fresh_start` into 736 bytes: 0, or minus 1 where the buffer has not 736 or the
 /// sizes are not eight, or minus 2 where a process then there has a bad size or they
 /// are more than the memory, or minus 7 where a bit above the eighth is set: "number over 7". "The
 /// lowest-numbered test that fails gives the answer"

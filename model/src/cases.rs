@@ -8,6 +8,7 @@ mod lines;
 mod owed;
 mod passing;
 mod sizes;
+mod status;
 mod watching;
 
 use super::*;
@@ -296,8 +297,8 @@ fn the_order_of_a_requests_tests() {
     assert_eq!(request(&mut unsound.clone(), memory, &[], output), -2);
     assert_eq!(g.send(&[0; 9]), -3);
     assert_eq!(g.send(&[0; 267]), -3);
-    assert_eq!(g.send(&[0, 0, 255, 0, 16, 2, 0, 0, 0, 0]), -4);
-    assert_eq!(g.send(&[0, 5, 255, 0, 16, 2, 0, 0, 0, 0, 0]), -5);
+    assert_eq!(g.send(&[0, 0, 255, 0, 17, 2, 0, 0, 0, 0]), -4);
+    assert_eq!(g.send(&[0, 5, 255, 0, 17, 2, 0, 0, 0, 0, 0]), -5);
     assert_eq!(g.send(&[0, 5, 255, 0, 1, 9, 0, 0, 0, 1]), -6);
     assert_eq!(g.send(&[0, 5, 255, 0, 4, 9, 0, 0, 0, 1]), -6);
     g.written(0);
@@ -311,12 +312,14 @@ fn sound_states() {
     assert!(sound(&state));
     let entry = Breakpoint { setter: 9, address: 4094, ..FREE };
     state.processes[0].breakpoints[3] = entry;
+    count_again(&mut state.processes[0]);
     assert!(!sound(&state), "a process with no host has none");
     state.processes[0].host = 9;
     assert!(sound(&state));
     let changed = |change: fn(&mut Process)| {
         let mut state = state.clone();
         change(&mut state.processes[0]);
+        count_again(&mut state.processes[0]);
         sound(&state)
     };
     assert!(!changed(|p| p.there = false));
@@ -339,7 +342,7 @@ fn sound_states() {
 #[test]
 fn the_byte_form() {
     let mut bytes = [9; STATE_BYTES];
-    assert_eq!((STATE_BYTES, RECORD_BYTES, BEGINS_AT), (728, 89, 712));
+    assert_eq!((STATE_BYTES, RECORD_BYTES, BEGINS_AT), (736, 90, 720));
     assert_eq!(fresh_start_bytes(0b100, &[FEED; PROCESSES], &mut bytes), 0);
     assert_eq!(bytes[BEGINS_AT..], [0; 16]);
     for (p, record) in bytes[..BEGINS_AT].chunks_exact(RECORD_BYTES).enumerate() {
@@ -354,18 +357,18 @@ fn the_byte_form() {
     for m in [message(5, DEBUG, 2, 0, 0, &[]), message(5, BREAK, 2, 256, 515, &[])] {
         assert_eq!(request_bytes(&mut bytes, &mut memory, &m, &mut output), 10);
     }
-    assert_eq!(bytes[178..185], [1, 5, 0, 0, 6, 0, 0]);
-    assert_eq!(bytes[203..211], [0, 5, 0, 1, 3, 2, 18, 52]);
+    assert_eq!(bytes[180..188], [1, 5, 0, 0, 6, 1, 0, 0]);
+    assert_eq!(bytes[206..214], [0, 5, 0, 1, 3, 2, 18, 52]);
     let words = vector_bytes(&words_with(256));
     let (b, m, o, l) = (&mut bytes, &mut memory, &mut output, &mut line);
     assert_eq!(report_bytes(b, m, 2, BPT.into(), 0, &words[1..], o, l), -1);
     assert_eq!(report_bytes(b, m, 2, BPT.into(), 0, &words, o, &mut l[1..]), -1);
     assert_eq!(report_bytes(b, m, 2, BPT.into(), 0, &words, o, l), 0);
-    assert_eq!(b[178..185], [1, 5, 5, 0, 6, 0, 0]);
-    assert_eq!(b[185..203], words);
-    assert_eq!(b[203..211], [1, 5, 0, 1, 2, 2, 18, 52]);
+    assert_eq!(b[180..188], [1, 5, 5, 0, 6, 1, 0, 0]);
+    assert_eq!(b[188..206], words);
+    assert_eq!(b[206..214], [1, 5, 0, 1, 2, 2, 18, 52]);
     assert_eq!(encode(&decode(b).unwrap()), *b);
-    for (at, byte) in [(0, 2), (178, 255), (2, 6), (183, 3), (203, 2), (211, 255), (704, 2)] {
+    for (at, byte) in [(0, 2), (180, 255), (2, 6), (186, 3), (206, 2), (214, 255), (712, 2)] {
         let mut damaged = *b;
         damaged[at] = byte;
         assert_eq!(decode(&damaged), None);

@@ -65,7 +65,8 @@ enum Carries {
 
 /// "a field not zero that the reply or notice does not use (PID is used in
 /// CREATED, ARG1 in TRAP)". ARG1 of CREATED and of CAN'T CREATE is the size asked: "the
-/// request's CMD, PID, ARG1, ARG2".
+/// request's CMD, PID, ARG1, ARG2". K6: STATUS "answers it in ARG1, the run state in ARG2";
+/// "A CAN'T has zeros". "Neither tests ranges."
 struct Answer {
     pid: bool,
     arg1: bool,
@@ -84,8 +85,9 @@ fn answer(cmd: u8) -> Option<Answer> {
     match cmd {
         EXAMINE => of_request(cmd, false, Carries::Contents),
         CREATE_PROCESS => of_request(cmd, true, Carries::Nothing),
+        STATUS => Some(Answer { pid: true, arg1: true, arg2: true, carries: Carries::Nothing }),
         NOP..=END_WATCH => of_request(cmd, false, Carries::Nothing),
-        129..=143 => of_request(cmd - CANT, false, Carries::Nothing),
+        129..=144 => of_request(cmd - CANT, false, Carries::Nothing),
         64..=67 => {
             Some(Answer { pid: true, arg1: cmd == 64, arg2: false, carries: Carries::Vector })
         }

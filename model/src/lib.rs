@@ -70,7 +70,7 @@ const WORD: u16 = 2;
 
 // ---------------------------------------------------------------- op codes
 
-// "The table of fourteen op codes (decimal)", and K5's two
+// "The table of fourteen op codes (decimal)", K5's two and K6's one
 pub const NOP: u8 = 0;
 pub const DEBUG: u8 = 1;
 pub const END_DEBUG: u8 = 2;
@@ -87,6 +87,7 @@ pub const CREATE_PROCESS: u8 = 12;
 pub const DESTROY_PROCESS: u8 = 13;
 pub const WATCH: u8 = 14;
 pub const END_WATCH: u8 = 15;
+pub const STATUS: u8 = 16;
 
 /// The fields that an op code uses, and whether it carries a string.
 struct Uses {
@@ -103,8 +104,8 @@ const fn uses(pid: bool, arg1: bool, arg2: bool, string: bool) -> Uses {
 /// "Used fields: all but 0 and 12 use PID, and only those name a process;
 /// 4, 6, 7, 8 use ARG1 and ARG2; 9 uses ARG1." "Only 4 and 7 carry a string"
 /// K9: "CREATE takes an even size in ARG1". K5: "Op 14 WATCH (process)"; "op 15 END WATCH
-/// (process)"
-const USES: [Uses; 16] = [
+/// (process)". K6: "op 16 STATUS (process)"
+const USES: [Uses; 17] = [
     uses(false, false, false, false), // 0 NOP
     uses(true, false, false, false),  // 1 DEBUG
     uses(true, false, false, false),  // 2 END DEBUG
@@ -121,6 +122,7 @@ const USES: [Uses; 16] = [
     uses(true, false, false, false),  // 13 DESTROY PROCESS
     uses(true, false, false, false),  // 14 WATCH
     uses(true, false, false, false),  // 15 END WATCH
+    uses(true, false, false, false),  // 16 STATUS
 ];
 
 /// "CAN'T adds 128 to CMD."
@@ -144,7 +146,7 @@ pub type Refusal = i64;
 pub const WRONG_BUFFER: Refusal = 1;
 /// 2: "state not sound"; K2: "2 covers a bad size (at fresh start too, of a
 /// process then there) or a breakpoint past it"; K9: "2 also more than that at fresh
-/// start", the 16,384 bytes
+/// start", the 16,384 bytes; K6: "2 covers a wrong stored number"
 pub const NOT_SOUND: Refusal = 2;
 /// 3: "message under 10 or over 266 bytes"
 pub const WRONG_LENGTH: Refusal = 3;
@@ -196,7 +198,8 @@ pub struct Breakpoint {
 /// "A process record holds: there or not; host debugging it; run state [..];
 /// vector; up to 8 breakpoints". K2: "Each process gets a size". K9: "Starts and sizes
 /// are public": where it begins in memory is kept too. K7: "an owed answer". K5: "the one
-/// watcher of a process", if it has one.
+/// watcher of a process", if it has one. K6: "Each process record keeps its number of
+/// breakpoints".
 #[derive(Clone, Copy, PartialEq, Eq, Debug)]
 pub struct Process {
     pub there: bool,
@@ -204,6 +207,8 @@ pub struct Process {
     pub run: Run,
     pub size: u16,
     pub begin: u16,
+    /// How many breakpoints it has, planted or lifted, of both hosts.
+    pub set: u8,
     pub owed: Owed,
     pub watcher: u8,
     pub vector: [u16; WORDS],
@@ -228,6 +233,7 @@ const CLEARED: Process = Process {
     run: Run::Running,
     size: LARGEST,
     begin: 0,
+    set: 0,
     owed: Owed::Nothing,
     watcher: NOBODY,
     vector: [0; WORDS],
@@ -273,6 +279,11 @@ impl Process {
     fn sound(&self) -> bool {
         // K2: "2 covers a bad size", there or not: "Each process gets a size"
         if !right_size(self.size) {
+            return false;
+        }
+        // K6: "2 covers a wrong stored number", there or not: "Each process record keeps"
+        // one
+        if usize::from(self.set) != self.breakpoints.iter().filter(|b| b.used()).count() {
             return false;
         }
         // K7: "none is owed unless host 253 debugs it"

@@ -12,10 +12,19 @@ pub(super) struct Asked<'a> {
     pub string: &'a [u8],
 }
 
-/// What a granted request's reply carries besides the request's own fields.
+/// What a granted request's reply carries besides the request's HOST and CMD.
 struct Done {
     pid: u8,
+    arg1: u16,
+    arg2: u16,
     string: usize,
+}
+
+impl Done {
+    /// "Reply: the request's CMD, PID, ARG1, ARG2, with the asker in HOST."
+    fn reply(asked: &Asked) -> Done {
+        Done { pid: asked.pid, arg1: asked.arg1, arg2: asked.arg2, string: 0 }
+    }
 }
 
 /// A request: the granted length, or minus the refusal's number. "The
@@ -32,12 +41,12 @@ pub fn request(state: &mut State, memory: &mut [u8], message: &[u8], reply: &mut
         Err(number) => return -number,
     };
     let (head, string) = reply.split_at_mut(HEAD);
-    // "Reply: the request's CMD, PID, ARG1, ARG2, with the asker in HOST."
     match obey(state, memory, &asked, string) {
         Ok(done) => {
-            write_head(head, asked.host, asked.cmd, done.pid, asked.arg1, asked.arg2);
+            write_head(head, asked.host, asked.cmd, done.pid, done.arg1, done.arg2);
             (HEAD + done.string) as i64
         }
+        // "CAN'T adds 128 to CMD." K6: "A CAN'T has zeros", as the request has then
         Err(number) => {
             write_head(head, asked.host, asked.cmd + CANT, asked.pid, asked.arg1, asked.arg2);
             -number
@@ -94,12 +103,13 @@ fn obey(
 ) -> Result<Done, Refusal> {
     match asked.cmd {
         // RFC 643: "It has no effect on any process"
-        NOP => Ok(Done { pid: 0, string: 0 }),
+        NOP => Ok(Done::reply(asked)),
         CREATE_PROCESS => {
             // test 6 has passed its size
             let size = asked_size(asked.arg1).ok_or(WRONG_FIELDS)?;
             // "CREATED carries the new number in PID."
-            Ok(Done { pid: create(state, memory, asked.host, size)?, string: 0 })
+            let pid = create(state, memory, asked.host, size)?;
+            Ok(Done { pid, ..Done::reply(asked) })
         }
         _ => {
             let process = named(state, asked.pid)?;
@@ -108,10 +118,16 @@ fn obey(
             run_state_fits(process, asked.cmd)?;
             if asked.cmd == DESTROY_PROCESS {
                 destroy(state, memory, usize::from(asked.pid));
-                return Ok(Done { pid: asked.pid, string: 0 });
+                return Ok(Done::reply(asked));
+            }
+            // K6: "answers it in ARG1", the number of breakpoints, "the run state in ARG2 (0
+            // to 4 in document 01's listed order, 5 passing)"
+            if asked.cmd == STATUS {
+                let (arg1, arg2) = (process.set.into(), process.run as u16);
+                return Ok(Done { arg1, arg2, ..Done::reply(asked) });
             }
             let string = process.obey(&mut memory[process.place()], asked, string)?;
-            Ok(Done { pid: asked.pid, string })
+            Ok(Done { string, ..Done::reply(asked) })
         }
     }
 }
@@ -172,12 +188,13 @@ impl Process {
     /// "END DEBUG: all breakpoints go, planted words put back; nobody debugs
     /// it. Stopped, at a breakpoint or stepping becomes running; ended stays."
     /// K3: passing becomes running too. "a freed entry is all zero": so are all
-    /// eight. K7: "STOP, END DEBUG and DESTROY cancel an owed answer". K5: "END DEBUG and
+    /// eight, and K6: none is set. K7: "STOP, END DEBUG and DESTROY cancel an owed answer". K5: "END DEBUG and
     /// DESTROY end the watch".
     fn end_debug(&mut self, space: &mut [u8]) {
         for breakpoint in &mut self.breakpoints {
             breakpoint.free(space);
         }
+        self.set = 0;
         self.host = NOBODY;
         self.watcher = NOBODY;
         self.owed = Owed::Nothing;
@@ -262,6 +279,7 @@ impl Process {
         *entry =
             Breakpoint { setter: asked.host, address: asked.arg1, remaining: asked.arg2, ..FREE };
         entry.plant(space);
+        self.set += 1;
         Ok(())
     }
 
@@ -274,6 +292,7 @@ impl Process {
         };
         breakpoint.set_by(asked.host)?;
         breakpoint.free(space);
+        self.set -= 1;
         Ok(())
     }
 

@@ -30,8 +30,9 @@ impl Process {
             // "makes the asker the one watcher of a process another host debugs"
             WATCH => self.host != NOBODY && self.host != asker,
             END_WATCH => self.watcher == asker,
-            // "A watcher may EXAMINE, Fetch, BREAK and UNBREAK."
-            EXAMINE | BREAK | UNBREAK => self.knows(asker),
+            // "A watcher may EXAMINE, Fetch, BREAK and UNBREAK." K6, of STATUS: "Debugging
+            // host or watcher only."
+            EXAMINE | BREAK | UNBREAK | STATUS => self.knows(asker),
             _ => self.host == asker,
         };
         if right {
@@ -55,6 +56,7 @@ impl Process {
         for breakpoint in &mut self.breakpoints {
             if breakpoint.used() && breakpoint.setter == watcher {
                 breakpoint.free(space);
+                self.set -= 1;
             }
         }
     }

@@ -10,7 +10,7 @@ use Rattle.ops.specs.Table.{rowOf, requestForm}
 use Rattle.breakpoints.specs.EntryQuery.{matches}
 use Rattle.process.specs.Find.{find}
 use Rattle.process.specs.Planting.{plantedIn, liftedIn, removedFrom, replanted, liftedAt}
-use Rattle.process.specs.Record.{fresh}
+use Rattle.process.specs.Record.{fresh, countUsed}
 use Rattle.run_state.specs.RunState.{accepts, goesOn, runAfter}
 use Rattle.process.specs.Report.{storeVectorAndReplant, passes, noticeHost, verdictOf, passed, reported, recipientOf, answerOf}
 use Rattle.process.specs.Request.{hasBreak, hasRoom, countSetBy, mayHaveMore, hasRoomFor, isHis, examined, deposited, vectorAfter, breakSet, breakRemoved, created, cleared, withoutHis, onlyHis, endWatched}
@@ -41,7 +41,7 @@ record Computed : Type 0 where
   watches : Hold watchCases
 
 computed : Computed
-unfolding Hold overlay lowFirst vectorOf cantOf createdOf noticeOf written headerOf stringOf fixedRight firstFailing fieldsRight carriedLength wrongLength wrongHeader misfits rowOf requestForm matches find plantedIn liftedIn removedFrom replanted liftedAt fresh accepts goesOn storeVectorAndReplant passes noticeHost verdictOf recipientOf answerOf owedLine passed runAfter reported hasBreak hasRoom countSetBy isSetBy mayHaveMore hasRoomFor isHis examined deposited vectorAfter breakSet breakRemoved created cleared withoutHis onlyHis endWatched restored seen savedFrom sheltered overlaySavedByte overlaySavedWord validBreakAddress absentHasNoHost liftSound setterSound usedSound entrySound soundTest validSize keepsRules owedSound watcherSound sessionSound freshProcess freshProcesses freshStarts freshStart total used usedBefore startIsUnique placed laidOut recordsSound soundState slot withSlot closed startWithout startsWithout public insider ruleOf names sizeAsked run putInPlace putLast takenOut stored put grantedNamed grantedCreate granted refused requestStep noticeTo notified reportStep step lowestAbsent askedTests requestNumber reportNumber
+unfolding Hold overlay lowFirst vectorOf cantOf createdOf noticeOf written headerOf stringOf fixedRight firstFailing fieldsRight carriedLength wrongLength wrongHeader misfits rowOf requestForm matches find plantedIn liftedIn removedFrom replanted liftedAt fresh accepts goesOn storeVectorAndReplant passes noticeHost verdictOf recipientOf answerOf owedLine passed runAfter reported hasBreak hasRoom countSetBy isSetBy mayHaveMore hasRoomFor isHis examined deposited vectorAfter breakSet breakRemoved created cleared withoutHis onlyHis endWatched restored seen savedFrom sheltered overlaySavedByte overlaySavedWord validBreakAddress absentHasNoHost liftSound setterSound usedSound entrySound soundTest validSize countUsed keepsRules owedSound watcherSound sessionSound freshProcess freshProcesses freshStarts freshStart total used usedBefore startIsUnique placed laidOut recordsSound soundState slot withSlot closed startWithout startsWithout public insider ruleOf names sizeAsked run putInPlace putLast takenOut stored put grantedNamed grantedCreate granted refused requestStep noticeTo notified reportStep step lowestAbsent askedTests requestNumber reportNumber
 computed = record { first = refl; watches = refl }
 
 pub cases-hold : CasesHold

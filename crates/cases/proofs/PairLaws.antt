@@ -24,7 +24,7 @@ use Rattle.ops.specs.Table.{rowOf, requestForm}
 use Rattle.breakpoints.specs.EntryQuery.{matches}
 use Rattle.process.specs.Find.{find}
 use Rattle.process.specs.Planting.{plantedIn, liftedIn, removedFrom, replanted, liftedAt}
-use Rattle.process.specs.Record.{fresh}
+use Rattle.process.specs.Record.{fresh, countUsed}
 use Rattle.run_state.specs.RunState.{accepts, goesOn, runAfter}
 use Rattle.process.specs.Report.{storeVectorAndReplant, passes, noticeHost, verdictOf, recipientOf, answerOf, passed, reported}
 use Rattle.process.specs.Request.{hasBreak, hasRoom, countSetBy, mayHaveMore, hasRoomFor, isHis, examined, deposited, vectorAfter, breakSet, breakRemoved, created, cleared}
@@ -71,7 +71,7 @@ each F a b c d e f g h (suc (suc (suc (suc (suc (suc (suc zero))))))) l = h
 each F a b c d e f g h (suc (suc (suc (suc (suc (suc (suc (suc p)))))))) l = absurd (omega arith)
 
 pub premises-met : PremisesMet
-unfolding namesOne asker subject event passedOver isOne struck withoutData strike fieldsOf insider isGranted publicThen toldOf Never stored heard part sentTo noticed lineSent lengthOf overlay lowFirst cantOf createdOf noticeOf written headerOf stringOf fixedRight numberOf firstFailing fieldsRight carriedLength wrongLength wrongHeader misfits rowOf requestForm matches find plantedIn liftedIn removedFrom replanted liftedAt fresh accepts goesOn storeVectorAndReplant passes noticeHost verdictOf recipientOf answerOf owedLine passed runAfter reported hasBreak hasRoom countSetBy isSetBy mayHaveMore hasRoomFor isHis examined deposited vectorAfter breakSet breakRemoved created cleared restored seen savedFrom sheltered overlaySavedByte overlaySavedWord validBreakAddress absentHasNoHost liftSound setterSound usedSound entrySound soundTest validSize keepsRules owedSound watcherSound sessionSound freshProcess freshProcesses freshStarts freshStart total used usedBefore startIsUnique placed laidOut recordsSound soundState slot withSlot closed startWithout startsWithout public ruleOf names sizeAsked run putInPlace putLast takenOut put grantedNamed grantedCreate granted refused requestStep noticeTo notified reportStep step lowestAbsent askedTests requestNumber reportNumber
+unfolding namesOne asker subject event passedOver isOne struck withoutData strike fieldsOf insider isGranted publicThen toldOf Never stored heard part sentTo noticed lineSent lengthOf overlay lowFirst cantOf createdOf noticeOf written headerOf stringOf fixedRight numberOf firstFailing fieldsRight carriedLength wrongLength wrongHeader misfits rowOf requestForm matches find plantedIn liftedIn removedFrom replanted liftedAt fresh accepts goesOn storeVectorAndReplant passes noticeHost verdictOf recipientOf answerOf owedLine passed runAfter reported hasBreak hasRoom countSetBy isSetBy mayHaveMore hasRoomFor isHis examined deposited vectorAfter breakSet breakRemoved created cleared restored seen savedFrom sheltered overlaySavedByte overlaySavedWord validBreakAddress absentHasNoHost liftSound setterSound usedSound entrySound soundTest validSize countUsed keepsRules owedSound watcherSound sessionSound freshProcess freshProcesses freshStarts freshStart total used usedBefore startIsUnique placed laidOut recordsSound soundState slot withSlot closed startWithout startsWithout public ruleOf names sizeAsked run putInPlace putLast takenOut put grantedNamed grantedCreate granted refused requestStep noticeTo notified reportStep step lowestAbsent askedTests requestNumber reportNumber
 premises-met = record {
   one-ready = record { memory = refl; processes = refl; starts = refl; entries = eight one refl; sound = refl };
   other-ready = record { memory = refl; processes = refl; starts = refl; entries = eight other refl; sound = refl };

@@ -5,7 +5,7 @@ use mathlib.Core.List.{List, [], _∷_}
 use Prim.Native.Nat.{ℕ, zero, suc}
 use native.Mathlib.Omega.{arith}
 use borrow.Author.Tests.{ltb-false, not-false}
-use lib.ListN.{List·getD-eq-default}
+use lib.ListN.{length, List·getD-eq-default}
 use lib.Dec.{eqb, ltb}
 use Rattle.format.specs.declared.header.Header.{Header}
 use Rattle.ops.specs.declared.table.Found.{Found}
@@ -32,11 +32,11 @@ pidIn Unknown = false
 
 named-by : (cmd : ℕ) → pidIn (requestForm cmd) ≡ names cmd
 unfolding requestForm rowOf names
-named-by cmd = go (ltb cmd 16) refl
+named-by cmd = go (ltb cmd (length ops)) refl
   where
-    go : (t : Bool) → ltb cmd 16 ≡ t → pidIn (requestForm cmd) ≡ names cmd
+    go : (t : Bool) → ltb cmd (length ops) ≡ t → pidIn (requestForm cmd) ≡ names cmd
     go true e = rw e
-    go false e = rw (e, List·getD-eq-default ops (row bare bare) {n = cmd} (ltb-false cmd 16 e))
+    go false e = rw (e, List·getD-eq-default ops (row bare bare) {n = cmd} (ltb-false cmd (length ops) e))
 
 pub names-known : (cmd : ℕ) (found : Found) → found ≡ requestForm cmd → pidIn found ≡ names cmd
 names-known cmd found e = rw e (named-by cmd)

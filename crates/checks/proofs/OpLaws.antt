@@ -12,7 +12,8 @@ use Rattle.run_state.specs.declared.Run.{Run}
 use Rattle.process.specs.declared.record.Process.{Process}
 use Rattle.breakpoints.specs.Entry.{validBreakAddress}
 use Rattle.process.specs.Local.{Local}
-use Rattle.run_state.specs.RunState.{stoppedOrAtBreak, atBreak}
+use Rattle.format.specs.Answer.{withArgs}
+use Rattle.run_state.specs.RunState.{stoppedOrAtBreak, atBreak, runNumber}
 use Rattle.process.specs.Request.{hasBreak, hasRoomFor, isHis, examined}
 use Rattle.rules.specs.Rule.{Public, Rule, rules, noRule, ruleOf, holds, insider, watches, anotherDebugs, noOther, noOtherWatches}
 
@@ -27,7 +28,8 @@ pub record Coded (cmd : ℕ) (r : Rule) : Type 0 where
       ≡ cond (eqb cmd 1) (noOther u asker)
       (cond (eqb cmd 6) (insider u asker)
       (cond (eqb cmd 8) (insider u asker)
-      (cond (eqb cmd 9) (insider u asker) (cond (eqb cmd 14) (anotherDebugs u asker) (cond (eqb cmd 15) (watches u asker) (holds u asker))))))
+      (cond (eqb cmd 9) (insider u asker)
+      (cond (eqb cmd 16) (insider u asker) (cond (eqb cmd 14) (anotherDebugs u asker) (cond (eqb cmd 15) (watches u asker) (holds u asker)))))))
   pub unwatched : (u : Public) (asker : ℕ) → r .unwatched u asker ≡ cond (eqb cmd 14) (noOtherWatches u asker) true
   pub runs : (x : Run) → r .runs x ≡ cond (eqb cmd 5) (stoppedOrAtBreak x) (cond (eqb cmd 10) (stoppedOrAtBreak x) (cond (eqb cmd 11) (atBreak x) true))
   pub range : (h : Header) (size : ℕ) → r .range h size
@@ -37,6 +39,7 @@ pub record Coded (cmd : ℕ) (r : Rule) : Type 0 where
   pub room : (h : Header) (p : Process) → r .room h p ≡ cond (eqb cmd 8) (hasRoomFor (h .host) (h .arg1) p) true
   pub found : (h : Header) (p : Process) → r .found h p ≡ cond (eqb cmd 9) (hasBreak (h .arg1) p) true
   pub his : (h : Header) (p : Process) → r .his h p ≡ cond (eqb cmd 8) (isHis (h .host) (h .arg1) p) (cond (eqb cmd 9) (isHis (h .host) (h .arg1) p) true)
+  pub header : (h : Header) (l : Local) → r .header h l ≡ cond (eqb cmd 16) (withArgs (l .process .number) (runNumber (l .process .run)) h) h
   pub shown : (h : Header) (l : Local) → r .shown h l ≡ cond (eqb cmd 6) (examined (h .arg1) (h .arg2) l) []
   pub idle : acts cmd ≡ false → (h : Header) (string : List ℕ) (l : Local) → r .effect h string l ≡ l
 
@@ -49,20 +52,21 @@ each-at from [] e k n i = e n (omega (arith, i))
 each-at from (r ∷ rs) e zero n i = let same : n ≡ from = omega (arith, i) in rw same (e .0)
 each-at from (r ∷ rs) e (suc k) n i = each-at (suc from) rs (e .1) k n (omega (arith, i))
 
-past : (n : ℕ) → 16 ≤ n → Coded n noRule
+past : (n : ℕ) → 17 ≤ n → Coded n noRule
 past n h = record {
-  right = λ u asker. rw (other 1 (omega arith), other 6 (omega arith), other 8 (omega arith), other 9 (omega arith), other 14 (omega arith), other 15 (omega arith));
+  right = λ u asker. rw (other 1 (omega arith), other 6 (omega arith), other 8 (omega arith), other 9 (omega arith), other 16 (omega arith), other 14 (omega arith), other 15 (omega arith));
   unwatched = λ u asker. rw (other 14 (omega arith));
   runs = λ x. rw (other 5 (omega arith), other 10 (omega arith), other 11 (omega arith));
   range = λ k size. rw (other 4 (omega arith), other 6 (omega arith), other 7 (omega arith), other 8 (omega arith));
   room = λ k p. rw (other 8 (omega arith));
   found = λ k p. rw (other 9 (omega arith));
   his = λ k p. rw (other 8 (omega arith), other 9 (omega arith));
+  header = λ k l. rw (other 16 (omega arith));
   shown = λ k l. rw (other 6 (omega arith));
   idle = λ e k s l. refl;
 }
   where
-    other : (k : ℕ) → k < 16 → eqb n k ≡ false
+    other : (k : ℕ) → k < 17 → eqb n k ≡ false
     other k i = ne-eqb n k (λ e. omega (arith, h, i, e))
 
 -- the rule of any op code
@@ -70,5 +74,5 @@ pub coded : (cmd : ℕ) → Coded cmd (ruleOf cmd)
 unfolding ruleOf
 coded cmd =
     each-at 0 rules
-    (record { right = λ u asker. refl; unwatched = λ u asker. refl; runs = λ x. refl; range = λ h size. refl; room = λ h p. refl; found = λ h p. refl; his = λ h p. refl; shown = λ h l. refl; idle = λ e h s l. refl }, (record { right = λ u asker. refl; unwatched = λ u asker. refl; runs = λ x. refl; range = λ h size. refl; room = λ h p. refl; found = λ h p. refl; his = λ h p. refl; shown = λ h l. refl; idle = λ e. absurd (true≢false e) }, (record { right = λ u asker. refl; unwatched = λ u asker. refl; runs = λ x. refl; range = λ h size. refl; room = λ h p. refl; found = λ h p. refl; his = λ h p. refl; shown = λ h l. refl; idle = λ e. absurd (true≢false e) }, (record { right = λ u asker. refl; unwatched = λ u asker. refl; runs = λ x. refl; range = λ h size. refl; room = λ h p. refl; found = λ h p. refl; his = λ h p. refl; shown = λ h l. refl; idle = λ e. absurd (true≢false e) }, (record { right = λ u asker. refl; unwatched = λ u asker. refl; runs = λ x. refl; range = λ h size. refl; room = λ h p. refl; found = λ h p. refl; his = λ h p. refl; shown = λ h l. refl; idle = λ e. absurd (true≢false e) }, (record { right = λ u asker. refl; unwatched = λ u asker. refl; runs = λ x. refl; range = λ h size. refl; room = λ h p. refl; found = λ h p. refl; his = λ h p. refl; shown = λ h l. refl; idle = λ e. absurd (true≢false e) }, (record { right = λ u asker. refl; unwatched = λ u asker. refl; runs = λ x. refl; range = λ h size. refl; room = λ h p. refl; found = λ h p. refl; his = λ h p. refl; shown = λ h l. refl; idle = λ e h s l. refl }, (record { right = λ u asker. refl; unwatched = λ u asker. refl; runs = λ x. refl; range = λ h size. refl; room = λ h p. refl; found = λ h p. refl; his = λ h p. refl; shown = λ h l. refl; idle = λ e. absurd (true≢false e) }, (record { right = λ u asker. refl; unwatched = λ u asker. refl; runs = λ x. refl; range = λ h size. refl; room = λ h p. refl; found = λ h p. refl; his = λ h p. refl; shown = λ h l. refl; idle = λ e. absurd (true≢false e) }, (record { right = λ u asker. refl; unwatched = λ u asker. refl; runs = λ x. refl; range = λ h size. refl; room = λ h p. refl; found = λ h p. refl; his = λ h p. refl; shown = λ h l. refl; idle = λ e. absurd (true≢false e) }, (record { right = λ u asker. refl; unwatched = λ u asker. refl; runs = λ x. refl; range = λ h size. refl; room = λ h p. refl; found = λ h p. refl; his = λ h p. refl; shown = λ h l. refl; idle = λ e. absurd (true≢false e) }, (record { right = λ u asker. refl; unwatched = λ u asker. refl; runs = λ x. refl; range = λ h size. refl; room = λ h p. refl; found = λ h p. refl; his = λ h p. refl; shown = λ h l. refl; idle = λ e. absurd (true≢false e) }, (record { right = λ u asker. refl; unwatched = λ u asker. refl; runs = λ x. refl; range = λ h size. refl; room = λ h p. refl; found = λ h p. refl; his = λ h p. refl; shown = λ h l. refl; idle = λ e h s l. refl }, (record { right = λ u asker. refl; unwatched = λ u asker. refl; runs = λ x. refl; range = λ h size. refl; room = λ h p. refl; found = λ h p. refl; his = λ h p. refl; shown = λ h l. refl; idle = λ e. absurd (true≢false e) }, (record { right = λ u asker. refl; unwatched = λ u asker. refl; runs = λ x. refl; range = λ h size. refl; room = λ h p. refl; found = λ h p. refl; his = λ h p. refl; shown = λ h l. refl; idle = λ e. absurd (true≢false e) }, (record { right = λ u asker. refl; unwatched = λ u asker. refl; runs = λ x. refl; range = λ h size. refl; room = λ h p. refl; found = λ h p. refl; his = λ h p. refl; shown = λ h l. refl; idle = λ e. absurd (true≢false e) }, past))))))))))))))))
+    (record { right = λ u asker. refl; unwatched = λ u asker. refl; runs = λ x. refl; range = λ h size. refl; room = λ h p. refl; found = λ h p. refl; his = λ h p. refl; header = λ h l. refl; shown = λ h l. refl; idle = λ e h s l. refl }, (record { right = λ u asker. refl; unwatched = λ u asker. refl; runs = λ x. refl; range = λ h size. refl; room = λ h p. refl; found = λ h p. refl; his = λ h p. refl; header = λ h l. refl; shown = λ h l. refl; idle = λ e. absurd (true≢false e) }, (record { right = λ u asker. refl; unwatched = λ u asker. refl; runs = λ x. refl; range = λ h size. refl; room = λ h p. refl; found = λ h p. refl; his = λ h p. refl; header = λ h l. refl; shown = λ h l. refl; idle = λ e. absurd (true≢false e) }, (record { right = λ u asker. refl; unwatched = λ u asker. refl; runs = λ x. refl; range = λ h size. refl; room = λ h p. refl; found = λ h p. refl; his = λ h p. refl; header = λ h l. refl; shown = λ h l. refl; idle = λ e. absurd (true≢false e) }, (record { right = λ u asker. refl; unwatched = λ u asker. refl; runs = λ x. refl; range = λ h size. refl; room = λ h p. refl; found = λ h p. refl; his = λ h p. refl; header = λ h l. refl; shown = λ h l. refl; idle = λ e. absurd (true≢false e) }, (record { right = λ u asker. refl; unwatched = λ u asker. refl; runs = λ x. refl; range = λ h size. refl; room = λ h p. refl; found = λ h p. refl; his = λ h p. refl; header = λ h l. refl; shown = λ h l. refl; idle = λ e. absurd (true≢false e) }, (record { right = λ u asker. refl; unwatched = λ u asker. refl; runs = λ x. refl; range = λ h size. refl; room = λ h p. refl; found = λ h p. refl; his = λ h p. refl; header = λ h l. refl; shown = λ h l. refl; idle = λ e h s l. refl }, (record { right = λ u asker. refl; unwatched = λ u asker. refl; runs = λ x. refl; range = λ h size. refl; room = λ h p. refl; found = λ h p. refl; his = λ h p. refl; header = λ h l. refl; shown = λ h l. refl; idle = λ e. absurd (true≢false e) }, (record { right = λ u asker. refl; unwatched = λ u asker. refl; runs = λ x. refl; range = λ h size. refl; room = λ h p. refl; found = λ h p. refl; his = λ h p. refl; header = λ h l. refl; shown = λ h l. refl; idle = λ e. absurd (true≢false e) }, (record { right = λ u asker. refl; unwatched = λ u asker. refl; runs = λ x. refl; range = λ h size. refl; room = λ h p. refl; found = λ h p. refl; his = λ h p. refl; header = λ h l. refl; shown = λ h l. refl; idle = λ e. absurd (true≢false e) }, (record { right = λ u asker. refl; unwatched = λ u asker. refl; runs = λ x. refl; range = λ h size. refl; room = λ h p. refl; found = λ h p. refl; his = λ h p. refl; header = λ h l. refl; shown = λ h l. refl; idle = λ e. absurd (true≢false e) }, (record { right = λ u asker. refl; unwatched = λ u asker. refl; runs = λ x. refl; range = λ h size. refl; room = λ h p. refl; found = λ h p. refl; his = λ h p. refl; header = λ h l. refl; shown = λ h l. refl; idle = λ e. absurd (true≢false e) }, (record { right = λ u asker. refl; unwatched = λ u asker. refl; runs = λ x. refl; range = λ h size. refl; room = λ h p. refl; found = λ h p. refl; his = λ h p. refl; header = λ h l. refl; shown = λ h l. refl; idle = λ e h s l. refl }, (record { right = λ u asker. refl; unwatched = λ u asker. refl; runs = λ x. refl; range = λ h size. refl; room = λ h p. refl; found = λ h p. refl; his = λ h p. refl; header = λ h l. refl; shown = λ h l. refl; idle = λ e. absurd (true≢false e) }, (record { right = λ u asker. refl; unwatched = λ u asker. refl; runs = λ x. refl; range = λ h size. refl; room = λ h p. refl; found = λ h p. refl; his = λ h p. refl; header = λ h l. refl; shown = λ h l. refl; idle = λ e. absurd (true≢false e) }, (record { right = λ u asker. refl; unwatched = λ u asker. refl; runs = λ x. refl; range = λ h size. refl; room = λ h p. refl; found = λ h p. refl; his = λ h p. refl; header = λ h l. refl; shown = λ h l. refl; idle = λ e. absurd (true≢false e) }, (record { right = λ u asker. refl; unwatched = λ u asker. refl; runs = λ x. refl; range = λ h size. refl; room = λ h p. refl; found = λ h p. refl; his = λ h p. refl; header = λ h l. refl; shown = λ h l. refl; idle = λ e h s l. refl }, past)))))))))))))))))
     cmd cmd (omega arith)

@@ -17,6 +17,7 @@ use ops::EXAMINE;
 use ops::PROCEED;
 use ops::RESUME;
 use ops::SINGLE_STEP;
+use ops::STATUS;
 use ops::UNBREAK;
 use ops::WATCH;
 use process::FoundEntry;
@@ -32,7 +33,7 @@ ghost use Rattle.checks.specs.Decision.{ownDecision, newDecision, breakD
 ghost use Rattle.process.specs.Sizes.{entryCount};
 ghost use Rattle.format.specs.Sizes.{stringBytes};
 
-// 8: the asker debugs the process; for DEBUG, no other host does; for EXAMINE, BREAK and UNBREAK he may watch it too; for WATCH another host
+// 8: the asker debugs the process; for DEBUG, no other host does; for EXAMINE, BREAK, UNBREAK and STATUS he may watch it too; for WATCH another host
 // debugs it, and for END WATCH he watches it.
 fn right(cmd: u8, process: Process, asker: u8) -> bool
     ensures { λ r. ⌜ r ≡ ruleOf cmd .right (public process) asker ⌝ }
@@ -42,6 +43,7 @@ fn right(cmd: u8, process: Process, asker: u8) -> bool
         EXAMINE => may_look(process, asker),
         BREAK => may_look(process, asker),
         UNBREAK => may_look(process, asker),
+        STATUS => may_look(process, asker),
         WATCH => another_debugs(process, asker),
         END_WATCH => watches(process, asker),
         _ => debugs(process, asker),

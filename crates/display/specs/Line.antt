@@ -40,6 +40,10 @@ sizeName = 32 ∷ 115 ∷ 105 ∷ 122 ∷ 101 ∷ []
 abbrev pub watcherName : List ℕ
 watcherName = 32 ∷ 119 ∷ 97 ∷ 116 ∷ 99 ∷ 104 ∷ 101 ∷ 114 ∷ []
 
+-- ' set'
+abbrev pub setName : List ℕ
+setName = 32 ∷ 115 ∷ 101 ∷ 116 ∷ []
+
 -- ' owed '
 abbrev pub owedName : List ℕ
 owedName = 32 ∷ 111 ∷ 119 ∷ 101 ∷ 100 ∷ 32 ∷ []
@@ -60,11 +64,12 @@ owedText o = owedName ++ (owedShown o ∷ [])
 abbrev pub beginShown : Bool → ℕ → ℕ
 beginShown there start = cond there start 0
 
--- then the nine words, the eight entries, the size, the watcher and the owed answer
+-- then the nine words, the eight entries, the size, the watcher, the number of breakpoints and the owed answer
 unfoldable pub recordText : Process → List ℕ
 recordText p =
-    ((((headText (p .there) (p .host) (p .run) ++ joined wordText (p .vector)) ++ joined entryText (p .breaks)) ++ named sizeName (p .size))
+    (((((headText (p .there) (p .host) (p .run) ++ joined wordText (p .vector)) ++ joined entryText (p .breaks)) ++ named sizeName (p .size))
     ++ named watcherName (p .session .watcher))
+    ++ named setName (p .number))
     ++ owedText (p .session .owed)
 
 -- the record of a process, then where its bytes begin, as a line with its newline

@@ -75,9 +75,9 @@ fn put_owed(owed: Owed, from: usize, out: &mut [u8]) -> usize
 
 // All of a record.
 fn put_record(p: Process, out: &mut [u8]) -> usize
-    requires { ⌜ 391 ≤ length (now out) ⌝ }
+    requires { ⌜ 401 ≤ length (now out) ⌝ }
     ensures { λ r. ⌜ Put 0 (recordText p) (now (out .entry)) r (now (out .exit)) ⌝ }
-    ensures { λ r. ⌜ r ≤ 391 ⌝ }
+    ensures { λ r. ⌜ r ≤ 401 ⌝ }
 {
     let run = p.run;
     let vector = p.vector;
@@ -89,7 +89,8 @@ fn put_record(p: Process, out: &mut [u8]) -> usize
     let entries = put_entries(breaks, words, out);
     let size = put_named(b" size", p.size, entries, out);
     let watcher = put_named(b" watcher", session.watcher as u16, size, out);
-    put_owed(owed, watcher, out)
+    let set = put_named(b" set", p.number as u16, watcher, out);
+    put_owed(owed, set, out)
 }
 
 // Where the bytes of a process begin; 0 where it is absent.
@@ -101,7 +102,7 @@ fn begin_shown(there: bool, start: u16) -> u16
 
 // All of a record and where the bytes of its process begin, as a line; the length of the line.
 pub fn put_process(p: Process, start: u16, out: &mut [u8]) -> usize
-    requires { ⌜ 404 ≤ length (now out) ⌝ }
+    requires { ⌜ 414 ≤ length (now out) ⌝ }
     ensures { λ r. ⌜ r ≡ length (processLine p start) ⌝ }
     ensures { λ r. ⌜ r ≤ length (now (out .entry)) ⌝ }
     ensures { λ _. ⌜ now (out .exit) ≡ overlay (processLine p start) (now (out .entry)) ⌝ }

@@ -3,7 +3,7 @@ use crate::header::Header;
 use ops::CANT;
 use ops::NOTICE;
 ghost use mathlib.Core.Path.{_≡_};
-ghost use Rattle.format.specs.Answer.{cantOf, createdOf, noticeOf};
+ghost use Rattle.format.specs.Answer.{cantOf, createdOf, noticeOf, withArgs};
 
 impl Header {
     // The header of the CAN'T that refuses this request.
@@ -35,6 +35,15 @@ impl Header {
             arg1: self.arg1,
             arg2: self.arg2,
         }
+    }
+
+    // The same header with these numbers in ARG1 and ARG2.
+    pub fn with_args(mut self, arg1: u16, arg2: u16) -> Header
+        ensures { λ r. ⌜ r ≡ withArgs arg1 arg2 self ⌝ }
+    {
+        self.arg1 = arg1;
+        self.arg2 = arg2;
+        self
     }
 
     // The header of a notice: kind 0 TRAP, 1 HALT, 2 BPT, 3 TTRAP.

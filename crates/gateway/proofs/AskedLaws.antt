@@ -169,7 +169,7 @@ module _ (h : Header) (string buffer : List ℕ) (s : State) where
     by-number zero e =
         let there : recordOf s (h .pid) .there ≡ true = rw here (not-false (recordOf s p .there) (first-passes 6 (not (recordOf s p .there)) (ruleTests (ruleOf (h .cmd)) h (recordOf s p)) e)) in
         rw (number-asked, e, n, ← here)
-        (ap (λ (t : State). record { answer = replyOf h (ruleOf (h .cmd) .shown h (localOf s (h .pid))) buffer; after = t }) (sym (put-over (h .pid) (ruleOf (h .cmd) .effect h string (localOf s (h .pid))) s there)))
+        (ap (λ (t : State). record { answer = replyOf (ruleOf (h .cmd) .header h (localOf s (h .pid))) (ruleOf (h .cmd) .shown h (localOf s (h .pid))) buffer; after = t }) (sym (put-over (h .pid) (ruleOf (h .cmd) .effect h string (localOf s (h .pid))) s there)))
     by-number (suc k) e =
         let long = number-high (λ z. omega (arith, sym e ∙ z)) in
         rw (number-asked, e, ne-eqb (suc k) 0 (λ z. omega (arith, z)), le-ltb (suc k) 7 (rw e at long), put-same p s)

@@ -27,6 +27,7 @@ use Rattle.rules.proofs.LedgerLaws.{ledger}
 use Rattle.rules.proofs.LoopLaws.{loops}
 use Rattle.rules.proofs.OwedLaws.{owed-answers}
 use Rattle.rules.proofs.BreakLifeLaws.{watching}
+use Rattle.rules.proofs.StatusLaws.{how-many-set}
 use Rattle.state_bytes.specs.State.{stateFormed, stateSound}
 use Rattle.gateway.specs.Called.{Called, reportCalled, finished, badlyLent, lentOn, refusedBy, callOn, machineStored, Did}
 use Rattle.gateway.specs.Sequence.{Begins, Made, readFrom}
@@ -164,4 +165,5 @@ demands = record {
   loops = loops;
   owed-answers = owed-answers;
   watching = watching;
+  how-many-set = how-many-set;
 }

@@ -93,7 +93,7 @@ refused-front n h buffer s = rw (numberOf-outcome n 0, lengthOf-none n) (go (ltb
 -- the bytes of a grant
 granted-bytes : Header → List ℕ → State → List ℕ
 granted-bytes h string s =
-    cond (names (h .cmd)) (written h (ruleOf (h .cmd) .shown h (localOf s (h .pid))))
+    cond (names (h .cmd)) (written (ruleOf (h .cmd) .header h (localOf s (h .pid))) (ruleOf (h .cmd) .shown h (localOf s (h .pid))))
     (cond (creates (h .cmd)) (written (createdOf h (lowestAbsent (s .records))) []) (written h []))
 
 granted-front : (h : Header) (string buffer : List ℕ) (s : State) → front replyLength (granted h string buffer s .answer) ≡ granted-bytes h string s
@@ -101,8 +101,8 @@ unfolding granted grantedNamed grantedCreate granted-bytes
 granted-front h string buffer s = go (names (h .cmd)) (creates (h .cmd))
   where
     go : (t u : Bool) → front replyLength (cond t (grantedNamed h string buffer s) (cond u (grantedCreate h buffer s) (replied h [] buffer s)) .answer)
-        ≡ cond t (written h (ruleOf (h .cmd) .shown h (localOf s (h .pid)))) (cond u (written (createdOf h (lowestAbsent (s .records))) []) (written h []))
-    go true u = written-front h _ buffer
+        ≡ cond t (written (ruleOf (h .cmd) .header h (localOf s (h .pid))) (ruleOf (h .cmd) .shown h (localOf s (h .pid)))) (cond u (written (createdOf h (lowestAbsent (s .records))) []) (written h []))
+    go true u = written-front _ _ buffer
     go false true = written-front _ [] buffer
     go false false = written-front h [] buffer
 

@@ -22,6 +22,7 @@ use Rattle.rules.specs.Ledger.{Ledger}
 use Rattle.rules.specs.Loops.{Loops}
 use Rattle.rules.specs.Owed.{OwedAnswers}
 use Rattle.rules.specs.Watch.{Watching}
+use Rattle.rules.specs.Status.{HowManySet}
 use Rattle.state_bytes.specs.Widths.{stateWidth}
 use Rattle.gateway.specs.Called.{Called, Did, lentOn, refusedBy, startOn}
 use Rattle.gateway.specs.Sequence.{Begins, Made, readFrom}
@@ -102,3 +103,5 @@ pub record Demands : Type 0 where
   pub owed-answers : OwedAnswers
   -- owner and installer together: whose breakpoint is whose, who is told, when a watch begins and ends
   pub watching : Watching
+  -- the number in a record is that of its breakpoints after every call, and STATUS answers it
+  pub how-many-set : HowManySet

@@ -1,5 +1,5 @@
 // The gateway: what answers the requests of the network, the text lines of the bench and the reports of the machine. Its state is a lent buffer
-// of 728 bytes: a call tests them where they lie, reads the one process that it goes to, and writes that one back. All processes lie in one lent
+// of 736 bytes: a call tests them where they lie, reads the one process that it goes to, and writes that one back. All processes lie in one lent
 // memory, and the state says where each begins; only CREATE and DESTROY change that.
 mod fresh;
 mod gone;

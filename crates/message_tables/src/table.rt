@@ -15,7 +15,7 @@ pub(crate) fn show_table() {
 fn rows() {
     let names =
         b"NOP\nDEBUG\nEND DEBUG\nSTOP\nDEPOSIT\nRESUME\nEXAMINE\nDEPOSIT STATE VECTOR\nBREAK\nUNBREAK\nSINGLE STEP\nPROCEED BPT\n\
-        CREATE PROCESS\nDESTROY PROCESS\nWATCH\nEND WATCH\nTRAP, a notice\nHALT, a notice\nBPT, a notice\nTTRAP, a notice\n";
+        CREATE PROCESS\nDESTROY PROCESS\nWATCH\nEND WATCH\nSTATUS\nTRAP, a notice\nHALT, a notice\nBPT, a notice\nTTRAP, a notice\n";
     let mut next = 0;
     let mut cmd: u8 = 0;
     while cmd < 128 {

@@ -70,7 +70,7 @@ fn op(cmd: u8) {
     show::written(cant, &buffer, true);
 }
 
-// CREATE's reply has the number of the new process.
+// CREATE's reply has the number of the new process, and that of STATUS the number of breakpoints and the run state.
 fn write_reply(h: Header, buffer: &mut [u8]) -> Outcome
     requires { ⌜ headerBytes ≤ length (now buffer) ⌝ }
 {
@@ -78,6 +78,7 @@ fn write_reply(h: Header, buffer: &mut [u8]) -> Outcome
     match cmd {
         ops::EXAMINE => message::write_contents(h, buffer),
         ops::CREATE => message::write_reply(h.created(7), buffer),
+        ops::STATUS => message::write_reply(h.with_args(8, 5), buffer),
         _ => message::write_reply(h, buffer),
     }
 }

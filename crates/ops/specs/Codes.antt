@@ -65,6 +65,10 @@ WATCH = 14
 abbrev pub END-WATCH : ℕ
 END-WATCH = 15
 
+-- 'op 16 STATUS (process)' (K6)
+abbrev pub STATUS : ℕ
+STATUS = 16
+
 -- 'Notice: CMD 64 TRAP': the kind of the report is added to this
 abbrev pub NOTICE : ℕ
 NOTICE = 64

@@ -71,7 +71,8 @@ replies op = op .1
 
 -- 'Used fields: all but 0 and 12 use PID ..; 4, 6, 7, 8 use ARG1 and ARG2; 9 uses ARG1. .. Only 4 and 7 carry a string, of exactly ARG2 bytes.'
 -- 'Reply: the request's CMD, PID, ARG1, ARG2 .. CONTENTS (reply to 6) appends the ARG2 bytes. CREATED carries the new number in PID.'
--- 'CREATE takes an even size in ARG1, up to 4,096'; 'Op 14 WATCH (process)', 'op 15 END WATCH (process)'
+-- 'CREATE takes an even size in ARG1, up to 4,096'; 'Op 14 WATCH (process)', 'op 15 END WATCH (process)'; 'op 16 STATUS (process) answers
+-- it in ARG1, the run state in ARG2'
 abbrev pub ops : List Op
 ops =
     row bare bare  -- 0 NOP
@@ -90,6 +91,7 @@ ops =
     ∷ row process process  -- 13 DESTROY PROCESS
     ∷ row process process  -- 14 WATCH
     ∷ row process process  -- 15 END WATCH
+    ∷ row process range  -- 16 STATUS
     ∷ []
 
 -- 'Notice: CMD 64 TRAP (reason in ARG1), 65 HALT, 66 BPT, 67 TTRAP; PID; the rest zero; then the 18 bytes.'
@@ -140,7 +142,7 @@ unfoldable pub noticeForm : ℕ → Found
 noticeForm kind = cond (ltb kind (length notices)) (Known (getD notices kind bare)) Unknown
 
 -- 'The desk reader accepts CMD 0 to 13, 129 to 141 and 64 to 67'; 'The desk end learns this op and every later one',
--- so CMD 0 to 15, 129 to 143 and 64 to 67.
+-- so CMD 0 to 16, 129 to 144 and 64 to 67.
 -- The form of an answer, that is of a reply, notice or CAN'T.
 unfoldable pub answerForm : ℕ → Found
 answerForm cmd = cond (ltb cmd NOTICE) (replyForm cmd) (cond (ltb cmd CANT) (noticeForm (cmd - NOTICE)) (cantForm (cmd - CANT)))

@@ -33,6 +33,8 @@ pub const WATCH: u8 = 14;
 
 pub const END_WATCH: u8 = 15;
 
+pub const STATUS: u8 = 16;
+
 // A notice has the kind of its report added to this.
 pub const NOTICE: u8 = 64;
 

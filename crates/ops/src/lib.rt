@@ -21,6 +21,7 @@
 //    13  PID ---- ---- none   PID ---- ---- none   DESTROY PROCESS
 //    14  PID ---- ---- none   PID ---- ---- none   WATCH
 //    15  PID ---- ---- none   PID ---- ---- none   END WATCH
+//    16  PID ---- ---- none   PID ARG1 ARG2 none   STATUS
 //    64                       PID ARG1 ---- 18     TRAP, a notice
 //    65                       PID ---- ---- 18     HALT, a notice
 //    66                       PID ---- ---- 18     BPT, a notice
@@ -44,6 +45,7 @@ pub use codes::NOTICE;
 pub use codes::PROCEED;
 pub use codes::RESUME;
 pub use codes::SINGLE_STEP;
+pub use codes::STATUS;
 pub use codes::STOP;
 pub use codes::UNBREAK;
 pub use codes::WATCH;

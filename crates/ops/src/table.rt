@@ -112,7 +112,7 @@ const SIZED_PROCESS: Form = Form {
 };
 
 // A row is the request's form, then the form of the reply that grants it.
-const OPS: [Op; 16] = [
+const OPS: [Op; 17] = [
     Op(BARE, BARE), // 0 NOP
     Op(PROCESS, PROCESS), // 1 DEBUG
     Op(PROCESS, PROCESS), // 2 END DEBUG
@@ -129,6 +129,7 @@ const OPS: [Op; 16] = [
     Op(PROCESS, PROCESS), // 13 DESTROY PROCESS
     Op(PROCESS, PROCESS), // 14 WATCH
     Op(PROCESS, PROCESS), // 15 END WATCH
+    Op(PROCESS, RANGE), // 16 STATUS
 ];
 
 // The notices by their kind, 0 to 3: CMD is 64 more.

@@ -11,8 +11,10 @@ use lib.Seq.{getD-set-other, getD-take, length-take-le}
 use Rattle.breakpoints.specs.declared.entry.Breakpoint.{Breakpoint}
 use Rattle.breakpoints.specs.Entry.{free, withSaved, inUse}
 use Rattle.breakpoints.specs.Seen.{putWord, isPlanted, restored, seen, savedFrom}
+use Rattle.process.specs.Record.{countUsed}
 use Rattle.process.specs.Request.{sheltered}
 use Rattle.breakpoints.proofs.SeenLaws.{Spaced, putWord-again, putWord-same, restored-planted, restored-not, seen-restored}
+use Rattle.process.proofs.CountLaws.{count-map}
 use Rattle.process.proofs.SoundLaws.{Alike}
 
 -- ---- a byte that no planted breakpoint covers
@@ -92,6 +94,10 @@ pub map-alike : (s : List ℕ) (bs : List Breakpoint) (k : ℕ) → k < length b
 map-alike s [] k h = absurd (not-suc-le-zero h)
 map-alike s (b ∷ bs) zero h = savedFrom-alike s b
 map-alike s (b ∷ bs) (suc k) h = map-alike s bs k (omega arith)
+
+-- and as many of them are in use
+pub count-saved : (s : List ℕ) (bs : List Breakpoint) → countUsed (map (savedFrom s) bs) ≡ countUsed bs
+count-saved s bs = count-map (savedFrom s) bs (λ b. savedFrom-alike s b .used)
 
 -- ---- spacing goes by what is alike
 

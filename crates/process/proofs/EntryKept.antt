@@ -17,7 +17,7 @@ use Rattle.run_state.specs.RunState.{moving, atBreak}
 use Rattle.process.specs.declared.record.Process.{Process}
 use Rattle.process.specs.declared.report.Verdict.{Verdict}
 use Rattle.process.specs.declared.report.Verdict.the-variants.{Stops, CountsDown, GoesOn}
-use Rattle.process.specs.Record.{fresh, entry, withRun, withVector, withEntry}
+use Rattle.process.specs.Record.{fresh, recounted, entry, withRun, withVector, withEntry}
 use Rattle.process.specs.Find.{find}
 use Rattle.process.specs.Local.{Local}
 use Rattle.process.specs.Planting.{plantedIn, liftedIn, removedFrom, replanted, liftedAt}
@@ -192,7 +192,7 @@ module _ (host a n : ℕ) (l : Local) where
   break-other j = go (hasBreak a (l .process))
     where
       go : (t : Bool) → (j ≡ cond t (find (At a) (l .process)) (find Free (l .process)) → ⊥)
-          → entry (cond t (onRecord (withEntry (find (At a) (l .process)) (withCount n (entry (l .process) (find (At a) (l .process))))) l) (plantedIn (find Free (l .process)) (breakpointAt a n host) l) .process) j ≡ entry (l .process) j
+          → entry (cond t (onRecord (withEntry (find (At a) (l .process)) (withCount n (entry (l .process) (find (At a) (l .process))))) l) (onRecord recounted (plantedIn (find Free (l .process)) (breakpointAt a n host) l)) .process) j ≡ entry (l .process) j
       go true q = getD-set-other (l .process .breaks) (find (At a) (l .process)) j _ free q
       go false q = getD-set-other (l .process .breaks) (find Free (l .process)) j _ free q
 

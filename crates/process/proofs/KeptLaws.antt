@@ -11,7 +11,7 @@ use Rattle.breakpoints.specs.declared.entry_query.EntryQuery.the-variants.{Free
 use Rattle.breakpoints.specs.Entry.{breakpointAt, withCount}
 use Rattle.process.specs.declared.report.Verdict.{Verdict}
 use Rattle.process.specs.declared.report.Verdict.the-variants.{Stops, CountsDown, GoesOn}
-use Rattle.process.specs.Record.{entry, withRun, withVector, withEntry}
+use Rattle.process.specs.Record.{entry, recounted, withRun, withVector, withEntry}
 use Rattle.process.specs.Find.{find}
 use Rattle.process.specs.Local.{Local}
 use Rattle.process.specs.Planting.{plantedIn, liftedIn, removedFrom, replanted, liftedAt}
@@ -156,7 +156,7 @@ pub going-breakSet : (host a n : ℕ) (l : Local) → going (breakSet host a n l
 unfolding breakSet plantedIn
 going-breakSet host a n l = go (hasBreak a (l .process))
   where
-    go : (t : Bool) → going (cond t (onRecord (withEntry (find (At a) (l .process)) (withCount n (entry (l .process) (find (At a) (l .process))))) l) (plantedIn (find Free (l .process)) (breakpointAt a n host) l)) ≡ going l
+    go : (t : Bool) → going (cond t (onRecord (withEntry (find (At a) (l .process)) (withCount n (entry (l .process) (find (At a) (l .process))))) l) (onRecord recounted (plantedIn (find Free (l .process)) (breakpointAt a n host) l))) ≡ going l
     go true = refl
     go false = refl
 

@@ -1,6 +1,7 @@
 -- Laws that several proofs of this crate, and of the crates above, cite.
 pub mod FindLaws
 pub mod EntryLaws
+pub mod CountLaws
 pub mod SoundTestLaws
 pub mod SoundLaws
 pub mod DepositLaws

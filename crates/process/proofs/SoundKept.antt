@@ -13,13 +13,14 @@ use Rattle.process.specs.declared.record.Process.{Process}
 use Rattle.breakpoints.specs.declared.entry_query.EntryQuery.the-variants.{Lifted, At}
 use Rattle.breakpoints.specs.Entry.{free, withLifted, withCount, inUse}
 use Rattle.breakpoints.specs.Seen.{planted}
-use Rattle.process.specs.Record.{entry, withEntry}
+use Rattle.process.specs.Record.{entry, countUsed, withNumber, recounted, withEntry}
 use Rattle.process.specs.Find.{find}
 use Rattle.process.specs.Sound.{Sound, DebugsOrWatches}
 use Rattle.run_state.specs.RunState.{steppingOrPassing}
 use Rattle.process.specs.Local.{Local, local, extent, Proper}
 use Rattle.process.specs.Planting.{plantedIn, liftedIn, replanted, liftedAt}
 use Rattle.process.proofs.FindLaws.{matches-lifted, matches-at, find-matches, find-before, lifted-matches}
+use Rattle.process.proofs.CountLaws.{count-set}
 use Rattle.process.proofs.SoundLaws.{sound-kept, sound-apart, sound-entry}
 use Rattle.process.proofs.PlantingLaws.{length-replanted, eight-replanted, extent-replanted}
 use Rattle.process.proofs.SoundTestLaws.{sound-passes}
@@ -35,16 +36,22 @@ module _ (p : Process) (s : Sound p) (eight : length (p .breaks) ≡ 8) where
 
   -- ---- one entry
 
-  pub sound-removed : (k : ℕ) → k < 8 → Sound (withEntry k free p)
-  sound-removed k h = sound-entry p s eight k h free (λ u. absurd (true≢false (sym u))) (λ j i n v u. absurd (true≢false (sym u)))
+  -- an entry that is in use as before keeps the number right
+  number-stays : (k : ℕ) (b : Breakpoint) → inUse b ≡ inUse (entry p k) → p .number ≡ countUsed (set (p .breaks) k b)
+  number-stays k b e = s .counted ∙ sym (count-set (p .breaks) k b e)
 
-  -- planted at an address that no other entry has
-  pub sound-planted : (k : ℕ) (b : Breakpoint) (m : List ℕ) → k < 8 → (p .host ≡ 0 → ⊥) → DebugsOrWatches p (b .setter) → b .address % 2 ≡ 0 → b .address + 2 ≤ p .size
-      → ((j : ℕ) → j < 8 → (j ≡ k → ⊥) → inUse (entry p j) ≡ true → entry p j .address ≡ b .address → ⊥) → Sound (withEntry k (planted m b) p)
-  sound-planted k b m h host set-by even within apart =
+  pub sound-removed : (k : ℕ) → k < 8 → Sound (recounted (withEntry k free p))
+  sound-removed k h = sound-entry p s eight k h free (λ u. absurd (true≢false (sym u))) (λ j i n v u. absurd (true≢false (sym u))) _ refl
+
+  -- planted at an address that no other entry has, with the number of breakpoints that there are then
+  pub sound-planted : (k : ℕ) (b : Breakpoint) (m : List ℕ) (n : ℕ) → n ≡ countUsed (set (p .breaks) k (planted m b)) → k < 8 → (p .host ≡ 0 → ⊥) → DebugsOrWatches p (b .setter) → b .address % 2 ≡ 0 → b .address + 2 ≤ p .size
+      → ((j : ℕ) → j < 8 → (j ≡ k → ⊥) → inUse (entry p j) ≡ true → entry p j .address ≡ b .address → ⊥) → Sound (withNumber n (withEntry k (planted m b) p))
+  sound-planted k b m n q h host set-by even within apart =
       sound-entry p s eight k h (planted m b)
       (λ u. record { hosted = host; even = even; within = within; lifted-while = λ z. absurd (true≢false (sym z)); set-by = set-by })
       (λ j i n v u. record { different = apart j i n v; one-lifted = λ c d. true≢false (sym d) })
+      n
+      q
 
   -- lifted while the process is stepping or passing and no other is
   pub sound-lifted : (k : ℕ) → k < 8 → inUse (entry p k) ≡ true → steppingOrPassing (p .run) ≡ true → NoneLifted p → Sound (withEntry k (withLifted (entry p k)) p)
@@ -53,6 +60,8 @@ module _ (p : Process) (s : Sound p) (eight : length (p .breaks) ≡ 8) where
       sound-entry p s eight k h (withLifted (entry p k))
       (λ v. record { hosted = e .hosted; even = e .even; within = e .within; lifted-while = λ z. m; set-by = e .set-by })
       (λ j i n v w. record { different = sound-apart p s j k i h n v u .different; one-lifted = λ c d. none j i v c })
+      _
+      (number-stays k (withLifted (entry p k)) refl)
 
   -- with another count
   pub sound-count : (k n : ℕ) → k < 8 → Sound (withEntry k (withCount n (entry p k)) p)
@@ -60,6 +69,8 @@ module _ (p : Process) (s : Sound p) (eight : length (p .breaks) ≡ 8) where
       sound-entry p s eight k h (withCount n (entry p k))
       (λ u. let e = sound-kept p s k h u in record { hosted = e .hosted; even = e .even; within = e .within; lifted-while = e .lifted-while; set-by = e .set-by })
       (λ j i m v u. let e = sound-apart p s j k i h m v u in record { different = e .different; one-lifted = e .one-lifted })
+      _
+      (number-stays k (withCount n (entry p k)) refl)
 
   -- ---- what finds its entry first
 
@@ -84,7 +95,7 @@ module _ (p : Process) (s : Sound p) (eight : length (p .breaks) ≡ 8) where
           let h : find Lifted p < 8 = ltb-true _ _ e in
           let u = matches-lifted (entry p k) (find-matches Lifted p eight h) .0 in
           let c = sound-kept p s k h u in
-          sound-planted k (entry p k) m h (c .hosted) (c .set-by) (c .even) (c .within)
+          sound-planted k (entry p k) m _ (number-stays k (planted m (entry p k)) refl) h (c .hosted) (c .set-by) (c .even) (c .within)
           (λ j i n v. sound-apart p s j k i h n v u .different)
       go false e = s
 

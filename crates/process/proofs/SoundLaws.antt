@@ -7,7 +7,7 @@ use Prim.Native.Nat.{ℕ, _+_, _≤_, _<_, _%_}
 use native.Mathlib.Nat.{lt-irrefl}
 use native.Mathlib.Omega.{arith}
 use borrow.Author.Tests.{eqb-true, eqb-false, ltb-true, ltb-false}
-use lib.ListN.{length, getD, getD-replicate}
+use lib.ListN.{length, getD, set, getD-replicate}
 use lib.Seq.{getD-set-same, getD-set-other}
 use lib.Dec.{eqb, ltb}
 use Rattle.run_state.specs.declared.Run.{Run}
@@ -16,9 +16,10 @@ use Rattle.session.specs.Session.{textHost, owes}
 use Rattle.breakpoints.specs.declared.entry.Breakpoint.{Breakpoint}
 use Rattle.process.specs.declared.record.Process.{Process}
 use Rattle.breakpoints.specs.Entry.{free, inUse}
-use Rattle.process.specs.Record.{noBreaks, entry, withHost, withRun, withVector, withBreaks, withEntry, owing, watchedBy}
+use Rattle.process.specs.Record.{noBreaks, entry, countUsed, withHost, withRun, withVector, withBreaks, withNumber, recounted, withEntry, owing, watchedBy}
 use Rattle.process.specs.Sound.{Sound, SizeRight, NoBreakpoints, DebugsOrWatches}
 use Rattle.run_state.specs.RunState.{steppingOrPassing}
+use Rattle.process.proofs.CountLaws.{count-none}
 
 -- ---- fields other than the entries
 
@@ -35,6 +36,7 @@ sound-vector v p s = record {
   owed = s .owed;
   watched = s .watched;
   set-by = s .set-by;
+  counted = s .counted;
 }
 
 -- a run state in which what is lifted may be
@@ -51,6 +53,7 @@ sound-run r p m s = record {
   owed = s .owed;
   watched = s .watched;
   set-by = s .set-by;
+  counted = s .counted;
 }
 
 -- an owed answer that may be owed to the host
@@ -67,6 +70,7 @@ sound-owing o p e s = record {
   owed = e;
   watched = s .watched;
   set-by = s .set-by;
+  counted = s .counted;
 }
 
 -- a watcher of a process that another host debugs, where nobody or the same watched before
@@ -83,6 +87,7 @@ sound-watched host p s n m b = record {
   owed = s .owed;
   watched = λ w. (n, m);
   set-by = λ k h u. go (s .set-by k h u) b;
+  counted = s .counted;
 }
   where
     go : {x : ℕ} → DebugsOrWatches p x → (p .session .watcher ≡ 0) ⊎ (p .session .watcher ≡ host) → DebugsOrWatches (watchedBy host p) x
@@ -104,6 +109,7 @@ sound-unwatched p s his = record {
   owed = s .owed;
   watched = λ w. absurd (w refl);
   set-by = λ k h u. inl (his k h u);
+  counted = s .counted;
 }
 
 -- what is owed to nobody, or to the same host as before, may be owed to the host
@@ -134,6 +140,7 @@ sound-host h p t n b s = record {
   owed = owed-to h p b s;
   watched = watched-beside h p n b s;
   set-by = set-by-same h p b s;
+  counted = s .counted;
 }
 
 -- ---- no breakpoints at all
@@ -141,15 +148,15 @@ sound-host h p t n b s = record {
 no-entry : (k : ℕ) → k < 8 → inUse (getD noBreaks k free) ≡ false
 no-entry k h = ap (λ (b : Breakpoint). inUse b) (getD-replicate 8 k free free h)
 
--- a record with free entries, nothing owed and no watcher is sound, if an absent one has no host
-pub sound-free : (p : Process) → SizeRight (p .size) → p .breaks ≡ noBreaks → owes (p .session .owed) ≡ false → p .session .watcher ≡ 0 → (p .there ≡ false → p .host ≡ 0) → Sound p
-sound-free p n e o w a =
+-- a record with free entries, their number, nothing owed and no watcher is sound, if an absent one has no host
+pub sound-free : (p : Process) → SizeRight (p .size) → p .breaks ≡ noBreaks → p .number ≡ 0 → owes (p .session .owed) ≡ false → p .session .watcher ≡ 0 → (p .there ≡ false → p .host ≡ 0) → Sound p
+sound-free p n e z o w a =
     let none : NoBreakpoints p = λ k h. rw e (no-entry k h) in
     let never : (k : ℕ) → k < 8 → inUse (entry p k) ≡ true → ⊥ = λ k h u. true≢false (sym u ∙ none k h) in
     record {
       sized = n;
       absent = λ t. (a t, none);
-      unhosted = λ z. none;
+      unhosted = λ q. none;
       different = λ j k l h v u q. never k h u;
       even = λ k h u. absurd (never k h u);
       within = λ k h u. absurd (never k h u);
@@ -158,6 +165,7 @@ sound-free p n e o w a =
       owed = λ i. absurd (true≢false (sym i ∙ o));
       watched = λ i. absurd (i w);
       set-by = λ k h u. absurd (never k h u);
+      counted = rw (z, e) (sym count-none);
     }
 
 -- ---- entries that are alike
@@ -169,9 +177,9 @@ pub record Alike (b c : Breakpoint) : Type 0 where
   pub address : b .address ≡ c .address
   pub setter : b .setter ≡ c .setter
 
--- a record whose entries are alike is as sound
-pub sound-alike : (bs : List Breakpoint) (p : Process) → ((k : ℕ) → k < 8 → Alike (getD bs k free) (entry p k)) → Sound p → Sound (withBreaks bs p)
-sound-alike bs p a s = record {
+-- a record whose entries are alike, with as many in use, is as sound
+pub sound-alike : (bs : List Breakpoint) (p : Process) → ((k : ℕ) → k < 8 → Alike (getD bs k free) (entry p k)) → countUsed bs ≡ countUsed (p .breaks) → Sound p → Sound (withBreaks bs p)
+sound-alike bs p a n s = record {
   sized = s .sized;
   absent = λ t. (s .absent t .0, λ k h. a k h .used ∙ s .absent t .1 k h);
   unhosted = λ z k h. a k h .used ∙ s .unhosted z k h;
@@ -189,11 +197,12 @@ sound-alike bs p a s = record {
   owed = s .owed;
   watched = s .watched;
   set-by = λ k h u. rw (a k h .setter) (s .set-by k h (sym (a k h .used) ∙ u));
+  counted = s .counted ∙ sym n;
 }
 
 -- ---- fewer breakpoints
 
--- a record is as sound with each breakpoint as it was, or gone
+-- a record is as sound with each breakpoint as it was, or gone, and their number
 module _ (bs : List Breakpoint) (p : Process) (same : (k : ℕ) → k < 8 → inUse (getD bs k free) ≡ true → getD bs k free ≡ entry p k) (s : Sound p) where
   was-used : (k : ℕ) → k < 8 → inUse (getD bs k free) ≡ true → inUse (entry p k) ≡ true
   was-used k h u = sym (ap (λ (b : Breakpoint). inUse b) (same k h u)) ∙ u
@@ -205,7 +214,7 @@ module _ (bs : List Breakpoint) (p : Process) (same : (k : ℕ) → k < 8 → in
       go true u = absurd (true≢false (sym (was-used k h u) ∙ s .unhosted z k h))
       go false u = refl
 
-  pub sound-fewer : Sound (withBreaks bs p)
+  pub sound-fewer : Sound (recounted (withBreaks bs p))
   sound-fewer = record {
     sized = s .sized;
     absent = λ t. (s .absent t .0, none-fewer (s .absent t .0));
@@ -222,6 +231,7 @@ module _ (bs : List Breakpoint) (p : Process) (same : (k : ℕ) → k < 8 → in
     owed = s .owed;
     watched = s .watched;
     set-by = λ k h u. rw (same k h u) (s .set-by k h (was-used k h u));
+    counted = refl;
   }
 
 -- ---- another breakpoint in one entry
@@ -311,8 +321,9 @@ module _ (p : Process) (s : Sound p) (eight : length (p .breaks) ≡ 8) (k : ℕ
       go true u = absurd (kept-at j l u .hosted z)
       go false u = refl
 
-  pub sound-entry : Sound (withEntry k b p)
-  sound-entry = record {
+  -- with the number of breakpoints that there are then
+  pub sound-entry : (n : ℕ) → n ≡ countUsed (set (p .breaks) k b) → Sound (withNumber n (withEntry k b p))
+  sound-entry n q = record {
     sized = s .sized;
     absent = λ t. (s .absent t .0, none-at (s .absent t .0));
     unhosted = none-at;
@@ -324,4 +335,5 @@ module _ (p : Process) (s : Sound p) (eight : length (p .breaks) ≡ 8) (k : ℕ
     owed = s .owed;
     watched = s .watched;
     set-by = λ j l u. kept-at j l u .set-by;
+    counted = q;
   }

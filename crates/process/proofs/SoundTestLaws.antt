@@ -15,7 +15,7 @@ use Rattle.session.proofs.SessionLaws.{owed-host, watcher-other, session-passes
 use Rattle.process.specs.declared.record.Process.{Process}
 use Rattle.breakpoints.specs.declared.entry_query.EntryQuery.the-variants.{Lifted, At}
 use Rattle.process.specs.Sizes.{validSize}
-use Rattle.process.specs.Record.{entry}
+use Rattle.process.specs.Record.{entry, countUsed}
 use Rattle.breakpoints.specs.EntryQuery.{matches}
 use Rattle.process.specs.Find.{find}
 use Rattle.breakpoints.specs.Entry.{validBreakAddress, inUse}
@@ -35,20 +35,23 @@ module _ (p : Process) (s : soundTest p ≡ true) where
       let both = &&-right (eqb (n % 2) 0) (leb 2 n && leb n 4096) whole in
       record { even = eqb-true _ _ (&&-left (eqb (n % 2) 0) _ whole); least = leb-true _ _ (&&-left (leb 2 n) _ both); most = leb-true _ _ (&&-right (leb 2 n) (leb n 4096) both) }
 
-  others : absentHasNoHost p && (sessionSound (p .host) (p .session) && below (entrySound p) 8) ≡ true
+  others : absentHasNoHost p && (sessionSound (p .host) (p .session) && (eqb (p .number) (countUsed (p .breaks)) && below (entrySound p) 8)) ≡ true
   unfolding soundTest keepsRules
   others = &&-right (validSize (p .size)) _ s
 
-  owed-and-entries : sessionSound (p .host) (p .session) && below (entrySound p) 8 ≡ true
-  owed-and-entries = &&-right (absentHasNoHost p) _ others
+  session-and-breaks : sessionSound (p .host) (p .session) && (eqb (p .number) (countUsed (p .breaks)) && below (entrySound p) 8) ≡ true
+  session-and-breaks = &&-right (absentHasNoHost p) _ others
 
   session-sound : sessionSound (p .host) (p .session) ≡ true
-  session-sound = &&-left (sessionSound (p .host) (p .session)) _ owed-and-entries
+  session-sound = &&-left (sessionSound (p .host) (p .session)) _ session-and-breaks
+
+  number-and-entries : eqb (p .number) (countUsed (p .breaks)) && below (entrySound p) 8 ≡ true
+  number-and-entries = &&-right (sessionSound (p .host) (p .session)) _ session-and-breaks
 
   module _ (k : ℕ) (h : k < 8) (u : inUse (entry p k) ≡ true) where
     kept : usedSound p k ≡ true
     unfolding soundTest entrySound
-    kept = rw u at (below-at (entrySound p) 8 k h (&&-right (sessionSound (p .host) (p .session)) (below (entrySound p) 8) owed-and-entries))
+    kept = rw u at (below-at (entrySound p) 8 k h (&&-right (eqb (p .number) (countUsed (p .breaks))) (below (entrySound p) 8) number-and-entries))
 
     there-is-host : p .host ≡ 0 → ⊥
     unfolding usedSound
@@ -122,6 +125,7 @@ module _ (p : Process) (s : soundTest p ≡ true) where
     owed = owed-host (p .host) (p .session) session-sound;
     watched = watcher-other (p .host) (p .session) session-sound;
     set-by = set-by;
+    counted = eqb-true _ _ (&&-left (eqb (p .number) (countUsed (p .breaks))) _ number-and-entries);
   }
 
 -- ---- from the rule to the test
@@ -193,7 +197,7 @@ module _ (p : Process) (eight : length (p .breaks) ≡ 8) (s : Sound p) where
   unfolding soundTest keepsRules absentHasNoHost validSize
   sound-passes =
       let n = s .sized in
-      rw (eq-eqb _ _ (n .even), le-leb _ _ (n .least), le-leb _ _ (n .most), session-passes (p .host) (p .session) (s .owed) (s .watched), below-all (entrySound p) 8 entry-sound) (go (p .there) refl)
+      rw (eq-eqb _ _ (n .even), le-leb _ _ (n .least), le-leb _ _ (n .most), session-passes (p .host) (p .session) (s .owed) (s .watched), eq-eqb _ _ (s .counted), below-all (entrySound p) 8 entry-sound) (go (p .there) refl)
     where
       go : (t : Bool) → p .there ≡ t → (t || eqb (p .host) 0) && true ≡ true
       go true e = refl

@@ -6,20 +6,23 @@ use Prim.Native.Nat.{ℕ, _+_, _<_}
 use native.Mathlib.Omega.{arith}
 use lib.ListN.{length, length-map}
 use Rattle.process.specs.declared.record.Process.{Process}
-use Rattle.process.specs.Record.{entry, withVector, withBreaks}
+use Rattle.process.specs.Record.{entry, countUsed, withVector, withBreaks}
 use Rattle.process.specs.Find.{find}
 use Rattle.process.specs.Sound.{Sound, absentHasNoHost, liftSound, setterSound, usedSound, entrySound, keepsRules, soundTest}
 use Rattle.breakpoints.specs.Seen.{savedFrom}
 use Rattle.process.specs.Local.{Tested}
 use Rattle.process.proofs.SoundTestLaws.{passes-sound, sound-passes}
 use Rattle.breakpoints.proofs.SeenLaws.{planted-used}
-use Rattle.process.proofs.DepositLaws.{AllSpaced, map-alike}
+use Rattle.process.proofs.DepositLaws.{AllSpaced, map-alike, count-saved}
 use Rattle.process.proofs.SoundLaws.{sound-alike}
 use Rattle.breakpoints.specs.Entry.{inUse}
 
 module _ (p : Process) (bytes : List ℕ) (t : Tested p bytes) where
   pub tested-sound : Sound p
   tested-sound = passes-sound p (t .sound)
+
+  pub tested-counted : p .number ≡ countUsed (p .breaks)
+  tested-counted = tested-sound .counted
 
   -- a process with a breakpoint is there
   used-there : (k : ℕ) → k < 8 → inUse (entry p k) ≡ true → p .there ≡ true
@@ -56,5 +59,5 @@ tested-vector v p m t = record { sound = t .sound; size = t .size }
 pub tested-exchanged : (p : Process) (m s : List ℕ) → Tested p m → length (p .breaks) ≡ 8 → length s ≡ length m → Tested (withBreaks (map (savedFrom m) (p .breaks)) p) s
 tested-exchanged p m s t eight size =
     let eight′ : length (map (savedFrom m) (p .breaks)) ≡ 8 = length-map (p .breaks) (savedFrom m) ∙ eight in
-    let sound = sound-alike (map (savedFrom m) (p .breaks)) p (λ k h. map-alike m (p .breaks) k (omega arith)) (tested-sound p m t) in
+    let sound = sound-alike (map (savedFrom m) (p .breaks)) p (λ k h. map-alike m (p .breaks) k (omega arith)) (count-saved m (p .breaks)) (tested-sound p m t) in
     record { sound = sound-passes (withBreaks (map (savedFrom m) (p .breaks)) p) eight′ sound; size = size ∙ t .size }

@@ -21,7 +21,7 @@ use Rattle.process.specs.declared.report.Verdict.{Verdict}
 use Rattle.process.specs.declared.report.Verdict.the-variants.{Stops, CountsDown, GoesOn}
 use Rattle.breakpoints.specs.declared.entry_query.EntryQuery.the-variants.{Free, At}
 use Rattle.breakpoints.specs.Entry.{free, breakpointAt, withCount, inUse}
-use Rattle.process.specs.Record.{noBreaks, entry, fresh, withHost, withRun, withVector, withBreaks, withSession, withEntry}
+use Rattle.process.specs.Record.{entry, fresh, emptied, recounted, withHost, withRun, withVector, withSession, withEntry}
 use Rattle.process.specs.Find.{find}
 use Rattle.process.specs.Sound.{Sound, SizeRight, DebugsOrWatches}
 use Rattle.run_state.specs.RunState.{moving, steppingOrPassing, stoppedOrAtBreak, atBreak, released, afterPass, accepts, runAfter}
@@ -34,7 +34,7 @@ use Rattle.process.specs.Theorems.{seenOf, DepositIsSeen, SeenStays, End
 use Rattle.run_state.proofs.RunLaws.{stoppedOrAtBreak-still, atBreak-stopped, after-pass-lifts, accepts-moves}
 use Rattle.process.proofs.FindLaws.{matches-at, find-matches, find-before, at-matches}
 use Rattle.breakpoints.proofs.SeenLaws.{length-seen, restored-planted}
-use Rattle.process.proofs.DepositLaws.{sheltered-seen, map-alike}
+use Rattle.process.proofs.DepositLaws.{sheltered-seen, map-alike, count-saved}
 use Rattle.process.proofs.SoundLaws.{sound-vector, sound-run, sound-owing, sound-watched, sound-host, sound-free, sound-alike}
 use Rattle.process.proofs.PlantingLaws.{length-entry, run-replanted}
 use Rattle.process.proofs.KeptLaws.{same-host, shape-stepped, shape-wentOn}
@@ -83,7 +83,7 @@ unfolding breakSet
 break-seen host a n l g named even room = go (hasBreak a (l .process)) refl
   where
     go : (t : Bool) → hasBreak a (l .process) ≡ t
-        → seenOf (cond t (onRecord (withEntry (find (At a) (l .process)) (withCount n (entry (l .process) (find (At a) (l .process))))) l) (plantedIn (find Free (l .process)) (breakpointAt a n host) l)) ≡ seenOf l
+        → seenOf (cond t (onRecord (withEntry (find (At a) (l .process)) (withCount n (entry (l .process) (find (At a) (l .process))))) l) (onRecord recounted (plantedIn (find Free (l .process)) (breakpointAt a n host) l))) ≡ seenOf l
     go true e = seen-count l g (find (At a) (l .process)) n
     go false e = seen-new l g host a n named even e (room e)
 
@@ -238,7 +238,7 @@ running-is-planted p s r k h u = go (entry p k .lifted) refl
 end-debug-sound : (l : Local) → Proper l → Sound (endDebugged l .process)
 unfolding endDebugged
 end-debug-sound l g =
-    sound-free (withRun (released (l .process .run)) (withHost 0 (withSession noSession (withBreaks noBreaks (l .process))))) (sound-of l g .sized) refl refl refl (λ t. refl)
+    sound-free (withRun (released (l .process .run)) (withHost 0 (withSession noSession (emptied (l .process))))) (sound-of l g .sized) refl refl refl refl (λ t. refl)
 
 halt-sound : (l : Local) → Proper l → Sound (broughtToStop l .process)
 unfolding broughtToStop
@@ -323,7 +323,7 @@ unfolding deposited
 deposit-sound at string l g =
     let e = g .eight in
     sound-alike (map (savedFrom (toBeSeen at string l)) (l .process .breaks)) (l .process)
-    (λ k h. map-alike (toBeSeen at string l) (l .process .breaks) k (omega arith)) (sound-of l g)
+    (λ k h. map-alike (toBeSeen at string l) (l .process .breaks) k (omega arith)) (count-saved (toBeSeen at string l) (l .process .breaks)) (sound-of l g)
 
 break-sound : (host a n : ℕ) (l : Local) → Proper l → (l .process .host ≡ 0 → ⊥) → DebugsOrWatches (l .process) host → a % 2 ≡ 0 → a + 2 ≤ l .process .size
     → (hasBreak a (l .process) ≡ false → hasRoom (l .process) ≡ true) → Sound (breakSet host a n l .process)
@@ -334,11 +334,11 @@ break-sound host a n l g hosted set-by even within room = go (ltb (find (At a) (
     p = l .process
 
     go : (t : Bool) → ltb (find (At a) (l .process)) 8 ≡ t
-        → Sound (cond t (onRecord (withEntry (find (At a) (l .process)) (withCount n (entry (l .process) (find (At a) (l .process))))) l) (plantedIn (find Free (l .process)) (breakpointAt a n host) l) .process)
+        → Sound (cond t (onRecord (withEntry (find (At a) (l .process)) (withCount n (entry (l .process) (find (At a) (l .process))))) l) (onRecord recounted (plantedIn (find Free (l .process)) (breakpointAt a n host) l)) .process)
     go true e = sound-count (l .process) (sound-of l g) (g .eight) (find (At a) (l .process)) n (ltb-true _ _ e)
     go false e =
         let past = ltb-false (find (At a) (l .process)) 8 e in
-        sound-planted (l .process) (sound-of l g) (g .eight) (find Free (l .process)) (breakpointAt a n host) (l .bytes) (ltb-true _ _ (room e)) hosted set-by even within
+        sound-planted (l .process) (sound-of l g) (g .eight) (find Free (l .process)) (breakpointAt a n host) (l .bytes) _ refl (ltb-true _ _ (room e)) hosted set-by even within
         (λ j h m u q. find-before (At a) (l .process) j (omega (arith, past)) (at-matches a (entry (l .process) j) u q))
 
 unbreak-sound : (a : ℕ) (l : Local) → Proper l → hasBreak a (l .process) ≡ true → Sound (breakRemoved a l .process)
@@ -350,11 +350,11 @@ whole-size = record { even = refl; least = omega arith; most = omega arith }
 
 create-sound : (host size : ℕ) → SizeRight size → Sound (created host size .process)
 unfolding created fresh
-create-sound host size right = sound-free (fresh true host Stopped size) right refl refl refl (λ t. absurd (true≢false t))
+create-sound host size right = sound-free (fresh true host Stopped size) right refl refl refl refl (λ t. absurd (true≢false t))
 
 destroy-sound : Sound cleared
 unfolding cleared fresh
-destroy-sound = sound-free (fresh false 0 Running 4096) whole-size refl refl refl (λ t. refl)
+destroy-sound = sound-free (fresh false 0 Running 4096) whole-size refl refl refl refl (λ t. refl)
 
 -- ---- a report
 

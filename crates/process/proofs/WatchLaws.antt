@@ -12,7 +12,7 @@ use lib.ListN.{length, drop, getD, List·getD-map, length-map}
 use Rattle.breakpoints.specs.declared.entry.Breakpoint.{Breakpoint}
 use Rattle.breakpoints.specs.Entry.{free, isSetBy, inUse}
 use Rattle.breakpoints.specs.Seen.{restored, seen}
-use Rattle.process.specs.Record.{entry, withBreaks}
+use Rattle.process.specs.Record.{recounted, entry, withBreaks}
 use Rattle.process.specs.Sound.{Sound, DebugsOrWatches}
 use Rattle.process.specs.Local.{Local, Proper}
 use Rattle.process.specs.Request.{countSetBy, withoutHis, onlyHis, endWatched}
@@ -134,4 +134,4 @@ module _ (l : Local) (g : Proper l) where
 
   pub end-watch-sound : Sound (endWatched l .process)
   unfolding endWatched
-  end-watch-sound = sound-unwatched (withBreaks left (l .process)) (sound-fewer left (l .process) same sound) his
+  end-watch-sound = sound-unwatched (recounted (withBreaks left (l .process))) (sound-fewer left (l .process) same sound) his

@@ -12,7 +12,7 @@ use Rattle.breakpoints.specs.declared.entry.Breakpoint.{Breakpoint}
 use Rattle.breakpoints.specs.declared.entry_query.EntryQuery.the-variants.{Free, At}
 use Rattle.breakpoints.specs.Entry.{free, breakpointAt, withCount, isSetBy}
 use Rattle.process.specs.Sizes.{entryCount, memoryBytes}
-use Rattle.process.specs.Record.{noBreaks, fresh, entry, withHost, withRun, withVector, withBreaks, withSession, withEntry, owing, watchedBy}
+use Rattle.process.specs.Record.{fresh, emptied, recounted, entry, withHost, withRun, withVector, withBreaks, withSession, withEntry, owing, watchedBy}
 use Rattle.process.specs.Find.{find}
 use Rattle.run_state.specs.RunState.{moving, atBreak, released}
 use Rattle.session.specs.declared.Owed.the-variants.{Nothing, Continue, Step}
@@ -75,7 +75,7 @@ debugged host = onRecord (withHost host)
 unfoldable pub endDebugged : Local → Local
 endDebugged l =
     local
-    (withRun (released (l .process .run)) (withHost 0 (withSession noSession (withBreaks noBreaks (l .process)))))
+    (withRun (released (l .process .run)) (withHost 0 (withSession noSession (emptied (l .process)))))
     (seen (l .process .breaks) (l .bytes))
 
 -- ---- WATCH and END WATCH
@@ -96,7 +96,7 @@ onlyHis host b = cond (isSetBy host b) b free
 unfoldable pub endWatched : Local → Local
 endWatched l =
     local
-    (watchedBy 0 (withBreaks (map (withoutHis (l .process .session .watcher)) (l .process .breaks)) (l .process)))
+    (watchedBy 0 (recounted (withBreaks (map (withoutHis (l .process .session .watcher)) (l .process .breaks)) (l .process))))
     (seen (map (onlyHis (l .process .session .watcher)) (l .process .breaks)) (l .bytes))
 
 -- ---- STOP, RESUME, SINGLE STEP, PROCEED BPT
@@ -181,11 +181,11 @@ unfoldable pub breakSet : ℕ → ℕ → ℕ → Local → Local
 breakSet host a n l =
     cond (hasBreak a (l .process))
     (onRecord (withEntry (find (At a) (l .process)) (withCount n (entry (l .process) (find (At a) (l .process))))) l)
-    (plantedIn (find Free (l .process)) (breakpointAt a n host) l)
+    (onRecord recounted (plantedIn (find Free (l .process)) (breakpointAt a n host) l))
 
 -- 'UNBREAK puts the word back if it is planted.'
 unfoldable pub breakRemoved : ℕ → Local → Local
-breakRemoved a l = removedFrom (find (At a) (l .process)) l
+breakRemoved a l = onRecord recounted (removedFrom (find (At a) (l .process)) l)
 
 -- ---- CREATE and DESTROY
 

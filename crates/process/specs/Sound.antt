@@ -11,7 +11,7 @@ use Rattle.process.specs.declared.record.Process.{Process}
 use Rattle.breakpoints.specs.declared.entry_query.EntryQuery.the-variants.{Lifted, At}
 use Rattle.breakpoints.specs.Entry.{validBreakAddress, inUse}
 use Rattle.process.specs.Sizes.{entryCount, memoryBytes, validSize}
-use Rattle.process.specs.Record.{entry}
+use Rattle.process.specs.Record.{entry, countUsed}
 use Rattle.process.specs.Find.{find}
 
 -- the process has no breakpoints
@@ -50,6 +50,8 @@ pub record Sound (p : Process) : Type 0 where
   pub watched : (p .session .watcher ≡ 0 → ⊥) → (p .host ≡ 0 → ⊥) × (p .session .watcher ≡ p .host → ⊥)
   -- 'who set a breakpoint debugs or watches its process'
   pub set-by : (k : ℕ) → k < entryCount → inUse (entry p k) ≡ true → DebugsOrWatches p (entry p k .setter)
+  -- '2 covers a wrong stored number'
+  pub counted : p .number ≡ countUsed (p .breaks)
 
 -- an absent process has no host
 unfoldable pub absentHasNoHost : Process → Bool
@@ -81,9 +83,9 @@ usedSound p k =
 unfoldable pub entrySound : Process → ℕ → Bool
 entrySound p k = not (inUse (entry p k)) || usedSound p k
 
--- an absent process has no host, its session may be as it is, and every entry keeps the rules
+-- an absent process has no host, its session may be as it is, its number of breakpoints is right, and every entry keeps the rules
 unfoldable pub keepsRules : Process → Bool
-keepsRules p = absentHasNoHost p && (sessionSound (p .host) (p .session) && below (entrySound p) entryCount)
+keepsRules p = absentHasNoHost p && (sessionSound (p .host) (p .session) && (eqb (p .number) (countUsed (p .breaks)) && below (entrySound p) entryCount))
 
 -- the test of soundness
 unfoldable pub soundTest : Process → Bool

@@ -6,7 +6,7 @@ use session::Session;
 ghost use mathlib.Core.Path.{_≡_};
 ghost use Prim.Native.Nat.{_<_};
 ghost use Rattle.process.specs.Sizes.{entryCount};
-ghost use Rattle.process.specs.Record.{fresh, withRun, withHost, withVector, withEntry, withBreaks, noBreaks, withSession, owing, watchedBy};
+ghost use Rattle.process.specs.Record.{fresh, withRun, withHost, withVector, withEntry, emptied, withNumber, withSession, owing, watchedBy};
 ghost use Rattle.session.specs.Session.{noSession};
 ghost use Rattle.process.specs.Request.{pc};
 
@@ -17,7 +17,8 @@ pub const MEMORY_BYTES: usize = 4096;
 
 pub const VECTOR_BYTES: usize = 18;
 
-// What is known of a process. Host 0 means nobody; its bytes are as many as its size says; the vector is R0 to R5, SP, PC, PS.
+// What is known of a process. Host 0 means nobody; its bytes are as many as its size says; the vector is R0 to R5, SP, PC, PS; the number is
+// that of its breakpoints.
 pub struct Process {
     pub there: bool,
     pub host: u8,
@@ -26,6 +27,7 @@ pub struct Process {
     pub breaks: [Breakpoint; ENTRIES],
     pub size: u16,
     pub session: Session,
+    pub number: u8,
 }
 
 impl Process {
@@ -44,6 +46,7 @@ impl Process {
             breaks: breaks,
             size: size,
             session: Session::none(),
+            number: 0,
         }
     }
 
@@ -74,6 +77,7 @@ impl Process {
             breaks: breaks,
             size: self.size,
             session: session,
+            number: self.number,
         }
     }
 
@@ -119,11 +123,20 @@ impl Process {
     }
 
     pub(crate) fn without_breaks(mut self) -> Self
-        ensures { λ r. ⌜ r ≡ withBreaks noBreaks self ⌝ }
+        ensures { λ r. ⌜ r ≡ emptied self ⌝ }
     {
         let none = Breakpoint::free();
         let breaks = [none; ENTRIES];
         self.breaks = breaks;
+        self.number = 0;
+        self
+    }
+
+    // With another number of breakpoints.
+    pub(crate) fn with_number(mut self, number: u8) -> Self
+        ensures { λ r. ⌜ r ≡ withNumber number self ⌝ }
+    {
+        self.number = number;
         self
     }
 }

@@ -7,11 +7,11 @@ use breakpoints::valid_break_address;
 ghost use mathlib.Core.Path.{_≡_};
 ghost use mathlib.Core.Bool.{true};
 ghost use Prim.Native.Nat.{_<_};
-ghost use lib.Dec.{ltb};
+ghost use lib.Dec.{eqb, ltb};
 ghost use Rattle.breakpoints.specs.declared.entry_query.EntryQuery.the-variants.{Lifted};
 ghost use Rattle.process.specs.Find.{find};
 ghost use Rattle.process.specs.Sizes.{entryCount, validSize};
-ghost use Rattle.process.specs.Record.{entry};
+ghost use Rattle.process.specs.Record.{entry, countUsed};
 ghost use Rattle.process.specs.Local.{extent};
 ghost use Rattle.process.specs.Sound.{absentHasNoHost, addressIsUnique, liftSound, setterSound, entrySound, keepsRules, soundTest};
 ghost use Rattle.breakpoints.specs.Entry.{inUse};
@@ -117,6 +117,26 @@ impl Process {
         self.lift_sound(k, b.lifted, earlier)
     }
 
+    // The number is that of the entries in use. It ends at the first entry that is one too many.
+    fn number_is_right(self) -> bool
+        ensures { λ r. ⌜ r ≡ eqb (self .number) (countUsed (self .breaks)) ⌝ }
+    {
+        let breaks = self.breaks;
+        let mut left = self.number;
+        let mut k = 0;
+        while k < ENTRIES {
+            let b = breaks[k];
+            if b.setter != 0 {
+                if left == 0 {
+                    return false;
+                }
+                left -= 1;
+            }
+            k += 1;
+        }
+        left == 0
+    }
+
     // Every entry is read once, and what is asked of it is handed on, also that one was lifted: an entry read anew costs a copy of all eight.
     fn keeps_rules(self) -> bool
         ensures { λ r. ⌜ r ≡ keepsRules self ⌝ }
@@ -126,6 +146,9 @@ impl Process {
         }
         let session = self.session;
         if !session.sound(self.host) {
+            return false;
+        }
+        if !self.number_is_right() {
             return false;
         }
         let breaks = self.breaks;

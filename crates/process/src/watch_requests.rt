@@ -9,7 +9,7 @@ ghost use Prim.Native.Nat.{_+_, _<_};
 ghost use lib.ListN.{length};
 ghost use Rattle.breakpoints.specs.Seen.{restored, seen};
 ghost use Rattle.process.specs.Local.{local, Tested};
-ghost use Rattle.process.specs.Record.{watchedBy, withBreaks};
+ghost use Rattle.process.specs.Record.{watchedBy, withBreaks, recounted};
 ghost use Rattle.process.specs.Request.{withoutHis, onlyHis, endWatched};
 ghost use Rattle.breakpoints.specs.Entry.{inUse};
 
@@ -36,18 +36,23 @@ impl Process {
     // Frees the breakpoints that this host has set, and puts the words of those that are planted back.
     fn remove_set_by(mut self, host: u8, bytes: &mut [u8]) -> Self
         requires { ⌜ Tested self (now bytes) ⌝ }
-        ensures { λ r. ⌜ r ≡ withBreaks (map (withoutHis host) (self .breaks)) self ⌝ }
+        ensures { λ r. ⌜ r ≡ recounted (withBreaks (map (withoutHis host) (self .breaks)) self) ⌝ }
         ensures { λ _. ⌜ now (bytes .exit) ≡ seen (map (onlyHis host) (self .breaks)) (now (bytes .entry)) ⌝ }
     {
         let old = self.breaks;
         let mut new = old;
+        let mut number = self.number;
         let mut k = 0;
         while k < ENTRIES {
             let b = old[k];
             new[k] = without_his(b, host, bytes);
+            if b.is_set_by(host) {
+                number -= 1;
+            }
             k += 1;
         }
         self.breaks = new;
+        self.number = number;
         self
     }
 

@@ -162,7 +162,7 @@ each-row = (
                           keeping 12 _ (λ h s l k. same-entry _),
                           (
                             (λ h e s l g p k low u. ended (inr e) (sym (eqb-true _ (h .host) (p .right))) (freed _ _ (cleared-freed k) refl)),
-                            (keeping 14 _ (λ h s l k. same-entry _), (end-watch-entries, tt)),
+                            (keeping 14 _ (λ h s l k. same-entry _), (end-watch-entries, (keeping 16 _ (λ h s l k. same-entry _), tt))),
                           ),
                         ),
                       ),

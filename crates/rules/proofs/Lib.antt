@@ -34,3 +34,4 @@ pub mod WatchLaws
 pub mod LookLaws
 pub mod ToldLaws
 pub mod BreakLifeLaws
+pub mod StatusLaws

@@ -114,7 +114,7 @@ each-row = (
                             holding 13 _ (λ u host e. e),
                             (
                               (λ h s l g p a. (refl, (refl, refl))),
-                              ((λ h s l g p a. looked (endWatched l) l (seen-stays .end-watch l g) (going-endWatched l)), tt),
+                              ((λ h s l g p a. looked (endWatched l) l (seen-stays .end-watch l g) (going-endWatched l)), ((λ h s l g p a. (refl, (refl, refl))), tt)),
                             ),
                           ),
                         ),

@@ -73,7 +73,7 @@ owed-breakSet host a n l = by-test (λ (k : Local). owedIn k ≡ owedIn l) (hasB
 each-row : Each OwedRow 0 rules
 unfolding endDebugged endWatched stopped deposited breakRemoved removedFrom cleared fresh
 each-row =
-    ((λ h s l. refl), ((λ h s l. refl), ((λ h s l. refl), ((λ h s l. refl), ((λ h s l. refl), ((λ h s l. refl), ((λ h s l. refl), ((λ h s l. refl), ((λ h s l. owed-breakSet (h .host) (h .arg1) (h .arg2) l), ((λ h s l. refl), ((λ h s l. owed-stepped l), ((λ h s l. owed-proceeded l), ((λ h s l. refl), ((λ h s l. refl), ((λ h s l. refl), ((λ h s l. refl), tt))))))))))))))))
+    ((λ h s l. refl), ((λ h s l. refl), ((λ h s l. refl), ((λ h s l. refl), ((λ h s l. refl), ((λ h s l. refl), ((λ h s l. refl), ((λ h s l. refl), ((λ h s l. owed-breakSet (h .host) (h .arg1) (h .arg2) l), ((λ h s l. refl), ((λ h s l. owed-stepped l), ((λ h s l. owed-proceeded l), ((λ h s l. refl), ((λ h s l. refl), ((λ h s l. refl), ((λ h s l. refl), ((λ h s l. refl), tt)))))))))))))))))
 
 -- an op code past the table has no row, and does not cancel
 past-owed : (cmd : ℕ) → length ops ≤ cmd → OwedRow cmd (ruleOf cmd)

@@ -137,9 +137,11 @@ module _ (s : State) (r : Ready s) (c : Call) (q : ℕ) (a : Access) (x : Acted 
 
 -- ---- requests
 
--- a granted request with this op code that names process p: what it passed, and what it leaves there
+-- a granted request with this op code that names process p: who asked it, what it passed, and what it leaves there
 pub record Named (cmd p : ℕ) (s : State) (c : Call) : Type 0 where
   pub string : List ℕ
+  pub asked : asker c ≡ by (fieldsOf c .host)
+  pub acted : Acted s c p (ruleAccess (ruleOf cmd) (fieldsOf c) string)
   pub passing : Passing (ruleOf cmd) (fieldsOf c) string (recordOf s p)
   pub left : localOf (step s c .after) p ≡ ruleOf cmd .effect (fieldsOf c) string (localOf s p)
 
@@ -166,12 +168,12 @@ module _ (s : State) (r : Ready s) (m buffer : List ℕ) where
   request-passing sent x = rule-passing (ruleOf (h .cmd)) h (stringOf m) (sent .asked .hosted) (sent .carried) (localOf s (h .pid)) (x .passes)
 
   request-named : Granted s (request m buffer) → names (headerOf m .cmd) ≡ true → Named (headerOf m .cmd) (headerOf m .pid) s (request m buffer)
-  unfolding turnOf requestTurn requestPlace Reached fieldsOf
+  unfolding turnOf requestTurn requestPlace Reached fieldsOf asker
   request-named granted n = go (came s r asking)
     where
       go : Refused s asking ⊎ ((firstFailing (turnOf s asking .tests) ≡ 0) × Reached s asking (turnOf s asking .place)) → Named (h .cmd) (h .pid) s asking
       go (inl f) = absurd (true≢false (sym granted ∙ f .ungranted))
-      go (inr x) = let y = rw n at (x .1) in record { string = stringOf m; passing = request-passing (request-sent (x .0)) y; left = named-left y }
+      go (inr x) = let y = rw n at (x .1) in record { string = stringOf m; asked = refl; acted = y; passing = request-passing (request-sent (x .0)) y; left = named-left y }
 
   named-reach : Sent m → Acted s (request m buffer) (headerOf m .pid) (ruleAccess (ruleOf (headerOf m .cmd)) (headerOf m) (stringOf m)) → Reach (headerOf m .pid) s (request m buffer)
   unfolding fieldsOf asker

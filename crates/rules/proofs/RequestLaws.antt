@@ -1,5 +1,5 @@
 -- The law of requests. Assumes nothing.
-use mathlib.Core.Path.{_≡_, refl, sym, ap, _∙_}
+use mathlib.Core.Path.{_≡_, refl, sym, ap, ap₂, _∙_}
 use mathlib.Core.Bool.{Bool, true, false, not, cond, _&&_, _||_, true≢false}
 use mathlib.Core.List.{List, [], _∷_, _++_}
 use mathlib.Core.Logic.{_⊎_, inl, inr}
@@ -88,7 +88,7 @@ module _ (cmd : ℕ) (r : Rule) (row : Row cmd r) (h : Header) (string : List �
       go (inl i) = inl i
       go (inr t) = inr (record {
         none = open-none (t .free);
-        blind = λ l k. ap (λ (string : List ℕ). alone (written h string)) (t .free .shown h l ∙ sym (t .free .shown h k));
+        blind = λ l k. ap₂ (λ (header : Header) (string : List ℕ). alone (written header string)) (t .free .header h l ∙ sym (t .free .header h k)) (t .free .shown h l ∙ sym (t .free .shown h k));
         takes = λ v. t .takes (h .host) asked v;
       })
 

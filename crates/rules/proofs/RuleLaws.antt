@@ -26,7 +26,7 @@ use Rattle.process.specs.Report.{reported}
 use Rattle.process.proofs.KeptLaws.{Shape, shape, same-words, shape-stopped, shape-stepped, shape-proceeded, shape-reported}
 use Rattle.process.proofs.ProperLaws.{stopped-proper, debugged-proper, watched-proper, end-watched-proper, break-proper}
 use Rattle.process.proofs.WatcherKept.{watcherOf, watcher-stopped, watcher-stepped, watcher-proceeded, watcher-reported}
-use Rattle.rules.specs.Rule.{Public, public, Rule, rules, noRule, debugRule, endDebugRule, examineRule, breakRule, unbreakRule, watchRule, endWatchRule, anotherDebugs, noOtherWatches, insider, plain, whileRun, inRange, upTo, ruleOf}
+use Rattle.rules.specs.Rule.{Public, public, Rule, rules, noRule, debugRule, endDebugRule, examineRule, breakRule, unbreakRule, watchRule, endWatchRule, statusRule, anotherDebugs, noOtherWatches, insider, plain, whileRun, inRange, upTo, ruleOf}
 use Rattle.rules.specs.Access.{Asker, by}
 use Rattle.rules.specs.Ready.{NineWords}
 use Rattle.rules.specs.Isolation.{publicThen}
@@ -45,13 +45,14 @@ pub record Passing (r : Rule) (h : Header) (string : List ℕ) (p : Process) : T
   pub found : r .found h p ≡ true
   pub his : r .his h p ≡ true
 
--- a rule that asks no more than the public part, and shows nothing
+-- a rule that asks no more than the public part, and shows nothing: the reply has the request's own header
 pub record Open (r : Rule) : Type 0 where
   pub runs : (x : Run) → r .runs x ≡ true
   pub range : (h : Header) (size : ℕ) → r .range h size ≡ true
   pub room : (h : Header) (p : Process) → r .room h p ≡ true
   pub found : (h : Header) (p : Process) → r .found h p ≡ true
   pub his : (h : Header) (p : Process) → r .his h p ≡ true
+  pub header : (h : Header) (l : Local) → r .header h l ≡ h
   pub shown : (h : Header) (l : Local) → r .shown h l ≡ []
 
 -- what is done to a process leaves its public part
@@ -200,7 +201,7 @@ no-row : (cmd : ℕ) → Kept cmd → Row cmd noRule
 no-row cmd kept = quiet-row cmd noRule kept host-in (λ h s l. refl) (λ h s l n. n) (λ h s l g p. g)
 
 debug-open : Open debugRule
-debug-open = record { runs = λ x. refl; range = λ h size. refl; room = λ h p. refl; found = λ h p. refl; his = λ h p. refl; shown = λ h l. refl }
+debug-open = record { runs = λ x. refl; range = λ h size. refl; room = λ h p. refl; found = λ h p. refl; his = λ h p. refl; header = λ h l. refl; shown = λ h l. refl }
 
 pub alone : (u : Public) (asker : ℕ) → eqb (u .host) 0 || eqb (u .host) asker ≡ true → (u .host ≡ 0) ⊎ (u .host ≡ asker)
 alone u asker = go (eqb (u .host) 0) refl
@@ -225,7 +226,7 @@ debug-row = record {
     begins h e u (inr i) = record { debugs = inl (sym i); watches = inl refl }
 
 end-debug-open : Open endDebugRule
-end-debug-open = record { runs = λ x. refl; range = λ h size. refl; room = λ h p. refl; found = λ h p. refl; his = λ h p. refl; shown = λ h l. refl }
+end-debug-open = record { runs = λ x. refl; range = λ h size. refl; room = λ h p. refl; found = λ h p. refl; his = λ h p. refl; header = λ h l. refl; shown = λ h l. refl }
 
 end-debug-row : Row 2 endDebugRule
 unfolding endDebugged public publicThen
@@ -262,6 +263,9 @@ resume-row = quiet-row 5 (whileRun stoppedOrAtBreak (λ h s. resumed)) (by-other
 
 examine-row : Row 6 examineRule
 examine-row = quiet-row 6 examineRule (by-others 6 refl refl refl refl refl) (λ u asker n e. e) (λ h s l. refl) (λ h s l n. n) (λ h s l g p. g)
+
+status-row : Row 16 statusRule
+status-row = quiet-row 16 statusRule (by-others 16 refl refl refl refl refl) (λ u asker n e. e) (λ h s l. refl) (λ h s l n. n) (λ h s l g p. g)
 
 vector-row : Row 7 (inRange (λ h size. upTo 18 h) (λ h s. vectorDeposited (h .arg1) s))
 unfolding public vectorAfter vectorOf
@@ -310,7 +314,7 @@ proceed-row =
     (λ h s l g p. proceed-proper l g (p .runs))
 
 destroy-open : Open (plain (λ h s. destroyed))
-destroy-open = record { runs = λ x. refl; range = λ h size. refl; room = λ h p. refl; found = λ h p. refl; his = λ h p. refl; shown = λ h l. refl }
+destroy-open = record { runs = λ x. refl; range = λ h size. refl; room = λ h p. refl; found = λ h p. refl; his = λ h p. refl; header = λ h l. refl; shown = λ h l. refl }
 
 destroy-row : Row 13 (plain (λ h s. destroyed))
 unfolding publicThen public cleared fresh
@@ -331,7 +335,7 @@ destroy-row = record {
 -- ---- WATCH and END WATCH
 
 watch-open : Open watchRule
-watch-open = record { runs = λ x. refl; range = λ h size. refl; room = λ h p. refl; found = λ h p. refl; his = λ h p. refl; shown = λ h l. refl }
+watch-open = record { runs = λ x. refl; range = λ h size. refl; room = λ h p. refl; found = λ h p. refl; his = λ h p. refl; header = λ h l. refl; shown = λ h l. refl }
 
 -- 8: a host debugs it, and it is another than the asker
 debugged-by-another : (u : Public) (asker : ℕ) → anotherDebugs u asker ≡ true → (u .host ≡ 0 → ⊥) × (u .host ≡ asker → ⊥)
@@ -366,7 +370,7 @@ watch-row = record {
     begins h e u (inr i) = record { debugs = inl refl; watches = inl (sym i) }
 
 end-watch-open : Open endWatchRule
-end-watch-open = record { runs = λ x. refl; range = λ h size. refl; room = λ h p. refl; found = λ h p. refl; his = λ h p. refl; shown = λ h l. refl }
+end-watch-open = record { runs = λ x. refl; range = λ h size. refl; room = λ h p. refl; found = λ h p. refl; his = λ h p. refl; header = λ h l. refl; shown = λ h l. refl }
 
 end-watch-row : Row 15 endWatchRule
 unfolding endWatched public publicThen
@@ -404,4 +408,4 @@ each-rule F e cmd h = let same : cmd + 0 ≡ cmd = omega arith in subst (λ (n :
 pub rule-row : (cmd : ℕ) → cmd < length ops → Row cmd (ruleOf cmd)
 rule-row =
     each-rule Row
-    (no-row 0 (by-others 0 refl refl refl refl refl), (debug-row, (end-debug-row, (stop-row, (deposit-row, (resume-row, (examine-row, (vector-row, (break-row, (unbreak-row, (step-row, (proceed-row, (no-row 12 (by-others 12 refl refl refl refl refl), (destroy-row, (watch-row, (end-watch-row, tt))))))))))))))))
+    (no-row 0 (by-others 0 refl refl refl refl refl), (debug-row, (end-debug-row, (stop-row, (deposit-row, (resume-row, (examine-row, (vector-row, (break-row, (unbreak-row, (step-row, (proceed-row, (no-row 12 (by-others 12 refl refl refl refl refl), (destroy-row, (watch-row, (end-watch-row, (status-row, tt)))))))))))))))))

@@ -98,7 +98,7 @@ module _ (m buffer : List ℕ) (s : State) where
 
       near : (a : Access) (t : Bool) → eqb (numberAt a (localOf s (h .pid))) 0 ≡ t → a ≡ ruleAccess (ruleOf (h .cmd)) h (stringOf m)
           → names (h .cmd) ≡ true → requestNumber s m buffer ≡ numberAt a (localOf s (h .pid)) → requestStep m buffer s ≡ reached (atProcess (h .pid) a) (single buffer) s
-      near a true e i n number = rw (number, e, n, i, length-written h (ruleOf (h .cmd) .shown h (localOf s (h .pid))))
+      near a true e i n number = rw (number, e, n, i, length-written (ruleOf (h .cmd) .header h (localOf s (h .pid))) (ruleOf (h .cmd) .shown h (localOf s (h .pid))))
       near a false e i n number = request-refused (rw number e) ∙ rw (number, e, i)
 
       go : (t : Bool) → names (headerOf m .cmd) ≡ t → (u : Bool) → creates (headerOf m .cmd) ≡ u

@@ -19,3 +19,4 @@ pub mod Ledger
 pub mod Loops
 pub mod Owed
 pub mod Watch
+pub mod Status

@@ -10,7 +10,8 @@ use Rattle.run_state.specs.declared.Run.{Run}
 use Rattle.process.specs.declared.record.Process.{Process}
 use Rattle.breakpoints.specs.Entry.{validBreakAddress}
 use Rattle.process.specs.Local.{Local}
-use Rattle.run_state.specs.RunState.{stoppedOrAtBreak, atBreak}
+use Rattle.format.specs.Answer.{withArgs}
+use Rattle.run_state.specs.RunState.{stoppedOrAtBreak, atBreak, runNumber}
 use Rattle.process.specs.Request.{hasBreak, hasRoomFor, isHis, debugged, endDebugged, watched, endWatched, stopped, resumed, stepped, proceeded, examined, deposited, vectorDeposited, breakSet, breakRemoved, destroyed}
 use Rattle.ops.specs.Codes.{CREATE}
 use Rattle.process.specs.Sizes.{memoryBytes}
@@ -26,7 +27,7 @@ pub record Public : Type 0 where
 unfoldable pub public : Process → Public
 public p = record { there = p .there; host = p .host; watcher = p .session .watcher; size = p .size }
 
--- each field but the last two is true where a test passes
+-- each field but the last three is true where a test passes
 pub record Rule : Type 0 where
   -- test 8, by the public part and the asker
   pub right : Public → ℕ → Bool
@@ -44,6 +45,8 @@ pub record Rule : Type 0 where
   pub his : Header → Process → Bool
   -- what it does to the process, with the string of the request
   pub effect : Header → List ℕ → Local → Local
+  -- the header of the reply
+  pub header : Header → Local → Header
   -- the string of the reply
   pub shown : Header → Local → List ℕ
 
@@ -87,6 +90,7 @@ plain effect = record {
   found = λ h p. true;
   his = λ h p. true;
   effect = effect;
+  header = λ h l. h;
   shown = λ h l. [];
 }
 
@@ -101,6 +105,7 @@ whileRun runs effect = record {
   found = λ h p. true;
   his = λ h p. true;
   effect = effect;
+  header = λ h l. h;
   shown = λ h l. [];
 }
 
@@ -115,6 +120,7 @@ inRange range effect = record {
   found = λ h p. true;
   his = λ h p. true;
   effect = effect;
+  header = λ h l. h;
   shown = λ h l. [];
 }
 
@@ -129,6 +135,7 @@ debugRule = record {
   found = λ h p. true;
   his = λ h p. true;
   effect = λ h s. debugged (h .host);
+  header = λ h l. h;
   shown = λ h l. [];
 }
 
@@ -147,6 +154,7 @@ examineRule = record {
   found = λ h p. true;
   his = λ h p. true;
   effect = λ h s l. l;
+  header = λ h l. h;
   shown = λ h. examined (h .arg1) (h .arg2);
 }
 
@@ -162,6 +170,7 @@ breakRule = record {
   found = λ h p. true;
   his = λ h p. isHis (h .host) (h .arg1) p;
   effect = λ h s. breakSet (h .host) (h .arg1) (h .arg2);
+  header = λ h l. h;
   shown = λ h l. [];
 }
 
@@ -176,6 +185,7 @@ unbreakRule = record {
   found = λ h p. hasBreak (h .arg1) p;
   his = λ h p. isHis (h .host) (h .arg1) p;
   effect = λ h s. breakRemoved (h .arg1);
+  header = λ h l. h;
   shown = λ h l. [];
 }
 
@@ -190,6 +200,7 @@ watchRule = record {
   found = λ h p. true;
   his = λ h p. true;
   effect = λ h s. watched (h .host);
+  header = λ h l. h;
   shown = λ h l. [];
 }
 
@@ -204,6 +215,26 @@ endWatchRule = record {
   found = λ h p. true;
   his = λ h p. true;
   effect = λ h s. endWatched;
+  header = λ h l. h;
+  shown = λ h l. [];
+}
+
+-- 8 fails for a STATUS by any other: 'Debugging host or watcher only.'
+abbrev pub mayAskStatus : Public → ℕ → Bool
+mayAskStatus = insider
+
+-- STATUS 'answers it in ARG1, the run state in ARG2 (0 to 4 in document 01's listed order, 5 passing)'
+abbrev pub statusRule : Rule
+statusRule = record {
+  right = mayAskStatus;
+  unwatched = λ u asker. true;
+  runs = λ r. true;
+  range = λ h size. true;
+  room = λ h p. true;
+  found = λ h p. true;
+  his = λ h p. true;
+  effect = λ h s l. l;
+  header = λ h l. withArgs (l .process .number) (runNumber (l .process .run)) h;
   shown = λ h l. [];
 }
 
@@ -230,6 +261,7 @@ rules =
     ∷ plain (λ h s. destroyed)  -- 13 DESTROY PROCESS
     ∷ watchRule  -- 14 WATCH
     ∷ endWatchRule  -- 15 END WATCH
+    ∷ statusRule  -- 16 STATUS
     ∷ []
 
 -- the rule of an op code

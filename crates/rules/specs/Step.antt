@@ -38,7 +38,7 @@ replied h string buffer s = record { answer = replyOf h string buffer; after = s
 -- a request that names a process, granted
 unfoldable pub grantedNamed : Header → List ℕ → List ℕ → State → StepResult
 grantedNamed h string buffer s =
-    replied h (ruleOf (h .cmd) .shown h (localOf s (h .pid))) buffer
+    replied (ruleOf (h .cmd) .header h (localOf s (h .pid))) (ruleOf (h .cmd) .shown h (localOf s (h .pid))) buffer
     (put (h .pid) (ruleOf (h .cmd) .effect h string (localOf s (h .pid))) s)
 
 -- CREATE: 'the lowest absent number'

@@ -36,7 +36,7 @@ unfoldable pub ruleAccess : Rule → Header → List ℕ → Access
 ruleAccess r h string = record {
   outer = λ u. test 7 (not (u .there)) ∷ outerTests r h u;
   inner = λ l. innerTests r h (l .process);
-  reply = λ l. alone (written h (r .shown h l));
+  reply = λ l. alone (written (r .header h l) (r .shown h l));
   refusal = λ l. cantBytes h;
   effect = r .effect h string;
 }

@@ -7,6 +7,7 @@ ghost use Rattle.rules.specs.Ledger.{Ledger};
 ghost use Rattle.rules.specs.Loops.{Loops};
 ghost use Rattle.rules.specs.Owed.{OwedAnswers};
 ghost use Rattle.rules.specs.Watch.{Watching};
+ghost use Rattle.rules.specs.Status.{HowManySet};
 ghost use Rattle.rules.specs.Together.{Isolation};
 
 // Every call is answered by the number of the first test that fails, or granted where none does; a refusal changes nothing; a sound state
@@ -55,4 +56,10 @@ pub fn owed_answers()
 // is told there, of all else the host that debugs, and nobody besides.
 pub fn watching()
     ensures { λ _. ⌜ Watching ⌝ }
+{}
+
+// How many are set: the number in a record is that of its breakpoints after every call, and STATUS answers it and the run state, to the host that
+// debugs the process or watches it, and changes nothing.
+pub fn how_many_set()
+    ensures { λ _. ⌜ HowManySet ⌝ }
 {}

@@ -1,7 +1,8 @@
 -- A call at one process, by the number of its tests. Assumes nothing.
 use mathlib.Core.Path.{_≡_, refl, sym, ap, _∙_}
 use mathlib.Core.List.{List, []}
-use mathlib.Core.Bool.{Bool, true, false, not, cond, true≢false}
+use mathlib.Core.Bool.{Bool, true, false, not, cond, _||_, true≢false}
+use mathlib.Core.Logic.{_⊎_, inl, inr}
 use Prim.Native.Nat.{ℕ, zero, suc, _≤_}
 use native.Mathlib.Omega.{arith}
 use borrow.Author.Tests.{eqb-true, ne-eqb, ltb-true, ltb-false, not-false}
@@ -23,16 +24,25 @@ use Rattle.checks.specs.Decision.{processTests}
 use Rattle.service.proofs.EffectLaws.{stays}
 use Rattle.service.specs.At.{leaving, answer, cantBy, changes, namedBy, namedAt, createdAt, reportBy}
 
--- ---- EXAMINE leaves its process
+-- ---- EXAMINE and STATUS leave their process
 
-named-kept : (n : ℕ) (h : Header) (string buffer : List ℕ) (l : Local) → h .cmd ≡ 6 → namedBy n h string buffer l .left ≡ l
+named-kept : (n : ℕ) (h : Header) (string buffer : List ℕ) (l : Local) → (h .cmd ≡ 16) ⊎ (h .cmd ≡ 6) → namedBy n h string buffer l .left ≡ l
 unfolding namedBy ruleOf
-named-kept zero h string buffer l e = rw e (ap (local (l .process)) (sym (stays (l .bytes))))
+named-kept zero h string buffer l (inl e) = rw e (ap (local (l .process)) (sym (stays (l .bytes))))
+named-kept zero h string buffer l (inr e) = rw e (ap (local (l .process)) (sym (stays (l .bytes))))
 named-kept (suc n) h string buffer l e = refl
+
+-- one of two that are compared
+one-of : (n a b : ℕ) → eqb n a || eqb n b ≡ true → (n ≡ a) ⊎ (n ≡ b)
+one-of n a b = go (eqb n a) refl
+  where
+    go : (t : Bool) → eqb n a ≡ t → t || eqb n b ≡ true → (n ≡ a) ⊎ (n ≡ b)
+    go true e i = inl (eqb-true n a e)
+    go false e i = inr (eqb-true n b i)
 
 pub unchanged : (h : Header) (string buffer : List ℕ) (l : Local) → changes (h .cmd) ≡ false → namedAt h string buffer l .left ≡ l
 unfolding changes namedAt
-unchanged h string buffer l e = named-kept (firstFailing (processTests h (l .process))) h string buffer l (eqb-true (h .cmd) 6 (not-false _ e))
+unchanged h string buffer l e = named-kept (firstFailing (processTests h (l .process))) h string buffer l (one-of (h .cmd) 16 6 (not-false _ e))
 
 -- ---- what a request leaves of its process, by its outcome and its op code
 
@@ -75,7 +85,7 @@ destroyed-gone h string buffer l = gone-by (firstFailing (processTests h (l .pro
 -- and after any other request it is there, or absent, as it was
 rule-stays : (cmd : ℕ) → (cmd ≡ DESTROY → ⊥) → (h : Header) (string : List ℕ) (l : Local) → ruleOf cmd .effect h string l .process .there ≡ l .process .there
 unfolding ruleOf public publicThen
-rule-stays cmd other h string l = go (ltb cmd 16) refl
+rule-stays cmd other h string l = go (ltb cmd 17) refl
   where
     shown : (a b w e : Bool) (u : Public)
         → cond a (record { there = u .there; host = h .host; watcher = u .watcher; size = u .size })
@@ -89,11 +99,11 @@ rule-stays cmd other h string l = go (ltb cmd 16) refl
     shown false false false true u = refl
     shown false false false false u = refl
 
-    go : (t : Bool) → ltb cmd 16 ≡ t → ruleOf cmd .effect h string l .process .there ≡ l .process .there
+    go : (t : Bool) → ltb cmd 17 ≡ t → ruleOf cmd .effect h string l .process .there ≡ l .process .there
     go true e =
-        ap (λ (u : Public). u .there) (rule-row cmd (omega (arith, ltb-true cmd 16 e)) .publicly h string l)
+        ap (λ (u : Public). u .there) (rule-row cmd (omega (arith, ltb-true cmd 17 e)) .publicly h string l)
         ∙ rw (ne-eqb cmd DESTROY other) (shown (eqb cmd DEBUG) (eqb cmd END-DEBUG) (eqb cmd WATCH) (eqb cmd END-WATCH) (public (l .process)))
-    go false e = let past : length rules ≤ cmd = omega (arith, ltb-false cmd 16 e) in rw (List·getD-eq-default rules noRule past)
+    go false e = let past : length rules ≤ cmd = omega (arith, ltb-false cmd 17 e) in rw (List·getD-eq-default rules noRule past)
 
 stays-by : (n : ℕ) (h : Header) (string buffer : List ℕ) (l : Local) → (h .cmd ≡ DESTROY → ⊥)
     → namedBy n h string buffer l .left .process .there ≡ l .process .there

@@ -1,10 +1,10 @@
 -- What the tests 8 to 12, 15 and 16 of a request that passed say to what it does. Assumes nothing.
 use mathlib.Core.Path.{_≡_, refl, sym, ap, _∙_}
-use mathlib.Core.Bool.{Bool, true, false, _&&_, _||_}
+use mathlib.Core.Bool.{Bool, true, false, not, _&&_, _||_}
 use mathlib.Core.List.{List}
 use Prim.Native.Nat.{ℕ, _+_, _≤_, _<_, _%_}
 use native.Mathlib.Omega.{arith}
-use borrow.Author.Tests.{ltb-true, leb-true, not-false}
+use borrow.Author.Tests.{ltb-true, leb-true, eqb-false, not-true, not-false}
 use lib.ListN.{length}
 use lib.Dec.{eqb, leb, ltb}
 use Rattle.lists.specs.Buffer.{overlay}
@@ -17,10 +17,12 @@ use Rattle.process.specs.declared.record.Process.{Process}
 use Rattle.breakpoints.specs.declared.entry_query.EntryQuery.the-variants.{At}
 use Rattle.process.specs.Find.{find}
 use Rattle.process.specs.Local.{Present}
-use Rattle.breakpoints.specs.Entry.{validBreakAddress}
+use Rattle.breakpoints.specs.Entry.{validBreakAddress, inUse}
+use Rattle.process.specs.Record.{entry}
 use Rattle.process.specs.Request.{hasBreak, hasRoom, mayHaveMore, hasRoomFor, entryFor}
 use Rattle.process.proofs.EntryLaws.{entry-low}
-use Rattle.rules.specs.Rule.{Rule, ruleOf}
+use Rattle.process.proofs.FindLaws.{find-matches, matches-at}
+use Rattle.rules.specs.Rule.{Rule, ruleOf, public, insider}
 use Rattle.rules.specs.Tests.{ruleTests}
 use Rattle.checks.specs.Decision.{entryOf}
 
@@ -37,6 +39,9 @@ pub stays : (bytes : List ℕ) → bytes ≡ overlay bytes bytes
 stays bytes = sym (overlay-all bytes bytes (omega arith))
 
 module _ (r : Rule) (h : Header) (p : Process) (e : firstFailing (ruleTests r h p) ≡ 0) where
+  pub rule-right : r .right (public p) (h .host) ≡ true
+  rule-right = not-false _ (first-passes 7 _ _ e)
+
   pub rule-range : r .range h (p .size) ≡ true
   rule-range = not-false _ (first-passes 9 _ _ (rest-passes 8 _ _ (rest-passes 14 _ _ (rest-passes 7 _ _ e))))
 
@@ -68,6 +73,13 @@ module _ (h : Header) (p : Process) (e : firstFailing (ruleTests (ruleOf (h .cmd
       let range = rw op at (rule-range (ruleOf (h .cmd)) h p e) in
       omega (arith, leb-true (h .arg1 + 2) (p .size) (&&-right (eqb (h .arg1 % 2) 0) (leb (h .arg1 + 2) (p .size)) range))
 
+  -- who sets a breakpoint is a host
+  pub break-host : h .cmd ≡ 8 → h .host ≡ 0 → ⊥
+  unfolding ruleOf insider
+  break-host op z =
+      let right = rw op at (rule-right (ruleOf (h .cmd)) h p e) in
+      eqb-false (h .host) 0 (not-true _ (&&-left (not (eqb (h .host) 0)) _ right)) z
+
   module _ (k : ℕ) (i : k ≡ entryOf (h .cmd) (h .arg1) p) where
     pub break-is : h .cmd ≡ 8 → k ≡ entryFor (h .arg1) p
     unfolding entryOf
@@ -88,6 +100,11 @@ module _ (h : Header) (p : Process) (e : firstFailing (ruleTests (ruleOf (h .cmd
     unbreak-low op =
         let found = rw op at (rule-found (ruleOf (h .cmd)) h p e) in
         ltb-true k 8 (ap (λ (n : ℕ). ltb n 8) (unbreak-is op) ∙ found)
+
+    pub unbreak-used : length (p .breaks) ≡ 8 → h .cmd ≡ 9 → inUse (entry p k) ≡ true
+    unbreak-used eight op =
+        let low = rw (unbreak-is op) at (unbreak-low op) in
+        rw (unbreak-is op) (matches-at (h .arg1) (entry p (find (At (h .arg1)) p)) (find-matches (At (h .arg1)) p eight low) .0)
 
   -- EXAMINE's range, and its count
   pub examine-within : h .cmd ≡ 6 → h .arg1 + h .arg2 ≤ p .size

@@ -1,5 +1,5 @@
 -- A call at the one process that it goes to: what is answered, and the process with its bytes after it.
-use mathlib.Core.Bool.{Bool, not, cond}
+use mathlib.Core.Bool.{Bool, not, cond, _||_}
 use mathlib.Core.List.{List, [], _∷_}
 use Prim.Native.Nat.{ℕ, zero, suc}
 use lib.Dec.{eqb, ltb}
@@ -18,7 +18,7 @@ use Rattle.rules.specs.Rule.{ruleOf, creates, sizeAsked}
 use Rattle.rules.specs.Tests.{badReport}
 use Rattle.rules.specs.Step.{Answer, plainAnswer, replyOf, beside, notified}
 use Rattle.checks.specs.Decision.{processTests}
-use Rattle.ops.specs.Codes.{EXAMINE}
+use Rattle.ops.specs.Codes.{EXAMINE, STATUS}
 use Rattle.ops.specs.declared.table.Form.{Form}
 use Rattle.service.specs.declared.target.Target.{Target}
 use Rattle.service.specs.declared.target.Target.the-variants.{Named, OutOfRange, New, Nowhere}
@@ -58,16 +58,16 @@ cantBy number h buffer = answer (outcome number 0) (overlay (written (cantOf h) 
 
 -- a request to the process that it names, by the number of its tests
 unfoldable pub namedBy : ℕ → Header → List ℕ → List ℕ → Local → ProcessResult
-namedBy zero h string buffer l = leaving (replyOf h (ruleOf (h .cmd) .shown h l) buffer) (laidOver (ruleOf (h .cmd) .effect h string l) l)
+namedBy zero h string buffer l = leaving (replyOf (ruleOf (h .cmd) .header h l) (ruleOf (h .cmd) .shown h l) buffer) (laidOver (ruleOf (h .cmd) .effect h string l) l)
 namedBy (suc n) h string buffer l = leaving (cantBy (suc n) h buffer) l
 
 -- the same by its tests 7 to 12, 15 and 16
 unfoldable pub namedAt : Header → List ℕ → List ℕ → Local → ProcessResult
 namedAt h string buffer l = namedBy (firstFailing (processTests h (l .process))) h string buffer l
 
--- a granted request of this op code may change its process; EXAMINE does not
+-- a granted request of this op code may change its process; EXAMINE and STATUS do not
 unfoldable pub changes : ℕ → Bool
-changes cmd = not (eqb cmd EXAMINE)
+changes cmd = not (eqb cmd STATUS || eqb cmd EXAMINE)
 
 -- CREATE, of process p, with the size that is asked for
 unfoldable pub createdAt : ℕ → Header → List ℕ → ProcessResult

@@ -11,6 +11,7 @@ use ops::EXAMINE;
 use ops::PROCEED;
 use ops::RESUME;
 use ops::SINGLE_STEP;
+use ops::STATUS;
 use ops::STOP;
 use ops::UNBREAK;
 use ops::WATCH;
@@ -26,10 +27,13 @@ ghost use Rattle.rules.specs.Tests.{ruleTests};
 ghost use Rattle.checks.specs.Decision.{entryOf};
 ghost use Rattle.service.specs.At.{changes};
 
-// Whether a granted request of this op code may change its process; EXAMINE does not.
+// Whether a granted request of this op code may change its process; EXAMINE and STATUS do not.
 pub fn changes(cmd: u8) -> bool
     ensures { λ r. ⌜ r ≡ changes cmd ⌝ }
 {
+    if cmd == STATUS {
+        return false;
+    }
     cmd != EXAMINE
 }
 

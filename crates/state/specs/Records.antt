@@ -15,7 +15,7 @@ pub record Records : Type 0 where
 
 -- what is read past the eight records; nothing reads there
 abbrev pub nobody : Process
-nobody = record { there = false; host = 0; run = Running; size = 0; vector = []; breaks = []; session = noSession }
+nobody = record { there = false; host = 0; run = Running; size = 0; vector = []; breaks = []; session = noSession; number = 0 }
 
 -- the record of process p
 abbrev pub processAt : Records → ℕ → Process

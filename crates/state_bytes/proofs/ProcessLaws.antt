@@ -23,17 +23,18 @@ use Rattle.run_state.specs.RunState.{isRunNumber, runNumber, runOf}
 use Rattle.run_state.proofs.RunLaws.{run-back, run-formed, run-forth}
 use Rattle.session.specs.Session.{isOwedNumber, sessionSound}
 use Rattle.session.proofs.SessionLaws.{owed-back, owed-formed, owed-forth}
-use Rattle.process.specs.Record.{noBreaks}
+use Rattle.process.specs.Record.{noBreaks, countUsed}
 use Rattle.process.specs.Sizes.{validSize}
 use Rattle.process.specs.Sound.{absentHasNoHost, entrySound, keepsRules}
 use Rattle.process.specs.Sound.{soundTest as soundProcess}
+use Rattle.process.proofs.CountLaws.{count-none}
 use Rattle.breakpoints.specs.Entry.{free}
 use Rattle.state_bytes.specs.Chunk.{chunks, everyChunk}
 use Rattle.state_bytes.specs.Entry.{entryBytes, entryOf, entryFormed, entriesBits, flagsFormed}
 use Rattle.state_bytes.specs.Number.{flagOf}
 use Rattle.state_bytes.specs.Process.{headBytes, sizeOf, processBytes, processOf, headFormed, processFormed, headSound, processPlain, processSound}
 use Rattle.state_bytes.specs.Session.{sessionOf, sessionFormed, sessionFits}
-use Rattle.state_bytes.specs.Widths.{entryCount, entryWidth, thereAt, hostAt, runAt, sizeAt, owedAt, headWidth, vectorAt, vectorWidth, entriesAt, entriesWidth, processWidth}
+use Rattle.state_bytes.specs.Widths.{entryCount, entryWidth, thereAt, hostAt, runAt, sizeAt, numberAt, owedAt, headWidth, vectorAt, vectorWidth, entriesAt, entriesWidth, processWidth}
 use Rattle.state_bytes.proofs.ChunkLaws.{bytes-take, bytes-drop, length-joined, chunks-joined, every-joined, joined-chunks, chunks-same, every-weaker}
 use Rattle.state_bytes.proofs.EntryLaws.{&&-true, &&-false, &&-assoc, length-entryBytes, entry-back, entry-formed, entry-forth, entryZero, zero-bits, flags-bits, zero-free, zero-formed}
 use Rattle.state_bytes.proofs.NumberLaws.{flag-back, flag-formed, flag-forth, by-elements}
@@ -160,29 +161,36 @@ module _ (m : List ℕ) where
   head-sound =
       head-both (getD m thereAt 0) (getD m hostAt 0) (isRunNumber (getD m runAt 0)) (validSize (sizeOf m)) (sessionFormed m) (sessionSound (getD m hostAt 0) (sessionOf m))
 
-  -- head, flags and entries, each by itself
-  by-parts : processSound m ≡ headSound m && (flags && below (entrySound (processOf m)) entryCount)
+  -- the number of breakpoints is right
+  abbrev counted : Bool
+  counted = eqb (processOf m .number) (countUsed (processOf m .breaks))
+
+  -- head, flags, number and entries, each by itself
+  by-parts : processSound m ≡ headSound m && (flags && (counted && below (entrySound (processOf m)) entryCount))
   unfolding processSound processFormed soundProcess keepsRules
   by-parts =
-      let entries = below (entrySound (processOf m)) entryCount in
+      let entries = counted && below (entrySound (processOf m)) entryCount in
       let session = sessionSound (processOf m .host) (processOf m .session) in
       rw (head-sound, ← &&-assoc (absentHasNoHost (processOf m)) session entries, ← &&-assoc sized rules entries) (&&-pairs (headFormed m) flags (sized && rules) entries)
 
   pub head-fails : headSound m ≡ false → processSound m ≡ false
   head-fails h = rw (by-parts, h)
 
-  -- no breakpoints: the head tells
-  pub bare-sound : bits ≡ 0 → processSound m ≡ headSound m
+  -- no breakpoints: head and number tell
+  pub bare-sound : bits ≡ 0 → processSound m ≡ headSound m && eqb (getD m numberAt 0) 0
   unfolding processOf
   bare-sound e =
       let zeros : everyChunk entryWidth entryZero entryCount (drop entriesAt m) ≡ true = sym (zero-bits (drop entriesAt m)) ∙ rw e in
       let formed : flags ≡ true = every-weaker entryWidth entryZero entryFormed zero-formed entryCount (drop entriesAt m) zeros in
       let breaks : chunks entryWidth entryOf entryCount (drop entriesAt m) ≡ noBreaks = chunks-same entryWidth entryOf entryZero free zero-free entryCount (drop entriesAt m) zeros in
-      rw (by-parts, formed, no-breaks-sound (processOf m) breaks) (&&-true (headSound m))
+      let right : counted ≡ eqb (getD m numberAt 0) 0 = ap (eqb (getD m numberAt 0)) (ap countUsed breaks ∙ count-none) in
+      rw (by-parts, formed, no-breaks-sound (processOf m) breaks, right, &&-true (eqb (getD m numberAt 0) 0))
 
   pub plain-sound : processPlain m ≡ true → processSound m ≡ true
   unfolding processPlain
-  plain-sound e = bare-sound (eqb-true bits 0 (&&-right (headSound m) (eqb bits 0) e)) ∙ &&-left (headSound m) _ e
+  plain-sound e =
+      let rest = &&-right (headSound m) (eqb bits 0 && eqb (getD m numberAt 0) 0) e in
+      bare-sound (eqb-true bits 0 (&&-left (eqb bits 0) _ rest)) ∙ rw (&&-left (headSound m) _ e) (&&-right (eqb bits 0) (eqb (getD m numberAt 0) 0) rest)
 
   pub flags-fail : Bytes m → headSound m ≡ true → flagsFormed bits ≡ false → processSound m ≡ false
   flags-fail b h f = rw (by-parts, h, ← flags-bits (drop entriesAt m) (bytes-drop entriesAt m b), f)

@@ -15,11 +15,11 @@ use Rattle.state_bytes.specs.Chunk.{chunks, everyChunk}
 use Rattle.state_bytes.specs.Entry.{entryBytes, entryOf, entryFormed, entriesBits}
 use Rattle.state_bytes.specs.Number.{flagOf}
 use Rattle.state_bytes.specs.Session.{sessionBytes, sessionOf, sessionFormed, sessionFits}
-use Rattle.state_bytes.specs.Widths.{entryCount, entryWidth, thereAt, hostAt, runAt, sizeAt, vectorAt, vectorWidth, entriesAt}
+use Rattle.state_bytes.specs.Widths.{entryCount, entryWidth, thereAt, hostAt, runAt, sizeAt, numberAt, vectorAt, vectorWidth, entriesAt}
 
--- there, host, run state, size, session
+-- there, host, run state, size, number of breakpoints, session
 abbrev pub headBytes : Process → List ℕ
-headBytes p = flag (p .there) ∷ p .host ∷ runNumber (p .run) ∷ low (p .size) ∷ high (p .size) ∷ sessionBytes (p .session)
+headBytes p = flag (p .there) ∷ p .host ∷ runNumber (p .run) ∷ low (p .size) ∷ high (p .size) ∷ p .number ∷ sessionBytes (p .session)
 
 -- then the nine words, then the eight entries
 unfoldable pub processBytes : Process → List ℕ
@@ -39,6 +39,7 @@ processOf m = record {
   breaks = chunks entryWidth entryOf entryCount (drop entriesAt m);
   size = sizeOf m;
   session = sessionOf m;
+  number = getD m numberAt 0;
 }
 
 -- ---- bytes that are a process's
@@ -61,9 +62,9 @@ headSound m =
     && (sessionFits m
     && (eqb (getD m thereAt 0) 1 || (eqb (getD m thereAt 0) 0 && eqb (getD m hostAt 0) 0))))
 
--- a sound head, and no breakpoints
+-- a sound head, no breakpoints, and that number of them
 unfoldable pub processPlain : List ℕ → Bool
-processPlain m = headSound m && eqb (entriesBits (drop entriesAt m)) 0
+processPlain m = headSound m && (eqb (entriesBits (drop entriesAt m)) 0 && eqb (getD m numberAt 0) 0)
 
 -- the bytes of a process are those of a sound record
 unfoldable pub processSound : List ℕ → Bool

@@ -33,17 +33,21 @@ runAt = 2
 abbrev pub sizeAt : ℕ
 sizeAt = 3
 
+-- the number of its breakpoints
+abbrev pub numberAt : ℕ
+numberAt = 5
+
 -- the number of the owed answer
 abbrev pub owedAt : ℕ
-owedAt = 5
+owedAt = 6
 
 -- the host that watches it
 abbrev pub watcherAt : ℕ
-watcherAt = 6
+watcherAt = 7
 
--- these six
+-- these seven
 abbrev pub headWidth : ℕ
-headWidth = 7
+headWidth = 8
 
 -- ---- a process
 

@@ -3,6 +3,7 @@ use crate::entry::put_entries;
 use crate::entry::read_entries;
 use crate::widths::ENTRIES_AT;
 use crate::widths::HOST_AT;
+use crate::widths::NUMBER_AT;
 use crate::widths::OWED_AT;
 use crate::widths::RUN_AT;
 use crate::widths::SIZE_AT;
@@ -98,10 +99,11 @@ pub(crate) fn read_process(bytes: &[u8]) -> Process
         breaks: breaks,
         size: size,
         session: session,
+        number: bytes[NUMBER_AT],
     }
 }
 
-// Writes whether it is there, host, run state, size and session.
+// Writes whether it is there, host, run state, size, number of breakpoints and session.
 fn put_head(p: Process, bytes: &mut [u8])
     requires { ⌜ headWidth ≤ length (now bytes) ⌝ }
     ensures { λ _. ⌜ now (bytes .exit) ≡ overlay (headBytes p) (now (bytes .entry)) ⌝ }
@@ -114,6 +116,7 @@ fn put_head(p: Process, bytes: &mut [u8])
     bytes[RUN_AT] = run.number();
     bytes[SIZE_AT] = low_byte(p.size);
     bytes[SIZE_AT + 1] = high_byte(p.size);
+    bytes[NUMBER_AT] = p.number;
     bytes[OWED_AT] = owed.number();
     bytes[WATCHER_AT] = session.watcher;
 }
@@ -141,11 +144,14 @@ pub(crate) fn put_process(p: Process, bytes: &mut [u8])
     put_entries(breaks, &mut bytes[ENTRIES_AT..]);
 }
 
-// The session in the head is formed, and the host there may have it.
+// The session in the head is formed, and the host there may have it. Any host may have none, and most have none: that is asked first.
 fn session_fits(bytes: &[u8]) -> bool
     requires { ⌜ headWidth ≤ length (now bytes) ⌝ }
     ensures { λ r. ⌜ r ≡ sessionFits (now (bytes .entry)) ⌝ }
 {
+    if bytes[OWED_AT] == 0 && bytes[WATCHER_AT] == 0 {
+        return true;
+    }
     if bytes[OWED_AT] > LAST_OWED_NUMBER {
         return false;
     }

@@ -6,6 +6,7 @@ use crate::layout::layout_sound;
 use crate::process_form::head_sound;
 use crate::process_form::read_process;
 use crate::widths::ENTRIES_AT;
+use crate::widths::NUMBER_AT;
 use crate::widths::PROCESS_BYTES;
 use crate::widths::STARTS_AT;
 use crate::widths::STATE_BYTES;
@@ -16,7 +17,7 @@ ghost use Rattle.state_bytes.specs.Process.{processPlain, processSound};
 ghost use Rattle.state_bytes.specs.State.{SoundBefore, stateSound};
 ghost use Rattle.state_bytes.specs.Widths.{processWidth, stateWidth};
 
-// A process with a sound head and no breakpoints.
+// A process with a sound head, no breakpoints, and that number of them.
 fn process_plain(bytes: &[u8]) -> bool
     requires { ⌜ processWidth ≤ length (now bytes) ⌝ }
     ensures { λ r. ⌜ r ≡ processPlain (now (bytes .entry)) ⌝ }
@@ -24,7 +25,7 @@ fn process_plain(bytes: &[u8]) -> bool
     if !head_sound(bytes) {
         return false;
     }
-    entries_bits(&bytes[ENTRIES_AT..]) == 0
+    entries_bits(&bytes[ENTRIES_AT..]) == 0 && bytes[NUMBER_AT] == 0
 }
 
 // The index of the first process that is not plain, or that after the last. No slow path stands in this loop.
@@ -53,7 +54,7 @@ fn process_sound(bytes: &[u8]) -> bool
     }
     let bits = entries_bits(&bytes[ENTRIES_AT..]);
     if bits == 0 {
-        return true;
+        return bytes[NUMBER_AT] == 0;
     }
     if !flags_formed(bits) {
         return false;

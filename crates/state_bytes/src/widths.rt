@@ -16,11 +16,13 @@ pub(crate) const RUN_AT: usize = 2;
 
 pub(crate) const SIZE_AT: usize = 3;
 
-pub(crate) const OWED_AT: usize = 5;
+pub(crate) const NUMBER_AT: usize = 5;
 
-pub(crate) const WATCHER_AT: usize = 6;
+pub(crate) const OWED_AT: usize = 6;
 
-pub(crate) const HEAD_BYTES: usize = 7;
+pub(crate) const WATCHER_AT: usize = 7;
+
+pub(crate) const HEAD_BYTES: usize = 8;
 
 // A process.
 pub(crate) const VECTOR_AT: usize = HEAD_BYTES;

@@ -15,7 +15,7 @@ fn the_desk_writes() {
     assert_eq!(write_request(0, 99, 0, 0, 1, &[7; 257], o), -3);
     assert_eq!(write_request(0, 99, 0, 0, 1, &[], o), -4);
     assert_eq!(write_request(256, 99, 0, 0, 1, &[], o), -4);
-    assert_eq!(write_request(5, 16, 0, 0, 1, &[], o), -5);
+    assert_eq!(write_request(5, 17, 0, 0, 1, &[], o), -5);
     assert_eq!(write_request(5, 256, 0, 0, 1, &[], o), -5);
     assert_eq!(write_request(5, 1, 2, 0, 1, &[], o), -6);
     assert_eq!(write_request(5, 1, 2, 0, 0, &[1], o), -6);
@@ -50,7 +50,7 @@ fn the_desk_reads() {
     assert_eq!(read(5, DEPOSIT, 2, 0, 2, &[]), 0);
     assert_eq!(read(5, EXAMINE, 2, 0, 257, &[1; 256]), -6);
     assert_eq!(read(0, 128, 0, 0, 0, &[]), -4);
-    for cmd in [16, 63, 68, 127, 128, 144, 255] {
+    for cmd in [17, 63, 68, 127, 128, 145, 255] {
         assert_eq!(read(5, cmd, 1, 1, 1, &[1]), -5);
     }
     assert_eq!(read_answer(&contents[..9], &mut fields), -3);

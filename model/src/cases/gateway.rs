@@ -117,6 +117,11 @@ pub fn message(host: u8, cmd: u8, pid: u8, arg1: u16, arg2: u16, string: &[u8]) 
     bytes
 }
 
+/// Makes a process's number of breakpoints true again.
+pub fn count_again(process: &mut Process) {
+    process.set = process.breakpoints.iter().filter(|b| b.used()).count() as u8;
+}
+
 pub fn words_with(pc: u16) -> [u16; WORDS] {
     [0x0102, 1, 2, 3, 4, 5, 6, pc, 8]
 }

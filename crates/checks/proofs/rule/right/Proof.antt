@@ -15,6 +15,9 @@ may-look-requires-2 c κs = search needs
 may-look-requires-3 : tie.Need-may-look-requires-3
 may-look-requires-3 c κs = search needs
 
+may-look-requires-4 : tie.Need-may-look-requires-4
+may-look-requires-4 c κs = search needs
+
 another-debugs-requires : tie.Need-another-debugs-requires
 another-debugs-requires c κs = search needs
 
@@ -46,17 +49,21 @@ returns-5 c = rw (c .before .match .keys4) (c .may-look3 .ensures)
 
 returns-6 : tie.Need-returns-6
 unfolding ruleOf
-returns-6 c = rw (c .before .match .keys5) (c .another-debugs .ensures)
+returns-6 c = rw (c .before .match .keys5) (c .may-look4 .ensures)
 
 returns-7 : tie.Need-returns-7
 unfolding ruleOf
-returns-7 c = rw (c .before .match .keys6) (c .watches .ensures)
+returns-7 c = rw (c .before .match .keys6) (c .another-debugs .ensures)
 
 returns-8 : tie.Need-returns-8
-returns-8 c =
+unfolding ruleOf
+returns-8 c = rw (c .before .match .keys7) (c .watches .ensures)
+
+returns-9 : tie.Need-returns-9
+returns-9 c =
     let a = c .before .before .args in
     let n = c .before .match .rest in
-    rw (coded (a .cmd) .right (public (a .process)) (a .asker), ne-eqb _ 1 (n .0 .0 .0 .0 .0 .1), ne-eqb _ 6 (n .0 .0 .0 .0 .1), ne-eqb _ 8 (n .0 .0 .0 .1), ne-eqb _ 9 (n .0 .0 .1), ne-eqb _ 14 (n .0 .1), ne-eqb _ 15 (n .1)) (c .debugs .ensures)
+    rw (coded (a .cmd) .right (public (a .process)) (a .asker), ne-eqb _ 1 (n .0 .0 .0 .0 .0 .0 .1), ne-eqb _ 6 (n .0 .0 .0 .0 .0 .1), ne-eqb _ 8 (n .0 .0 .0 .0 .1), ne-eqb _ 9 (n .0 .0 .0 .1), ne-eqb _ 16 (n .0 .0 .1), ne-eqb _ 14 (n .0 .1), ne-eqb _ 15 (n .1)) (c .debugs .ensures)
 
 pub right-spec : {M : Type 1} → statement M
 right-spec =
@@ -65,6 +72,7 @@ right-spec =
     may-look-requires
     may-look-requires-2
     may-look-requires-3
+    may-look-requires-4
     another-debugs-requires
     watches-requires
     debugs-requires
@@ -75,4 +83,5 @@ right-spec =
     returns-5
     returns-6
     returns-7
-    returns-8)
+    returns-8
+    returns-9)

@@ -2,12 +2,13 @@
 use mathlib.Core.Path.{refl}
 use borrow.Author.Needs.{needs}
 use borrow.Author.Tests.{ne-eqb}
+use lib.ListN.{length-map}
 use Rattle.lists.specs.Buffer.{overlay}
 use Rattle.process.specs.Request.{breakRemoved}
-use Rattle.process.proofs.TestedLaws.{tested-inside}
+use Rattle.process.proofs.TestedLaws.{tested-inside, tested-counted}
 use Rattle.rules.specs.Rule.{ruleOf}
 use Rattle.checks.proofs.OpLaws.{coded}
-use Rattle.service.proofs.EffectLaws.{deposit-within, vector-within, whole, laid, stays, break-within, break-is, break-low, unbreak-is, unbreak-low}
+use Rattle.service.proofs.EffectLaws.{deposit-within, vector-within, whole, laid, stays, break-within, break-host, break-is, break-low, unbreak-is, unbreak-low, unbreak-used}
 use Rattle.service.proofs.effect.perform.Statement.{statement}
 use Rattle.service.proofs.effect.perform.Tie as tie
 
@@ -36,10 +37,10 @@ deposit-vector-requires : tie.Need-deposit-vector-requires
 deposit-vector-requires c κs = let s = c .before .before .before in let a = s .args in vector-within (a .h) (a .process) (s .pre .1 .0) _ (c .match .keys6) (s .pre .1 .1 .1)
 
 set-break-requires : tie.Need-set-break-requires
-set-break-requires c κs = let m = c .before in let s = m .before .before .before in let a = s .args in (break-low (a .h) (a .process) (s .pre .1 .0) (a .k) (s .pre .1 .1 .0) (m .match .keys7), break-is (a .h) (a .process) (s .pre .1 .0) (a .k) (s .pre .1 .1 .0) (m .match .keys7), rw (whole (a .process) (a .bytes .now) (s .pre .0)) (break-within (a .h) (a .process) (s .pre .1 .0) (m .match .keys7)))
+set-break-requires c κs = let m = c .before in let s = m .before .before .before in let a = s .args in (break-low (a .h) (a .process) (s .pre .1 .0) (a .k) (s .pre .1 .1 .0) (m .match .keys7), break-is (a .h) (a .process) (s .pre .1 .0) (a .k) (s .pre .1 .1 .0) (m .match .keys7), rw (whole (a .process) (a .bytes .now) (s .pre .0)) (break-within (a .h) (a .process) (s .pre .1 .0) (m .match .keys7)), tested-counted (a .process) (a .bytes .now) (s .pre .0 .tested), break-host (a .h) (a .process) (s .pre .1 .0) (m .match .keys7))
 
 remove-from-requires : tie.Need-remove-from-requires
-remove-from-requires c κs = let m = c .before in let s = m .before .before .before in let a = s .args in (unbreak-low (a .h) (a .process) (s .pre .1 .0) (a .k) (s .pre .1 .1 .0) (m .match .keys8), tested-inside (a .process) (a .bytes .now) (s .pre .0 .tested))
+remove-from-requires c κs = let m = c .before in let s = m .before .before .before in let a = s .args in (unbreak-low (a .h) (a .process) (s .pre .1 .0) (a .k) (s .pre .1 .1 .0) (m .match .keys8), tested-inside (a .process) (a .bytes .now) (s .pre .0 .tested), tested-counted (a .process) (a .bytes .now) (s .pre .0 .tested), unbreak-used (a .h) (a .process) (s .pre .1 .0) (a .k) (s .pre .1 .1 .0) (simp length-map at (s .good .1 .1 .0 .1 .1 .1 .1 .1 .1 .0 .1 .0 .1)) (m .match .keys8))
 
 single-step-requires : tie.Need-single-step-requires
 single-step-requires c κs = search needs

@@ -1,4 +1,4 @@
--- `state_bytes::process_form::put_head` meets its contract: seven stores. Assumes nothing.
+-- `state_bytes::process_form::put_head` meets its contract: eight stores. Assumes nothing.
 use native.Mathlib.Omega.{arith}
 use lib.ListN.{length-set}
 use Rattle.lists.proofs.Buffer.{sets-overlay}
@@ -37,14 +37,17 @@ add-bytes c = search needs
 slice-write-bytes-5 : tie.Need-slice-write-bytes-5
 slice-write-bytes-5 c = simp length-set (omega arith)
 
-number-requires-2 : tie.Need-number-requires-2
-number-requires-2 c κs = search needs
-
 slice-write-bytes-6 : tie.Need-slice-write-bytes-6
 slice-write-bytes-6 c = simp length-set (omega arith)
 
+number-requires-2 : tie.Need-number-requires-2
+number-requires-2 c κs = search needs
+
 slice-write-bytes-7 : tie.Need-slice-write-bytes-7
 slice-write-bytes-7 c = simp length-set (omega arith)
+
+slice-write-bytes-8 : tie.Need-slice-write-bytes-8
+slice-write-bytes-8 c = simp length-set (omega arith)
 
 same-length : tie.Need-same-length
 same-length c = search needs
@@ -72,8 +75,9 @@ put-head-spec =
     high-byte-requires
     add-bytes
     slice-write-bytes-5
-    number-requires-2
     slice-write-bytes-6
+    number-requires-2
     slice-write-bytes-7
+    slice-write-bytes-8
     same-length
     returns)

@@ -50,10 +50,13 @@ shared-slice-read-t15 c = search needs
 shared-slice-read-t20 : tie.Need-shared-slice-read-t20
 shared-slice-read-t20 c = search needs
 
+shared-slice-read-t22 : tie.Need-shared-slice-read-t22
+shared-slice-read-t22 c = search needs
+
 returns : tie.Need-returns
 unfolding processOf
 returns c =
-    let s = c .before .before in
+    let s = c .before .before .before in
     let z = s .before in
     let r = z .before in
     let e = r .before .before in
@@ -79,4 +82,5 @@ read-process-spec =
     read-session-requires
     shared-slice-read-t15
     shared-slice-read-t20
+    shared-slice-read-t22
     returns)

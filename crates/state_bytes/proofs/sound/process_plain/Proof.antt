@@ -1,9 +1,8 @@
 -- `state_bytes::sound::process_plain` meets its contract, test by test. Assumes nothing.
 use mathlib.Core.Path.{_≡_, sym, ap, _∙_}
 use mathlib.Core.Bool.{true, false}
-use Prim.Native.Nat.{ℕ}
-use borrow.Author.Tests.{not-true, not-false}
-use lib.Dec.{eqb}
+use borrow.Author.Tests.{ne-eqb, not-true, not-false}
+use lib.ListN.{drop}
 use Rattle.state_bytes.specs.Entry.{entriesBits}
 use Rattle.state_bytes.specs.Process.{headSound, processPlain}
 use Rattle.state_bytes.specs.Widths.{entriesAt}
@@ -34,14 +33,31 @@ part-entries-bits-end c = search needs
 entries-bits-requires : tie.Need-entries-bits-requires
 entries-bits-requires c κs = search needs
 
+shared-slice-read-result : tie.Need-shared-slice-read-result
+shared-slice-read-result c = search needs
+
 returns-2 : tie.Need-returns-2
 unfolding processPlain
 returns-2 c =
-    let i = c .before .before in
+    let t = c .before in
+    let e = t .before in
+    let i = e .before .before in
     let h = i .before in
     let m = h .before .before .args .bytes .now in
     let head : headSound m ≡ true = sym (h .head-sound .ensures) ∙ not-false _ (i .if1 .left) in
-    rw head (ap (λ (n : ℕ). eqb n 0) (c .entries-bits .ensures ∙ ap entriesBits (tail-part entriesAt m)))
+    let bits : entriesBits (drop entriesAt m) ≡ 0 = sym (e .entries-bits .ensures ∙ ap entriesBits (tail-part entriesAt m)) ∙ t .if2 .taken in
+    rw (head, bits)
+
+returns-3 : tie.Need-returns-3
+unfolding processPlain
+returns-3 c =
+    let e = c .before in
+    let i = e .before .before in
+    let h = i .before in
+    let m = h .before .before .args .bytes .now in
+    let head : headSound m ≡ true = sym (h .head-sound .ensures) ∙ not-false _ (i .if1 .left) in
+    let bits : e .entries-bits .result ≡ entriesBits (drop entriesAt m) = e .entries-bits .ensures ∙ ap entriesBits (tail-part entriesAt m) in
+    rw (head, ← bits, ne-eqb (e .entries-bits .result) 0 (c .if2 .left))
 
 pub process-plain-spec : {M : Type 1} → statement M
 process-plain-spec =
@@ -53,4 +69,6 @@ process-plain-spec =
     part-entries-bits-start
     part-entries-bits-end
     entries-bits-requires
-    returns-2)
+    shared-slice-read-result
+    returns-2
+    returns-3)

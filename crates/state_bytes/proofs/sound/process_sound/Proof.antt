@@ -34,15 +34,19 @@ part-entries-bits-end c = search needs
 entries-bits-requires : tie.Need-entries-bits-requires
 entries-bits-requires c κs = search needs
 
+shared-slice-read-result : tie.Need-shared-slice-read-result
+shared-slice-read-result c = search needs
+
 returns-2 : tie.Need-returns-2
 returns-2 c =
-    let e = c .before in
+    let i = c .before in
+    let e = i .before in
     let h = e .before .before .before in
     let k = h .before in
     let m = k .before .args .bytes .now in
     let head : headSound m ≡ true = sym (h .head-sound .ensures) ∙ not-false _ (e .before .before .if1 .left) in
     let bits = e .entries-bits .ensures ∙ ap entriesBits (tail-part entriesAt m) in
-    sym (bare-sound m (sym bits ∙ c .if2 .taken) ∙ head)
+    sym (bare-sound m (sym bits ∙ i .if2 .taken) ∙ rw head)
 
 flags-formed-requires : tie.Need-flags-formed-requires
 flags-formed-requires c κs = search needs
@@ -90,6 +94,7 @@ process-sound-spec =
     part-entries-bits-start
     part-entries-bits-end
     entries-bits-requires
+    shared-slice-read-result
     returns-2
     flags-formed-requires
     returns-3

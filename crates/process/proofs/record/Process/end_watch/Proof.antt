@@ -1,4 +1,4 @@
--- `process::record::Process::end_watch` meets its contract: the watcher's breakpoints go, and then he does. Assumes nothing.
+-- `process::record::Process::end_watch` meets its contract: the watcher's breakpoints go, then he does. Assumes nothing.
 use mathlib.Core.Path.{refl}
 use borrow.Author.Needs.{needs}
 use Rattle.process.specs.Request.{endWatched}
