@@ -20,7 +20,7 @@ static void load_words(unsigned p, size_t from, size_t count) {
 }
 
 int64_t firmware_start(uint64_t there, const uint16_t *sizes) {
-    int64_t result = palustrode_fresh_start(there, sizes, PALUSTRODE_PROCESSES, state, sizeof state);
+    int64_t result = palustrode_fresh_start(there, sizes, PALUSTRODE_PROCESSES, PALUSTRODE_NO_DOOR, state, sizeof state);
     for (unsigned p = 0; result >= 0 && p < PALUSTRODE_PROCESSES; p++) load_words(p, 0, CORE_WORDS);
     return result;
 }

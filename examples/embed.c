@@ -1,6 +1,7 @@
 /* A gateway in C over the stub, and the desk that asks it: host 5 debugs process 2, which has 1,536 bytes, and host 6 is refused. Process 0,
  * which lies below it in memory, is destroyed, so that process 2 moves; others are created until there is no room. Then process 2 passes a
- * breakpoint, which is planted again after one instruction, and stops at it the next time. */
+ * breakpoint, which is planted again after one instruction, and stops at it the next time. Last, after another fresh start, a grower's console
+ * asks for process 2 by Pup packets. */
 #include "palustrode.h"
 #include <stdio.h>
 #include <string.h>
@@ -45,9 +46,9 @@ static void show_starts(const char *what) {
     printf("\n");
 }
 
-/* A fresh start with these sizes; those of processes that are not to be there are passed over. */
+/* A fresh start with these sizes, and without a Pup door; those of processes that are not to be there are passed over. */
 static void start(const char *what, uint64_t there, const uint16_t *sizes, size_t count) {
-    show(what, palustrode_fresh_start(there, sizes, count, state, sizeof state), 0);
+    show(what, palustrode_fresh_start(there, sizes, count, PALUSTRODE_NO_DOOR, state, sizeof state), 0);
 }
 
 /* Returns the length of the answer to send: a CAN'T has no string. */
@@ -118,6 +119,62 @@ static void destroy_and_create(const uint8_t *word) {
     show_starts("1,536 bytes are free");
 }
 
+/* A packet as it comes from the network, and the words of its acknowledgement. */
+static void packet(const char *what, uint64_t type, uint64_t id, const uint16_t *words, size_t count) {
+    static uint16_t ack[PALUSTRODE_ACK_WORDS];
+    int64_t r = palustrode_packet(state, sizeof state, memory, sizeof memory, type, id, words, count, ack, PALUSTRODE_ACK_WORDS);
+    printf("%-28s %4lld%s", what, (long long)r, palustrode_acknowledged(r, type) ? "  acknowledged" : "");
+    for (int64_t i = 0; i < r; i++) printf(" %04x", ack[i]);
+    printf("\n");
+}
+
+/* So many tenths of a second pass; then, what the process at the door does, and whether a Go waits. */
+static void wait_for(const char *what, int tenths) {
+    int64_t r = 0;
+    for (int i = 0; i < tenths && r == 0; i++) r = palustrode_tick(state, sizeof state);
+    const uint8_t *at_door = palustrode_process(state, palustrode_door(state));
+    printf("%-28s %4lld  %s", what, (long long)r, at_door[PALUSTRODE_RUN_STATE_AT] == PALUSTRODE_RUNNING ? "it runs" : "it does not run");
+    if (at_door[PALUSTRODE_GO_WAITS_AT]) printf(", a Go waits since %d ticks", at_door[PALUSTRODE_GO_TICKS_AT]);
+    printf("\n");
+}
+
+/* A grower's console, which is host 254, at the Pup door of process 2. It debugs and stops the process by messages, as every host does; then it looks
+ * and stores by packets, a word at a time, with the four words around it. Its Go is acknowledged, but the acknowledgement is lost at first, so the Go
+ * comes again; then the GoReply is lost. Ten seconds after the first Go the process runs all the same. The second time the GoReply comes. */
+static void console(const uint16_t *sizes, uint64_t there) {
+    static const uint8_t debug[] = {0, PALUSTRODE_PUP_HOST, 255, 0, PALUSTRODE_DEBUG, 2, 0, 0, 0, 0};
+    static const uint8_t stop[] = {0, PALUSTRODE_PUP_HOST, 255, 0, PALUSTRODE_STOP, 2, 0, 0, 0, 0};
+    static const uint8_t deposit[] = {0, PALUSTRODE_PUP_HOST, 255, 0, PALUSTRODE_DEPOSIT, 2, 1, 0, 0, 8, 1, 2, 3, 4, 5, 6, 7, 8};
+    static const uint8_t plant[] = {0, PALUSTRODE_PUP_HOST, 255, 0, PALUSTRODE_BREAK, 2, 1, 2, 0, 0}; /* at 258, word 129 */
+    static const uint16_t fetch[] = {128, 0, 4};
+    static const uint16_t fetch_one[] = {129};
+    static const uint16_t store[] = {129, 0x1234, 4};
+    static const uint16_t past[] = {SIZE / 2};
+    static const uint64_t id = 0xffffffff; /* 0 follows */
+
+    packet("a Fetch, and no door", PALUSTRODE_FETCH, 1, fetch, 3);
+    show("fresh start, a door at 2", palustrode_fresh_start(there, sizes, PALUSTRODE_PROCESSES, 2, state, sizeof state), 0);
+    packet("a Fetch by a stranger", PALUSTRODE_FETCH, 2, fetch, 3);
+    ask("host 254 debugs process 2", debug, sizeof debug);
+    ask("stops it", stop, sizeof stop);
+    ask("deposits 1 to 8", deposit, sizeof deposit);
+    ask("and sets a breakpoint", plant, sizeof plant);
+    packet("a Fetch, with four words", PALUSTRODE_FETCH, 3, fetch, 3);
+    packet("a Store, with four words", PALUSTRODE_STORE, 4, store, 3);
+    show_word("memory holds", 258);
+    packet("a Fetch of one word", PALUSTRODE_FETCH, 5, fetch_one, 1);
+    packet("a word past the size", PALUSTRODE_FETCH, 6, past, 1);
+    packet("a Go", PALUSTRODE_GO, id, fetch, 0);
+    wait_for("five seconds", 50);
+    packet("the same Go again", PALUSTRODE_GO, id, fetch, 0);
+    wait_for("almost five more", 49);
+    wait_for("and a tenth", 1);
+    ask("it is stopped once more", stop, sizeof stop);
+    packet("a Go", PALUSTRODE_GO, id, fetch, 0);
+    packet("and its GoReply", PALUSTRODE_GO_REPLY, (id + 1) & 0xffffffff, fetch, 0);
+    wait_for("no more than a tenth", 1);
+}
+
 int main(void) {
     static const uint16_t sizes[PALUSTRODE_PROCESSES] = {LOWER, 0, SIZE};
     static const uint16_t odd[PALUSTRODE_PROCESSES] = {LOWER, 0, SIZE - 1};
@@ -162,5 +219,6 @@ int main(void) {
     ask("END DEBUG", end, sizeof end);
     show_word("memory holds", 256);
     ask("host 6 debugs it", debug6, sizeof debug6);
+    console(sizes, both);
     return 0;
 }

@@ -72,7 +72,8 @@ pub fn request_from(r: [u8; 8], records: &State) -> Call {
     let (mut arg1, mut arg2) = (moved(r[0], word(r[4], r[5])), moved(r[0], word(r[6], r[7])));
     if !any {
         let processes = if near { 2 } else { 8 };
-        (host, cmd, pid) = ([5, 5, 6, TEXT_HOST][usize::from(host) % 4], cmd % 17, pid % processes);
+        host = [5, 5, 6, TEXT_HOST, PUP_HOST][usize::from(host) % 5];
+        (cmd, pid) = (cmd % 17, pid % processes);
         if matches!(cmd, NOP | CREATE_PROCESS) {
             pid = 0;
         }
@@ -166,6 +167,41 @@ pub fn line_from(r: [u8; 8], records: &State) -> Call {
     let mut text = line[..length].to_vec();
     spoil_line(r[7], r[6], &mut text);
     Call::Line { text }
+}
+
+/// A packet: the address is near the end of the process, at one of its breakpoints or any, and the ID is near that of the Go that waits. Bit 7 takes
+/// any type, and makes type or ID wider at times.
+pub fn packet_from(r: [u8; 8], records: &State) -> Call {
+    let any = r[0] & 128 != 0;
+    let process = &records.processes[usize::from(records.door) % PROCESSES];
+    let kind = if any { r[1] } else { STORE + r[1] % 4 };
+    let address = match r[2] % 4 {
+        0 => (process.size / 2 + u16::from(r[3] % 80)).wrapping_sub(72),
+        1 => used_address(r[3], process).unwrap_or(0) / 2,
+        _ if any => word(r[2], r[3]),
+        _ => moved(r[0], word(r[2], r[3])) / 2,
+    };
+    let third = match r[6] >> 4 {
+        n @ 0..=8 => 1 << n,
+        9 | 10 => u16::from(r[6]),
+        n => [0, 3, 33, 257, 512][usize::from(n) - 11],
+    };
+    let words = [address, word(r[4], r[5]), third, 1, 2];
+    let count = [3, 3, 3, 3, 2, 1, 0, 5][usize::from(r[6]) % 8];
+    let go = process.go.id;
+    let id = match r[7] % 8 {
+        0..=2 => go.wrapping_add(1),
+        3 | 4 => go,
+        5 => go.wrapping_add(2),
+        6 => u32::MAX,
+        _ => r[7].into(),
+    };
+    let wide = |n: u64, bits: u8, bit: u8| match any && r[5] & bit != 0 {
+        true => n | 1 << (bits + r[4] % (64 - bits)),
+        false => n,
+    };
+    let words = if matches!(kind, GO | GO_REPLY) { Vec::new() } else { words[..count].to_vec() };
+    Call::Packet { kind: wide(kind.into(), 8, 1), id: wide(id.into(), 32, 2), words }
 }
 
 /// Spoils a text in one place, as this byte says: mostly not.

@@ -1,17 +1,19 @@
 //! What the fuzzer runs: its bytes are read as a list of calls, the proved library and the model make each of them, and the program aborts
 //! at the first difference of result, state, memory, message, words or output buffer, or of the bytes around one of them.
 //!
-//! The first byte says which processes are there, the second how large each of them is; in the desk's calls, and where bit 7 of a report asks
-//! for it, numbers are wider than their fields. Then come records of eight bytes; the low three bits of the first say what it is:
+//! The first byte says which processes are there, the second how large each of them is, the third where the Pup door is; in the desk's calls, and
+//! where bit 7 of a report or packet asks for it, numbers are wider than their fields. Then come records of eight bytes; the low three bits of the
+//! first say what it is:
 //!
 //!     0, 1    a request: HOST, CMD, PID, ARG1, ARG2, with the string that its CMD carries
 //!     2       a line of the text debugger: PID, letter, ADDR, DATA, and how its text is spoiled; or, with bit 4, of any bytes, from those
 //!             that follow the record
-//!     3       a request of any bytes: a length, and the message from the bytes that follow the record
-//!     4       a machine report
+//!     3       a request of any bytes: a length, and the message from the bytes that follow the record; or, with bit 4, a packet: type, address,
+//!             value, third word, and which ID
+//!     4       a machine report; or, with bit 4, so many ticks
 //!     5       a store by the machine into a process's own bytes, or, with bit 4, a call of the desk's end
-//!     6       damage: bytes of the state are changed for the next call, and the numbers of breakpoints made true again, or not; or, with bit 4,
-//!             where its processes lie
+//!     6       damage: bytes of the state are changed for the next call, a Go and its ticks among them, and the numbers of breakpoints made true
+//!             again, or not; or, with bit 4, where its processes lie
 //!     7       lengths: the next call is lent other lengths
 //!
 //! A call after damage or lengths is made on copies; damage is kept where bit 6 asks for it and the state is still sound. Bit 7 takes all
@@ -23,6 +25,7 @@
 
 #[path = "../model/compare/answers.rs"]
 mod answers;
+mod guiding;
 #[allow(dead_code)] // what is wrong with a layout is not asked here
 #[path = "../model/compare/layout.rs"]
 mod layout;
@@ -30,6 +33,8 @@ mod layout;
 mod library;
 #[path = "../model/compare/passing.rs"]
 mod passing;
+#[path = "../model/compare/pup.rs"]
+mod pup;
 mod reading;
 #[path = "../model/compare/sides.rs"]
 mod sides;
@@ -41,9 +46,10 @@ mod status;
 #[path = "../model/compare/watching.rs"]
 mod watching;
 
-use layout::{lay_out, order, out_of_order};
+use guiding::{condition_for, found_by, note};
+use layout::{lay_out, order};
 use model::*;
-use reading::{desk_from, line_from, report_from, request_from, word, Records};
+use reading::{desk_from, line_from, packet_from, report_from, request_from, word, Records};
 use sides::{is_sound, Call, Pair, Side};
 use status::count_again;
 use std::os::raw::c_int;
@@ -62,114 +68,6 @@ fn compare(call: &Call, pair: &mut Pair) {
         Ok(answer) => note(call, found, found_too, answer),
         Err(text) => stop(&text),
     }
-}
-
-// ---------------------------------------------------------------- guiding
-
-/// The library is not instrumented. The fuzzer also counts as new what it answers to which call in which condition of the process.
-/// After the calls come CREATE and DESTROY once more, in the layout that they find, STATUS by what it tells, and then the letters of lines, and
-/// lines with none.
-const CALLS: usize = LINES + LETTERS.len() + 1;
-const CREATES: usize = 26;
-const DESTROYS: usize = CREATES + 1;
-const STATUSES: usize = DESTROYS + 1;
-const LINES: usize = STATUSES + 1;
-const ANSWERS: usize = 19;
-/// Six run states with three conditions of breakpoints, three of what is owed and three of who watches; those of a layout are fewer.
-const CONDITIONS: usize = 6 * 3 * 3 * 3;
-
-#[link_section = "__libfuzzer_extra_counters"]
-static mut SEEN: [u8; CALLS * ANSWERS * CONDITIONS] = [0; CALLS * ANSWERS * CONDITIONS];
-
-/// Run state, whether there is no breakpoint, none lifted, or one lifted, what is owed, and whether nobody watches, one without breakpoints, or one with
-/// some.
-fn condition(state: &[u8], p: u8) -> usize {
-    let at = RECORD_BYTES * (usize::from(p) % PROCESSES);
-    let Some(record) = state.get(at..at + RECORD_BYTES) else { return 0 };
-    let entries = || record[ENTRIES_AT..].chunks_exact(ENTRY_BYTES).filter(|e| e[1] != NOBODY);
-    let lifted = entries().any(|e| e[0] != 0);
-    let breaks = if lifted { 2 } else { usize::from(entries().next().is_some()) };
-    let watch = match record[WATCHER_AT] {
-        NOBODY => 0,
-        watcher => 1 + usize::from(entries().any(|e| e[1] == watcher)),
-    };
-    let found = usize::from(record[2]).min(5) * 3 + breaks;
-    (found * 3 + usize::from(record[OWED_AT]).min(2)) * 3 + watch
-}
-
-/// The condition of the process that a call names.
-fn condition_for(call: &Call, state: &[u8]) -> usize {
-    match call {
-        Call::Request { message } => condition(state, message.get(5).copied().unwrap_or(0)),
-        Call::Report { process, .. } => condition(state, *process as u8),
-        Call::Line { text } => condition(state, read_line(text).map_or(0, |line| line.pid as u8)),
-        _ => 0,
-    }
-}
-
-/// What a CREATE or a DESTROY finds: of CREATE, whether it asks for fewer bytes than are free, just them or more, and whether a number is
-/// free, below another or not; of DESTROY, whether it moves none, one or more, and breakpoints among them. And what a STATUS tells: how many are
-/// set, and the run state.
-fn found_by(call: &Call, state: &[u8]) -> Option<(usize, usize)> {
-    let Call::Request { message: m } = call else { return None };
-    let state = decode(state).filter(|state| m.len() >= HEAD && sound(state))?;
-    let there = |p: usize| state.processes[p].there;
-    match m[4] {
-        CREATE_PROCESS => {
-            let asked = usize::from(asked_size(word(m[6], m[7]))?);
-            let room = asked.cmp(&free_bytes(&state)) as i8 + 1;
-            let number = match (0..PROCESSES).find(|&p| !there(p)) {
-                None => 0,
-                Some(new) => 1 + usize::from((new..PROCESSES).any(there)),
-            };
-            Some((CREATES, 3 * room as usize + number))
-        }
-        DESTROY_PROCESS => {
-            let gone = state.processes.get(usize::from(m[5]))?;
-            let above = |p: &&Process| p.there && p.begin > gone.begin;
-            let moved = state.processes.iter().filter(above);
-            let points = moved.clone().flat_map(|p| &p.breakpoints).filter(|b| b.used());
-            let kinds = points.map(|b| 1 + usize::from(b.lifted)).max().unwrap_or(0);
-            let order = usize::from(out_of_order(&state));
-            Some((DESTROYS, moved.count().min(2) * 3 + kinds + 9 * order))
-        }
-        STATUS => {
-            let process = state.processes.get(usize::from(m[5]))?;
-            Some((STATUSES, usize::from(process.set) * Run::ALL.len() + process.run as usize))
-        }
-        _ => None,
-    }
-}
-
-fn note(call: &Call, found: usize, found_too: Option<(usize, usize)>, answer: i64) {
-    let what = match call {
-        Call::Request { message: m } if m.len() >= HEAD => usize::from(m[4]).min(17),
-        Call::Request { .. } => 18,
-        Call::Report { kind, .. } => 19 + (*kind).min(3) as usize,
-        Call::Write { .. } => 23,
-        Call::Read { .. } => 24,
-        Call::FreshStart { .. } => 25,
-        Call::Line { text } => LINES + letter_of(text),
-    };
-    let answered = match answer {
-        // of a report, with a line
-        256.. if matches!(call, Call::Report { .. }) => 18,
-        1.. => 0,
-        0 => 1,
-        -99.. => 1 + (-answer).min(16) as usize,
-        // of a line: 101, 103, 114, 116, 122
-        _ => 8 + (-answer - 100) as usize / 3,
-    };
-    for (what, found) in [Some((what, found)), found_too].into_iter().flatten() {
-        let index = (what * ANSWERS + answered) * CONDITIONS + found;
-        unsafe { SEEN[index] = 1 };
-    }
-}
-
-/// The place of a line's letter among all, or the one after the last.
-fn letter_of(text: &[u8]) -> usize {
-    let place = |line: LineRead| LETTERS.iter().position(|&letter| letter == line.request);
-    read_line(text).and_then(place).unwrap_or(LETTERS.len())
 }
 
 // ---------------------------------------------------------------- damage
@@ -217,15 +115,26 @@ impl Spoiled {
         let record = RECORD_BYTES * (usize::from(r[1]) % if r[0] & 8 != 0 { 2 } else { 8 });
         // a byte of the state may be damage to its number too
         self.count = r[0] & 32 != 0 || r[7] & 1 == 0;
+        if r[0] & 32 == 0 && r[6] % 4 == 3 {
+            let go = [r[2] % 3, 95 + r[3] % 6, r[4], r[5], 255, 255];
+            self.damage.push((record + 1, PUP_HOST));
+            self.damage
+                .extend(go.into_iter().enumerate().map(|(i, b)| (record + GO_WAITS_AT + i, b)));
+            return;
+        }
         if r[0] & 32 == 0 {
-            // host 253 is the one whose answers are owed
-            let small = |byte: u8| if byte % 8 == 7 { TEXT_HOST } else { byte % 8 };
+            // host 253 is the one whose answers are owed, host 254 the one whose Go waits
+            let small = |byte: u8| match byte % 8 {
+                6 => PUP_HOST,
+                7 => TEXT_HOST,
+                byte => byte,
+            };
             self.damage.push((record + usize::from(r[2]) % RECORD_BYTES, small(r[3])));
             self.damage.push((record + usize::from(r[4]) % RECORD_BYTES, small(r[5])));
             return;
         }
         let entry = record + ENTRIES_AT + ENTRY_BYTES * (usize::from(r[2]) % BREAKPOINTS);
-        let setter = [5, 6, TEXT_HOST, NOBODY][usize::from(r[3] >> 1) % 4];
+        let setter = [5, 6, TEXT_HOST, PUP_HOST, NOBODY][usize::from(r[3] >> 1) % 5];
         let bytes = [r[3] & 1, setter, r[4] % 20, 0, r[5], 0, r[6], r[7]];
         self.damage.extend(bytes.into_iter().enumerate().map(|(i, b)| (entry + i, b)));
     }
@@ -255,6 +164,7 @@ impl Spoiled {
             side.memory = side.memory.resized(other(MEMORY, memory));
             side.output = side.output.resized(other(LONGEST, output));
             side.line = side.line.resized(other(LONGEST_LINE, line));
+            side.ack = side.ack.resized(2 * other(ACK_WORDS, output));
         }
     }
 
@@ -278,12 +188,21 @@ fn sizes_from(by: u8) -> Vec<u16> {
     }
 }
 
+/// The door that a byte stands for: mostly a process, else that byte, or a number with no room in one.
+fn door_from(by: u8) -> u64 {
+    match by {
+        0..=223 => (by % 8).into(),
+        224..=247 => by.into(),
+        _ => 256 + u64::from(by),
+    }
+}
+
 /// Both sides after a fresh start into a buffer that is not zero.
-fn started(there: u8, sizes: Vec<u16>) -> Pair {
+fn started(there: u8, sizes: Vec<u16>, door: u64) -> Pair {
     let memory: Vec<u8> = (0..MEMORY).map(|i| (i / 2 % 251) as u8).collect();
     let mut pair = Pair::new(Side::new(&[1; STATE_BYTES], &memory, &[0xee; LONGEST]));
     for sizes in [sizes, vec![2048; PROCESSES]] {
-        match pair.call(&Call::FreshStart { there: there.into(), sizes }) {
+        match pair.call(&Call::FreshStart { there: there.into(), sizes, door }) {
             Ok(0) => break,
             // more than the memory: those of 2,048 have room
             Ok(_) => {}
@@ -332,8 +251,8 @@ fn store(pair: &mut Pair, r: [u8; 8]) {
 }
 
 fn run(data: &[u8]) {
-    let Some((&[there, by], rest)) = data.split_first_chunk() else { return };
-    let mut pair = started(there, sizes_from(by));
+    let Some((&[there, by, door], rest)) = data.split_first_chunk() else { return };
+    let mut pair = started(there, sizes_from(by), door_from(door));
     let mut list = Records(rest);
     let mut spoiled = Spoiled::default();
     while let Some(r) = list.next() {
@@ -351,9 +270,18 @@ fn run(data: &[u8]) {
                 let call = request_from(r, &records(&pair));
                 make(&mut pair, call, std::mem::take(&mut spoiled));
             }
+            3 if r[0] & 16 != 0 => {
+                let call = packet_from(r, &records(&pair));
+                make(&mut pair, call, std::mem::take(&mut spoiled));
+            }
             3 => {
                 let message = list.take(usize::from(word(r[1] & 1, r[2]))).to_vec();
                 make(&mut pair, Call::Request { message }, std::mem::take(&mut spoiled));
+            }
+            4 if r[0] & 16 != 0 => {
+                for _ in 0..=r[1] % 128 {
+                    make(&mut pair, Call::Tick, std::mem::take(&mut spoiled));
+                }
             }
             4 => {
                 let call = report_from(r, &records(&pair));

@@ -1,18 +1,19 @@
-/* The debugging stub for firmware in C, with a door for the text debugger of the bench, and the desk's end of its protocol. docs/EMBEDDING.md says
- * what each byte means. */
+/* The debugging stub for firmware in C, with a door for the text debugger of the bench and one for the Pup packets of the growers' consoles, and the
+ * desk's end of its protocol. docs/EMBEDDING.md says what each byte means. */
 #ifndef PALUSTRODE_H
 #define PALUSTRODE_H
 
 #include <stddef.h>
 #include <stdint.h>
 
-/* A state is eight processes of 90 bytes, the last 64 of which are eight breakpoint entries of 8 bytes; then, from byte 720 on, where each
- * process begins in memory, two bytes each, low byte first. All processes lie in one memory of 16,384 bytes, one after the other without gaps,
- * each with as many bytes as its size says; free bytes follow the last. */
-#define PALUSTRODE_STATE_BYTES 736
-#define PALUSTRODE_PROCESS_BYTES 90
+/* A state is eight processes of 96 bytes, the last 64 of which are eight breakpoint entries of 8 bytes; then, from byte 768 on, where each
+ * process begins in memory, two bytes each, low byte first; and last the number of the process that the Pup door is at. All processes lie in one
+ * memory of 16,384 bytes, one after the other without gaps, each with as many bytes as its size says; free bytes follow the last. */
+#define PALUSTRODE_STATE_BYTES 785
+#define PALUSTRODE_PROCESS_BYTES 96
 #define PALUSTRODE_ENTRY_BYTES 8
-#define PALUSTRODE_STARTS_AT 720
+#define PALUSTRODE_STARTS_AT 768
+#define PALUSTRODE_DOOR_AT 784
 #define PALUSTRODE_MEMORY_BYTES 16384
 
 /* The number of processes, and of their sizes; and the least and the greatest size in bytes, which is even. In ARG1 of a CREATE 0 stands for
@@ -32,8 +33,21 @@
 #define PALUSTRODE_LINE_BYTES 35
 #define PALUSTRODE_TEXT_HOST 253
 
-/* The stack that a call needs, in bytes, what it calls included: 1,472 were measured on x86-64 (docs/EMBEDDING.md says how). */
-#define PALUSTRODE_STACK_BYTES 1536
+/* The most 16-bit words that the acknowledgement of a packet has, which is the least room for one; the host as which a console asks by packets; and,
+ * at a fresh start, the number that puts the Pup door at no process (every other number over 7 does so too). */
+#define PALUSTRODE_ACK_WORDS 35
+#define PALUSTRODE_PUP_HOST 254
+#define PALUSTRODE_NO_DOOR 255
+
+/* The types of packets, which the TeleSwat memo has in octal, 200 to 204. The last is that of every acknowledgement. */
+#define PALUSTRODE_STORE 128
+#define PALUSTRODE_FETCH 129
+#define PALUSTRODE_GO 130
+#define PALUSTRODE_GO_REPLY 131
+#define PALUSTRODE_ACK 132
+
+/* The stack that a call needs, in bytes, what it calls included: 1,536 were measured on x86-64 (docs/EMBEDDING.md says how). */
+#define PALUSTRODE_STACK_BYTES 1600
 
 /* The op codes of requests, in CMD. A CAN'T has PALUSTRODE_CANT added. */
 #define PALUSTRODE_NOP 0
@@ -63,15 +77,19 @@
 #define PALUSTRODE_NOTICE 64
 
 /* Of a process's bytes in the state, those that the firmware acts on: 1 if it is there, its run state, its size, which answer is owed to the text
- * debugger (0 none, 1 to a `c`, 2 to an `s`), and its nine words; and two that it need not look at: how many breakpoints are set in it, 0 to 8, and
- * the host that watches it, or 0. */
+ * debugger (0 none, 1 to a `c`, 2 to an `s`), and its nine words; and some that it need not look at: how many breakpoints are set in it, 0 to 8, the
+ * host that watches it, or 0, and of a Go of the Pup door whether one waits, 0 or 1, how many ticks were counted since, 0 to 99, and its ID, four
+ * bytes, low byte first. */
 #define PALUSTRODE_THERE_AT 0
 #define PALUSTRODE_RUN_STATE_AT 2
 #define PALUSTRODE_SIZE_AT 3
 #define PALUSTRODE_SET_AT 5
 #define PALUSTRODE_OWED_AT 6
 #define PALUSTRODE_WATCHER_AT 7
-#define PALUSTRODE_VECTOR_AT 8
+#define PALUSTRODE_GO_WAITS_AT 8
+#define PALUSTRODE_GO_TICKS_AT 9
+#define PALUSTRODE_GO_ID_AT 10
+#define PALUSTRODE_VECTOR_AT 14
 
 /* The run states, which ARG2 of a reply to STATUS tells too. A process executes only while it is there and running, stepping or passing, and one
  * instruction only while stepping or passing (docs/EMBEDDING.md, "What the firmware does around the calls"). */
@@ -94,29 +112,33 @@
 extern "C" {
 #endif
 
-/* Each call returns the length granted, 0 or more (a report two lengths in one number), or minus the number of the refusal. Any bytes in the
- * buffers are safe, and any lengths. Numbers are 64 bits wide, so that none is cut on its way in: one that its field has no room for is refused,
- * with the number named below.
+/* Each call returns the length granted, 0 or more (a report two lengths in one number, a packet a number of words), or minus the number of the
+ * refusal. Any bytes in the buffers are safe, and any lengths. Numbers are 64 bits wide, so that none is cut on its way in: one that its field has no
+ * room for is refused, with the number named below; only the process of the Pup door may be any at a fresh start.
  *
  * What a caller must see to, since no call can test it:
- * - each pointer is valid for the number that follows it: of bytes, and for the sizes and the five fields of 16-bit words. Nothing is promised
- *   of NULL, even with a length of 0;
- * - the buffers lent in one call do not overlap, least of all the reply and the message;
- * - one call at a time on a state and on its memory: no second thread, and no interrupt that calls while a call is under way;
+ * - each pointer is valid for the number that follows it: of bytes, and for the sizes, the five fields, the words of a packet and those of its
+ *   acknowledgement of 16-bit words. Nothing is promised of NULL, even with a length of 0;
+ * - the buffers lent in one call do not overlap, least of all the reply and the message, or the acknowledgement and the words of the packet;
+ * - one call at a time on a state and on its memory: no second thread, and no interrupt that calls while a call is under way. The clock's is none
+ *   either: it notes the tick, and palustrode_tick is called when no other call is under way;
  * - the machine stores nothing into memory during a call, and nobody writes into a lent buffer; between calls the machine may store, and
  *   nobody else: each process only within its own bytes, as many as its size says from palustrode_start on;
  * - PALUSTRODE_STACK_BYTES of stack are left at a call;
  * - the first call on a state is a fresh start, or the state is one that such calls left: any other sound state is taken for what it says.
  *
- * Buffers of bytes may lie at any address; sizes and fields are aligned as uint16_t is. No call keeps a pointer, allocates or uses other memory
- * than the stack and what it is lent, so calls on different states with different memories may be made at the same time. */
+ * Buffers of bytes may lie at any address; sizes, fields and the words of a packet and of its acknowledgement are aligned as uint16_t is, and are
+ * numbers as the processor keeps them: which byte of a word the network sends first is the caller's to know. No call keeps a pointer, allocates or
+ * uses other memory than the stack and what it is lent, so calls on different states with different memories may be made at the same time. */
 
 /* A fresh start: process p is there where bit p of `there` is set, running, with no host and with sizes[p] bytes, and the others are not; their
- * sizes are passed over. In memory they lie one after the other in the order of their numbers, from byte 0 on. Every byte of the state is
- * written, whatever it held; memory is not touched, and stays as it is. 0; or, with nothing written, -1 where not eight sizes are lent or the
- * state has not its 736 bytes, else -2 where the size of a process that is to be there is odd, 0 or over 4,096 or all these sizes together are
+ * sizes are passed over. In memory they lie one after the other in the order of their numbers, from byte 0 on. The Pup door is at process `door`,
+ * which need not be there yet, until the next fresh start; any number over 7 puts it at none, and one over 255 is kept as 255. Every byte of the
+ * state is written, whatever it held; memory is not touched, and stays as it is. 0; or, with nothing written, -1 where not eight sizes are lent or
+ * the state has not its 785 bytes, else -2 where the size of a process that is to be there is odd, 0 or over 4,096 or all these sizes together are
  * more than 16,384, and else -7 where a bit above the eighth is set. */
-int64_t palustrode_fresh_start(uint64_t there, const uint16_t *sizes, size_t sizes_count, uint8_t *state, size_t state_length);
+int64_t palustrode_fresh_start(uint64_t there, const uint16_t *sizes, size_t sizes_count, uint64_t door, uint8_t *state,
+                               size_t state_length);
 
 /* A request: any message, and the buffer for its reply. A CAN'T of ten bytes is written where -16 to -7 is returned. After a granted CREATE a
  * new process lies last; after a granted DESTROY those that lay above the one that went have moved down with their bytes, and the bytes that
@@ -144,6 +166,31 @@ int64_t palustrode_report(uint8_t *state, size_t state_length, uint8_t *memory, 
 int64_t palustrode_line(uint8_t *state, size_t state_length, uint8_t *memory, size_t memory_length, const uint8_t *text,
                         size_t text_length, uint8_t *line, size_t line_length);
 
+/* A Pup packet of a console, which asks as host 254 and always about the process of the Pup door: its type, its ID, its data words, and the buffer
+ * for the data words of the acknowledgement. Addresses count words: word a is the process's bytes 2a and 2a + 1, as seen, low byte first.
+ * - A Store has the address, the word to store and, if it likes, the length of a block; its acknowledgement has the address and 0.
+ * - A Fetch has the address, a word that is passed over and, if it likes, the length of a block; its acknowledgement has the address and the word
+ *   there.
+ * - Where the length is 1, 2, 4 .. 256, the acknowledgement goes on with the length n that is sent, at most 32 and halved until the block ends within
+ *   the process, and with the n words of the block that begins at the address rounded down to a multiple of n, after the store. Any other length
+ *   asks for no block.
+ * - A Go is acknowledged without words, and the process does not run yet: the Go waits. It runs, as after a RESUME, at a GoReply with the next ID
+ *   (0 follows 4,294,967,295) or at the hundredth tick since the Go. The same Go again is acknowledged again, and the ticks count on. Any other
+ *   packet that is granted abandons the Go, a GoReply with another ID too, and so do END DEBUG and DESTROY; a Go with another ID takes its place.
+ * - A GoReply is not acknowledged, and is granted too where nothing waits for it.
+ * Granted, it returns how many words the acknowledgement has: 2, or 3 + n, of a Store or Fetch, and 0 of a Go and a GoReply; palustrode_acknowledged
+ * below tells these apart. The acknowledgement has the type PALUSTRODE_ACK and the ID of the packet, and goes to where the packet came from. Words
+ * past those written are not touched; those that a packet has beyond the ones named here are passed over. Refused, it has written nothing, and is
+ * not acknowledged: -1 (under 35 words of room, or a memory of another length), -2, -3 (a Store of under 2 words, a Fetch of none), -5 (another
+ * type, or an ID over 32 bits), -7 (the process is not there, or the door is at none), -8 (host 254 does not debug it; for a Fetch, it does not
+ * watch it either), -9 (a Go where RESUME would be refused with 9) or -10 (the word is outside of the process). */
+int64_t palustrode_packet(uint8_t *state, size_t state_length, uint8_t *memory, size_t memory_length, uint64_t type, uint64_t id,
+                          const uint16_t *words, size_t words_count, uint16_t *ack, size_t ack_count);
+
+/* A tenth of a second has passed. Call it ten times a second, whether a Go waits or not. At the hundredth tick of a Go the process runs, unless it
+ * does already or has ended: then the Go just ends. So look at the run state after it. 0, or -2; no buffer is needed. */
+int64_t palustrode_tick(uint8_t *state, size_t state_length);
+
 /* The desk writes a request with these fields and this string: its length, or -1 (under 266 bytes of room), -3 (a string over 256 bytes),
  * -4 (a host that is not 1 to 255), -5 (no op code) or -6 (an unused field is not 0, a PID over 255, an argument over 65,535, a CREATE with a
  * size in ARG1 that is odd or over 4,096, or a string of another length than the op code carries). Needs no state. */
@@ -159,7 +206,7 @@ int64_t palustrode_read_answer(const uint8_t *message, size_t message_length, ui
 }
 #endif
 
-/* The 90 bytes of process p, 0 to 7, in a state; found by a table, since the core has no multiply instruction. */
+/* The 96 bytes of process p, 0 to 7, in a state; found by a table, since the core has no multiply instruction. */
 static inline const uint8_t *palustrode_process(const uint8_t *state, unsigned p) {
     static const uint16_t at[PALUSTRODE_PROCESSES] = {0 * PALUSTRODE_PROCESS_BYTES, 1 * PALUSTRODE_PROCESS_BYTES,
                                                       2 * PALUSTRODE_PROCESS_BYTES, 3 * PALUSTRODE_PROCESS_BYTES,
@@ -168,13 +215,20 @@ static inline const uint8_t *palustrode_process(const uint8_t *state, unsigned p
     return state + at[p];
 }
 
-/* Where process p, 0 to 7, begins in memory, read from the 736 bytes of a state: its bytes are memory[start] to memory[start + size - 1]. Of a
+/* Where process p, 0 to 7, begins in memory, read from the 785 bytes of a state: its bytes are memory[start] to memory[start + size - 1]. Of a
  * process that is not there it says nothing. Read it anew after each fresh start and each granted CREATE or DESTROY, of any process; nothing
  * else moves one. */
 static inline size_t palustrode_start(const uint8_t *state, unsigned p) {
     const uint8_t *start = state + PALUSTRODE_STARTS_AT + p + p;
     return start[0] + 256u * start[1];
 }
+
+/* The process that the Pup door is at, read from the 785 bytes of a state: 0 to 7, there or not; any greater number is none. Nothing but a fresh
+ * start changes it. */
+static inline unsigned palustrode_door(const uint8_t *state) { return state[PALUSTRODE_DOOR_AT]; }
+
+/* Whether to send an acknowledgement, of as many words as were returned, after a packet of this type that returned r. */
+static inline int palustrode_acknowledged(int64_t r, uint64_t type) { return r >= 0 && type != PALUSTRODE_GO_REPLY; }
 
 /* The length of the notice to send after a report that returned r: 0 where there is none, or the report was refused. */
 static inline size_t palustrode_notice_length(int64_t r) { return r < 0 ? 0 : (size_t)(r & 255); }

@@ -1,20 +1,21 @@
 //! Makes the calls that `perf/run` measures.
 //!
 //!     driver rows              the rows: name, tab, what it does
-//!     driver check ROW TURNS   the row on all sides: answers, state, memory, output and line are the same, and the answers those expected
+//!     driver check ROW TURNS   the row on all sides: answers, state, memory, output, line and acknowledgement are the same, and the answers
+//!                              those expected
 //!     driver stack SIDE ROW    the deepest stack of the row's calls, in bytes
 //!     driver SIDE ROW TURNS    the row on one side, and nothing printed
 //!
-//! SIDE is `library`, `typed` (the model on a state kept as a struct), `bytes` (the model on the 736 bytes of a state) or `empty` (no call
+//! SIDE is `library`, `typed` (the model on a state kept as a struct), `bytes` (the model on the 785 bytes of a state) or `empty` (no call
 //! is made; what is left is the harness).
 #![no_main]
 
 use library::*;
 use model::{
-    State, BEGINS_AT, FIELDS, LONGEST, LONGEST_LINE, MEMORY, OWED_AT, PROCESSES, RECORD_BYTES,
-    STATE_BYTES, VECTOR,
+    State, ACK_WORDS, BEGINS_AT, FIELDS, GO_ID_AT, GO_TICKS_AT, GO_WAITS_AT, LONGEST, LONGEST_LINE,
+    MEMORY, OWED_AT, PROCESSES, RECORD_BYTES, STATE_BYTES, VECTOR, VECTOR_AT,
 };
-use rows::{rows, to, Row, Start, Step};
+use rows::{rows, to, Row, Start, Step, DOOR};
 use std::arch::asm;
 use std::ffi::{c_char, c_int, CStr};
 use std::hint::black_box;
@@ -32,20 +33,23 @@ struct Gate<S> {
     output: Vec<u8>,
     line: Vec<u8>,
     fields: [u16; FIELDS],
+    ack: [u16; ACK_WORDS],
 }
 
 impl<S> Gate<S> {
     fn new(state: S) -> Self {
         let memory = (0..MEMORY).map(|i| (i % 251) as u8).collect();
         let (output, line) = (vec![0; LONGEST], vec![0; LONGEST_LINE]);
-        Gate { state, memory, output, line, fields: [0; FIELDS] }
+        Gate { state, memory, output, line, fields: [0; FIELDS], ack: [0; ACK_WORDS] }
     }
 }
 
+type Seen<'a> = (Vec<u8>, &'a [u8], &'a [u8], &'a [u8], &'a [u16]);
+
 trait Side {
     fn make(&mut self, step: &Step) -> i64;
-    /// State bytes, memory, output and line.
-    fn seen(&self) -> (Vec<u8>, &[u8], &[u8], &[u8]);
+    /// State bytes, memory, output, line and acknowledgement.
+    fn seen(&self) -> Seen<'_>;
 
     fn start(&mut self, row: &Row) {
         self.make(&to(model::DEBUG, 0, 0));
@@ -78,6 +82,13 @@ fn set_back(state: &mut [u8; STATE_BYTES], step: &Step) {
             state[record + 2] = *run as u8;
             state[record + OWED_AT] = *owed as u8;
         }
+        Step::PutGo(run, go) => {
+            let record = RECORD_BYTES * usize::from(DOOR);
+            state[record + 2] = *run as u8;
+            state[record + GO_WAITS_AT] = u8::from(go.waits);
+            state[record + GO_TICKS_AT] = go.ticks;
+            state[record + GO_ID_AT..record + VECTOR_AT].copy_from_slice(&go.id.to_le_bytes());
+        }
         Step::Back { pid, there, host, begins } => {
             let record = RECORD_BYTES * usize::from(*pid);
             state[record] = u8::from(*there);
@@ -92,7 +103,7 @@ fn set_back(state: &mut [u8; STATE_BYTES], step: &Step) {
 
 impl Side for Library {
     fn make(&mut self, step: &Step) -> i64 {
-        let Gate { state, memory, output, line, fields } = &mut self.0;
+        let Gate { state, memory, output, line, fields, ack } = &mut self.0;
         let (s, m, o) = (state.as_mut_ptr(), memory.as_mut_ptr(), output.as_mut_ptr());
         let l = line.as_mut_ptr();
         match step {
@@ -121,6 +132,12 @@ impl Side for Library {
             Step::Line(a) => unsafe {
                 palustrode_line(s, STATE_BYTES, m, MEMORY, a.as_ptr(), a.len(), l, LONGEST_LINE)
             },
+            Step::Packet(kind, id, words) => unsafe {
+                let (kind, id) = ((*kind).into(), (*id).into());
+                let (w, count, a) = (words.as_ptr(), words.len(), ack.as_mut_ptr());
+                palustrode_packet(s, STATE_BYTES, m, MEMORY, kind, id, w, count, a, ACK_WORDS)
+            },
+            Step::Tick => unsafe { palustrode_tick(s, STATE_BYTES) },
             Step::Write([host, cmd, pid, arg1, arg2], string) => unsafe {
                 let (string, length) = (string.as_ptr(), string.len());
                 palustrode_write_request(
@@ -130,15 +147,16 @@ impl Side for Library {
             Step::Read(a) => unsafe {
                 palustrode_read_answer(a.as_ptr(), a.len(), fields.as_mut_ptr(), FIELDS)
             },
-            Step::Put { .. } | Step::Back { .. } => {
+            Step::Put { .. } | Step::PutGo(..) | Step::Back { .. } => {
                 set_back(state, step);
                 0
             }
         }
     }
 
-    fn seen(&self) -> (Vec<u8>, &[u8], &[u8], &[u8]) {
-        (self.0.state.to_vec(), &self.0.memory, &self.0.output, &self.0.line)
+    fn seen(&self) -> Seen<'_> {
+        let Gate { state, memory, output, line, ack, .. } = &self.0;
+        (state.to_vec(), memory, output, line, ack)
     }
 }
 
@@ -155,7 +173,7 @@ fn by_desk(step: &Step, output: &mut [u8], fields: &mut [u16]) -> i64 {
 
 impl Side for Bytes {
     fn make(&mut self, step: &Step) -> i64 {
-        let Gate { state, memory, output, line, fields } = &mut self.0;
+        let Gate { state, memory, output, line, fields, ack } = &mut self.0;
         match step {
             Step::Request(message) => model::request_bytes(state, memory, message, output),
             Step::Report { pid, kind, bytes, .. } => {
@@ -163,22 +181,28 @@ impl Side for Bytes {
                 model::report_bytes(state, memory, pid, kind, 0, bytes, output, line)
             }
             Step::Line(text) => model::line_bytes(state, memory, text, line),
+            Step::Packet(kind, id, words) => {
+                let (kind, id) = ((*kind).into(), (*id).into());
+                model::packet_bytes(state, memory, kind, id, words, ack)
+            }
+            Step::Tick => model::tick_bytes(state),
             Step::Write(..) | Step::Read(..) => by_desk(step, output, fields),
-            Step::Put { .. } | Step::Back { .. } => {
+            Step::Put { .. } | Step::PutGo(..) | Step::Back { .. } => {
                 set_back(state, step);
                 0
             }
         }
     }
 
-    fn seen(&self) -> (Vec<u8>, &[u8], &[u8], &[u8]) {
-        (self.0.state.to_vec(), &self.0.memory, &self.0.output, &self.0.line)
+    fn seen(&self) -> Seen<'_> {
+        let Gate { state, memory, output, line, ack, .. } = &self.0;
+        (state.to_vec(), memory, output, line, ack)
     }
 }
 
 impl Side for Typed {
     fn make(&mut self, step: &Step) -> i64 {
-        let Gate { state, memory, output, line, fields } = &mut self.0;
+        let Gate { state, memory, output, line, fields, ack } = &mut self.0;
         match step {
             Step::Request(message) => model::request(state, memory, message, output),
             Step::Report { pid, kind, words, .. } => {
@@ -186,10 +210,20 @@ impl Side for Typed {
                 model::report(state, memory, pid, kind, 0, words, output, line)
             }
             Step::Line(text) => model::line(state, memory, text, line),
+            Step::Packet(kind, id, words) => {
+                let (kind, id) = ((*kind).into(), (*id).into());
+                model::packet(state, memory, kind, id, words, ack)
+            }
+            Step::Tick => model::tick(state),
             Step::Write(..) | Step::Read(..) => by_desk(step, output, fields),
             Step::Put { pid, run, owed } => {
                 let process = &mut state.processes[usize::from(*pid)];
                 (process.run, process.owed) = (*run, *owed);
+                0
+            }
+            Step::PutGo(run, go) => {
+                let process = &mut state.processes[usize::from(DOOR)];
+                (process.run, process.go) = (*run, *go);
                 0
             }
             Step::Back { pid, there, host, begins } => {
@@ -203,8 +237,9 @@ impl Side for Typed {
         }
     }
 
-    fn seen(&self) -> (Vec<u8>, &[u8], &[u8], &[u8]) {
-        (model::encode(&self.0.state).to_vec(), &self.0.memory, &self.0.output, &self.0.line)
+    fn seen(&self) -> Seen<'_> {
+        let Gate { state, memory, output, line, ack, .. } = &self.0;
+        (model::encode(state).to_vec(), memory, output, line, ack)
     }
 }
 
@@ -215,23 +250,27 @@ impl Side for Empty {
             Step::Report { kind, .. } => i64::from(black_box(*kind)),
             Step::Write(_, string) => black_box(string.len()) as i64,
             Step::Read(message) => black_box(message.len()) as i64,
-            Step::Put { .. } | Step::Back { .. } => {
+            Step::Packet(_, _, words) => black_box(words.len()) as i64,
+            Step::Tick => black_box(0),
+            Step::Put { .. } | Step::PutGo(..) | Step::Back { .. } => {
                 set_back(&mut self.0.state, step);
                 0
             }
         }
     }
 
-    fn seen(&self) -> (Vec<u8>, &[u8], &[u8], &[u8]) {
-        (self.0.state.to_vec(), &self.0.memory, &self.0.output, &self.0.line)
+    fn seen(&self) -> Seen<'_> {
+        let Gate { state, memory, output, line, ack, .. } = &self.0;
+        (state.to_vec(), memory, output, line, ack)
     }
 }
 
 fn fresh_bytes(start: Start) -> [u8; STATE_BYTES] {
     let mut state = [0; STATE_BYTES];
     let (sizes, bytes) = (start.sizes.as_ptr(), state.as_mut_ptr());
-    let there = start.there.into();
-    let answer = unsafe { palustrode_fresh_start(there, sizes, PROCESSES, bytes, STATE_BYTES) };
+    let (there, door) = (start.there.into(), DOOR.into());
+    let answer =
+        unsafe { palustrode_fresh_start(there, sizes, PROCESSES, door, bytes, STATE_BYTES) };
     assert_eq!(answer, 0);
     state
 }
@@ -242,7 +281,7 @@ fn side(name: &str, start: Start) -> Option<Box<dyn Side>> {
         "library" => Box::new(Library(bytes())),
         "bytes" => Box::new(Bytes(bytes())),
         "typed" => {
-            let state = model::fresh_start(start.there, &start.sizes);
+            let state = model::fresh_start(start.there, &start.sizes, DOOR);
             Box::new(Typed(Gate::new(state.expect("the library has started with these"))))
         }
         "empty" => Box::new(Empty(bytes())),

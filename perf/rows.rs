@@ -1,6 +1,6 @@
 //! The rows of the table that `perf/run` prints: what each starts from, and the calls of one turn.
 
-use model::{Owed, Run, FIELDS, PROCESSES, TEXT_HOST, VECTOR, WORDS};
+use model::{Go, Owed, Run, FIELDS, PROCESSES, PUP_HOST, TEXT_HOST, VECTOR, WORDS};
 
 /// What a row starts from: the processes that are there, and the sizes of all.
 #[derive(Clone, Copy)]
@@ -17,6 +17,8 @@ pub const P: u8 = 2;
 const OWNER: u8 = 5;
 /// The process that the text debugger asks for, of 1,024 bytes.
 const BENCH: u8 = 3;
+/// The process at which the Pup door is, of 1,024 bytes.
+pub const DOOR: u8 = 4;
 const STRANGER: u8 = 6;
 /// The one who watches process 2 in some rows.
 const WATCHER: u8 = 7;
@@ -33,6 +35,9 @@ pub enum Step {
     },
     /// A line of the text debugger.
     Line(Vec<u8>),
+    /// A packet of a console: type, ID, and data words.
+    Packet(u8, u32, Vec<u16>),
+    Tick,
     /// The desk writes a request with these fields and this string.
     Write([u64; FIELDS], Vec<u8>),
     /// The desk reads an answer.
@@ -43,6 +48,8 @@ pub enum Step {
         run: Run,
         owed: Owed,
     },
+    /// No call: the process at the door is set back to this run state and to this Go, by a few stores into the state.
+    PutGo(Run, Go),
     /// No call: a process is set back to being there, debugged by this host, or not there; and all of them to where they lay at the
     /// start.
     Back {
@@ -99,7 +106,7 @@ fn row(name: &str, what: &str, before: Vec<Step>, turn: Vec<Step>, answers: i64)
 
 /// Sets a process of a row back to what it was at the start.
 fn back(start: Start, pid: u8, host: u8) -> Step {
-    let began = model::fresh_start(start.there, &start.sizes).expect("sizes that have room");
+    let began = model::fresh_start(start.there, &start.sizes, DOOR).expect("sizes that have room");
     let begins = began.processes.map(|process| process.begin);
     Step::Back { pid, there: start.there >> pid & 1 == 1, host, begins }
 }
@@ -184,6 +191,7 @@ pub fn rows() -> Vec<Row> {
     let ended = vec![to(END_DEBUG, 0, 0)];
     rows.push(row("session", "a debugging session of 11 calls", ended, session, 8 * 10 + 3 * 28));
     rows.extend(lines());
+    rows.extend(packets());
     rows
 }
 
@@ -217,5 +225,45 @@ fn lines() -> [Row; 6] {
         row("line-c", "a line c", debugged(), vec![text("0x3 c 0x1 0x0"), stopped], 0),
         row("line-stranger", "a line i, no right", vec![], vec![text("0x2 i 0x100 0x0")], -101),
         row("answered", "TRAP report with notice and line", debugged(), answered, 28 + 256 * 16),
+    ]
+}
+
+/// Packets to a process that host 254 has stopped, and ticks. The block begins at its first word, with no breakpoint or with eight, each in every
+/// fourth word.
+fn packets() -> [Row; 10] {
+    use model::{BREAK, DEBUG, FETCH, GO, GO_REPLY, STOP, STORE};
+    let debugged = || vec![ask(PUP_HOST, DEBUG, DOOR, 0, 0, 0), ask(PUP_HOST, STOP, DOOR, 0, 0, 0)];
+    let planted = (0..8).map(|k| ask(PUP_HOST, BREAK, DOOR, AT + 8 * k, 0, 0));
+    let planted = debugged().into_iter().chain(planted).collect();
+    let send = |kind: u8, words: &[u16]| Step::Packet(kind, 9, words.to_vec());
+    let word = AT / 2;
+    let fetch = || vec![send(FETCH, &[word, 0, 32])];
+    let waiting = |ticks: u8| Step::PutGo(Run::Stopped, Go { waits: true, ticks, id: 8 });
+    let stopped = || Step::PutGo(Run::Stopped, Go { waits: false, ticks: 0, id: 0 });
+    let go = vec![send(GO, &[]), stopped()];
+    let reply = vec![waiting(7), send(GO_REPLY, &[])];
+    [
+        row("fetch", "a Fetch of one word", debugged(), vec![send(FETCH, &[word])], 2),
+        row("fetch-32", "a Fetch, a block of 32", debugged(), fetch(), 35),
+        row("fetch-32-8", "a Fetch, a block of 32, 8 planted", planted, fetch(), 35),
+        row("store", "a Store", debugged(), vec![send(STORE, &[word, 7])], 2),
+        row(
+            "store-32",
+            "a Store, a block of 32",
+            debugged(),
+            vec![send(STORE, &[word, 7, 32])],
+            35,
+        ),
+        row("go", "a Go", debugged(), go, 0),
+        row("go-reply", "a GoReply that resumes", debugged(), reply, 0),
+        row("tick", "a tick, no Go waits", debugged(), vec![Step::Tick], 0),
+        row("tick-go", "a tick, a Go waits", debugged(), vec![waiting(7), Step::Tick], 0),
+        row(
+            "packet-stranger",
+            "a Fetch of one word, no right",
+            vec![],
+            vec![send(FETCH, &[word])],
+            -8,
+        ),
     ]
 }

@@ -4,7 +4,7 @@ use crate::sides::Call;
 use model::*;
 
 /// What a call is about: the process, PC as the call finds or brings it, and the
-/// range from ARG1 of ARG2 bytes. `cmd` is that of a request that passes tests
+/// range from ARG1 of ARG2 bytes; of a packet, the word at its address. `cmd` is that of a request that passes tests
 /// 3, 4 and 5, `asker` its host. Of a line in which PID and request can be read, `line` is what can be
 /// read, and the range is that of the word at ADDR.
 pub struct About<'a> {
@@ -15,12 +15,24 @@ pub struct About<'a> {
     pub asker: u8,
     pub kind: Option<u8>,
     pub line: Option<LineRead>,
+    pub packet: Option<Sent>,
+    pub tick: bool,
     pub pid: u8,
     pub p: usize,
     pub process: &'a Process,
     pub pc: u16,
     pub first: usize,
     pub count: usize,
+}
+
+/// A packet: type, ID, how many data words it has, and the first three, 0 where there are
+/// fewer.
+#[derive(Clone, Copy)]
+pub struct Sent {
+    pub kind: u64,
+    pub id: u64,
+    pub count: usize,
+    pub words: [u16; 3],
 }
 
 /// The op code of a message that passes tests 3, 4 and 5.
@@ -56,6 +68,16 @@ impl<'a> About<'a> {
                 let about = About::process(state, memory, pid);
                 About { line, asker: TEXT_HOST, first, count: 4, ..about }
             }
+            Call::Packet { kind, id, words } => {
+                let first = words.iter().chain(&[0; 3]);
+                let (mut three, count) = ([0; 3], words.len());
+                three.iter_mut().zip(first).for_each(|(to, from)| *to = *from);
+                let sent = Sent { kind: *kind, id: *id, count, words: three };
+                let about = About::process(state, memory, state.door);
+                let (packet, first) = (Some(sent), 2 * usize::from(three[0]));
+                About { packet, asker: PUP_HOST, first, count: 2, ..about }
+            }
+            Call::Tick => About { tick: true, ..About::process(state, memory, state.door) },
             _ => About::process(state, memory, 0),
         }
     }
@@ -63,9 +85,23 @@ impl<'a> About<'a> {
     pub fn process(state: &'a State, memory: &'a [u8], pid: u8) -> About<'a> {
         let p = usize::from(pid) % PROCESSES;
         let process = &state.processes[p];
-        let (cmd, kind, line, pc) = (None, None, None, process.vector[PC]);
-        let (asker, length, first, count) = (NOBODY, 0, 0, 0);
-        About { state, memory, length, cmd, asker, kind, line, pid, p, process, pc, first, count }
+        About {
+            state,
+            memory,
+            length: 0,
+            cmd: None,
+            asker: NOBODY,
+            kind: None,
+            line: None,
+            packet: None,
+            tick: false,
+            pid,
+            p,
+            process,
+            pc: process.vector[PC],
+            first: 0,
+            count: 0,
+        }
     }
 
     pub fn is(&self, cmd: u8) -> bool {

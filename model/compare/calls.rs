@@ -1,6 +1,8 @@
 //! Random calls, most of them such as can be granted in the state at hand.
 
 use crate::lines::make_line;
+use crate::moods::Mood;
+use crate::packets::{at_door, make_packet, waiting};
 use crate::random::Random;
 use crate::reports::{any_telling, make_report};
 use crate::sides::Call;
@@ -9,7 +11,7 @@ use crate::watchers::{asker, fits_watch, lifted_of_watcher};
 use model::*;
 
 /// Hosts that meet at the same processes.
-pub const HOSTS: [u8; 4] = [5, 6, 7, TEXT_HOST];
+pub const HOSTS: [u8; 5] = [5, 6, 7, TEXT_HOST, PUP_HOST];
 
 /// Numbers at the edges of the paper's ranges.
 pub const EDGES: [u16; 18] =
@@ -27,62 +29,10 @@ const RANGES: [(u16, u16); 3] = [(65535, 2), (0, 256), (0, 257)];
 /// The same of the vector.
 const VECTOR_RANGES: [(u16, u16); 6] = [(0, 18), (16, 2), (17, 2), (18, 0), (18, 1), (65535, 2)];
 
-/// What a list tends to: the weights of the seventeen op codes, how many of sixteen
-/// calls are reports and how many lines, whether the reports are such as a machine makes
-/// in the run state at hand, and whether host 253 asks rather than another.
-pub struct Mood {
-    weights: [usize; 17],
-    reports: usize,
-    lines: usize,
-    machine: bool,
-    pub bench: bool,
-}
-
-/// A list without lines.
-const fn mood(weights: [usize; 17], reports: usize, machine: bool) -> Mood {
-    Mood { weights, reports, lines: 0, machine, bench: false }
-}
-
-/// A list of host 253, with so many lines.
-const fn bench(weights: [usize; 17], reports: usize, lines: usize) -> Mood {
-    Mood { weights, reports, lines, machine: true, bench: true }
-}
-
-pub const MOODS: [Mood; 16] = [
-    // a little of everything
-    mood([1, 6, 2, 2, 4, 3, 4, 2, 5, 2, 3, 3, 2, 2, 3, 2, 3], 4, false),
-    // all eight breakpoints of a process
-    mood([1, 6, 0, 1, 3, 2, 3, 1, 26, 2, 1, 9, 1, 1, 1, 0, 3], 5, true),
-    // all eight processes
-    mood([1, 2, 1, 1, 1, 1, 1, 1, 1, 1, 1, 1, 5, 2, 1, 1, 2], 2, false),
-    // running, stepping, proceeding
-    mood([1, 6, 1, 4, 3, 9, 3, 2, 8, 2, 9, 9, 2, 2, 1, 1, 2], 8, false),
-    // processes come and go, with breakpoints
-    mood([1, 5, 1, 1, 2, 3, 2, 1, 9, 1, 2, 3, 14, 9, 3, 1, 2], 3, false),
-    // breakpoints in loops
-    mood([1, 6, 1, 3, 3, 6, 3, 2, 8, 3, 5, 14, 2, 1, 1, 1, 2], 9, true),
-    // and such as are taken away while a process passes them
-    mood([1, 6, 8, 9, 2, 6, 2, 2, 12, 18, 4, 14, 1, 1, 0, 0, 3], 8, true),
-    // a little of everything, and lines
-    Mood { lines: 3, ..mood([1, 6, 2, 2, 4, 3, 4, 2, 5, 2, 3, 3, 2, 2, 3, 2, 2], 4, false) },
-    // the bench's text debugger: continuing and stepping
-    bench([1, 8, 1, 4, 1, 1, 1, 1, 8, 1, 1, 1, 1, 1, 1, 0, 1], 6, 7),
-    // looking and storing, breakpoints planted
-    bench([1, 6, 1, 3, 2, 1, 2, 2, 9, 2, 1, 1, 2, 1, 1, 1, 1], 3, 10),
-    // and answers that are owed are cancelled, and breakpoints taken away
-    bench([1, 8, 8, 9, 1, 4, 1, 2, 14, 18, 2, 12, 2, 4, 0, 0, 2], 6, 4),
-    // two hosts at a process, each with as many breakpoints as he may have
-    mood([1, 5, 1, 1, 2, 3, 3, 1, 30, 3, 1, 6, 1, 1, 6, 1, 4], 4, true),
-    // watches come and go, with breakpoints planted and lifted
-    mood([1, 6, 2, 2, 2, 5, 3, 1, 20, 5, 6, 12, 1, 2, 8, 9, 3], 7, true),
-    // both at breakpoints in loops
-    mood([1, 6, 1, 2, 2, 6, 2, 1, 12, 3, 4, 14, 1, 1, 5, 1, 3], 9, true),
-    // and the bench's text debugger is one of the two, more often the one who debugs
-    bench([1, 8, 1, 3, 1, 1, 1, 1, 16, 2, 1, 1, 1, 1, 8, 2, 3], 5, 5),
-    bench([1, 8, 0, 1, 1, 1, 1, 1, 18, 1, 1, 2, 1, 0, 10, 1, 3], 6, 5),
-];
-
 pub fn make_call(random: &mut Random, state: &State, mood: &Mood) -> Call {
+    if waiting(state) && random.below(64) < mood.patience {
+        return Call::Tick;
+    }
     // a machine has little to report before breakpoints are set
     let reports = if mood.machine && !any_telling(state) { 2 } else { mood.reports };
     if random.below(16) < reports {
@@ -90,6 +40,9 @@ pub fn make_call(random: &mut Random, state: &State, mood: &Mood) -> Call {
     }
     if random.below(16 - reports) < mood.lines {
         return make_line(random, state);
+    }
+    if random.below(16 - reports - mood.lines) < mood.packets || random.one_in(48) {
+        return make_packet(random, state, mood.patience > 32);
     }
     let mut message = make_request(random, state, mood);
     let mut spoil = random.one_in(8);
@@ -119,7 +72,12 @@ pub fn some_process(random: &mut Random, state: &State, test: impl Fn(&Process) 
 
 /// A process to which the request fits; at times, one that has a lifted breakpoint, or is
 /// passing and has none any more.
-fn process_for(random: &mut Random, state: &State, cmd: u8) -> u8 {
+fn process_for(random: &mut Random, state: &State, cmd: u8, mood: &Mood) -> u8 {
+    if mood.packets > 0 && at_door(state).is_some() && cmd != DESTROY_PROCESS {
+        if !random.one_in(3) {
+            return state.door;
+        }
+    }
     let any_is = |test: &dyn Fn(&Process) -> bool| state.processes.iter().any(test);
     if any_is(&passing_bare) && random.one_in(2) {
         return some_process(random, state, passing_bare);
@@ -193,11 +151,12 @@ pub fn make_request(random: &mut Random, state: &State, mood: &Mood) -> Vec<u8> 
         }
         2 if any_is(passing_bare) => random.pick(&[STOP, END_DEBUG]),
         3 if any_is(|p| p.owed != Owed::Nothing && has_lifted(p)) => UNBREAK,
+        4..=9 if mood.packets > 0 && at_door(state).is_some_and(|p| p.host == NOBODY) => DEBUG,
         _ => random.weighted(&mood.weights) as u8,
     };
     let pid = match cmd {
         NOP | CREATE_PROCESS => 0,
-        _ => process_for(random, state, cmd),
+        _ => process_for(random, state, cmd, mood),
     };
     let process = &state.processes[usize::from(pid) % PROCESSES];
     let host = asker(random, process, cmd, mood);

@@ -1,6 +1,7 @@
 //! Changes to a state's bytes, after which they are sound, not sound, or no state at all.
 
 use crate::calls::new_host;
+use crate::damage_packets::*;
 use crate::damage_places::*;
 use crate::damage_watches::*;
 use crate::layout::close_gaps;
@@ -14,7 +15,7 @@ use model::*;
 type Damage = fn(&mut Random, &mut [u8]);
 
 /// Every kind, and how often it is done.
-const DAMAGES: [(usize, Damage); 36] = [
+const DAMAGES: [(usize, Damage); 44] = [
     (4, some_bytes),
     (2, another_begin),
     (1, same_begin),
@@ -49,6 +50,14 @@ const DAMAGES: [(usize, Damage); 36] = [
     (1, another_watcher),
     (2, another_setter),
     (1, many_of_one),
+    (4, a_go),
+    (1, another_tick),
+    (1, wrong_go_flag),
+    (1, too_many_ticks),
+    (2, go_of_another),
+    (1, another_host_of_one_that_waits),
+    (2, old_go),
+    (1, another_door),
     (3, another_number),
     (1, number_with_no_host),
 ];
@@ -60,9 +69,9 @@ const LAYOUT_DAMAGES: usize = 8;
 /// true again.
 const NUMBER_DAMAGES: usize = 2;
 
-/// Wrong lengths of a state's bytes. Without the numbers there would be 728, without the
-/// begins 720.
-pub const STATE_LENGTHS: [usize; 9] = [0, 1, 90, 712, 720, 728, 735, 737, 1472];
+/// Wrong lengths of a state's bytes. Without the door there would be 784, without the begins
+/// too 768, and without door and Gos 736.
+pub const STATE_LENGTHS: [usize; 9] = [0, 1, 96, 736, 737, 768, 784, 786, 1570];
 
 /// Changes a state's bytes by one kind of damage, or their number. Where that opens a gap,
 /// since a size is another or a process is there or not, it is mostly closed again.
@@ -284,6 +293,7 @@ fn no_host(random: &mut Random, state: &mut [u8]) {
     state[record..record + 3].copy_from_slice(&[there, NOBODY, run as u8]);
     state[record + OWED_AT] = 0;
     state[record + WATCHER_AT] = NOBODY;
+    state[record + GO_WAITS_AT] = 0;
     random.fill(&mut state[record + VECTOR_AT..record + ENTRIES_AT]);
     state[record + ENTRIES_AT..record + RECORD_BYTES].fill(0);
 }

@@ -82,8 +82,7 @@ pub fn last_word(process: &Process) -> Option<u16> {
 
 /// Whether a call on a state came past test 2 though the layout is not sound.
 pub fn accepted_fault(call: &Call, answer: i64, before: &Side) -> bool {
-    let on_state = matches!(call, Call::Request { .. } | Call::Report { .. } | Call::Line { .. });
-    let tested = on_state && !matches!(-answer, WRONG_BUFFER | NOT_SOUND);
+    let tested = call.on_state() && !matches!(-answer, WRONG_BUFFER | NOT_SOUND);
     tested && decode(before.state.bytes()).is_some_and(|state| fault(&state).is_some())
 }
 
@@ -97,6 +96,11 @@ pub fn changed(call: &Call, after: &Side) -> Option<usize> {
         },
         Call::Report { process, .. } => Some(*process as usize),
         Call::Line { text } => Some(read_line(text)?.pid as usize),
+        Call::Packet { .. } | Call::Tick => {
+            let state = decode(after.state.bytes())?;
+            let door = usize::from(state.door);
+            state.processes.get(door).is_some_and(|process| process.there).then_some(door)
+        }
         _ => None,
     }
 }
@@ -106,9 +110,7 @@ pub fn broken_layout(call: &Call, before: &Side, after: &Side) -> Option<&'stati
     let new = decode(after.state.bytes())?;
     match call {
         Call::FreshStart { .. } => broken_start(&new),
-        Call::Request { .. } | Call::Report { .. } | Call::Line { .. } => {
-            broken_call(call, before, after, &new)
-        }
+        _ if call.on_state() => broken_call(call, before, after, &new),
         _ => None,
     }
 }

@@ -6,6 +6,7 @@ extern "C" {
         there: u64,
         sizes: *const u16,
         sizes_len: usize,
+        door: u64,
         state: *mut u8,
         state_len: usize,
     ) -> i64;
@@ -44,6 +45,19 @@ extern "C" {
         line: *mut u8,
         line_len: usize,
     ) -> i64;
+    pub fn palustrode_packet(
+        state: *mut u8,
+        state_len: usize,
+        memory: *mut u8,
+        memory_len: usize,
+        kind: u64,
+        id: u64,
+        words: *const u16,
+        words_count: usize,
+        ack: *mut u16,
+        ack_count: usize,
+    ) -> i64;
+    pub fn palustrode_tick(state: *mut u8, state_len: usize) -> i64;
     pub fn palustrode_write_request(
         host: u64,
         cmd: u64,

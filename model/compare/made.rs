@@ -6,6 +6,7 @@ use model::*;
 pub enum Made<'a> {
     Start {
         there: u64,
+        door: u64,
         sizes: &'a [u16],
         state: &'a mut [u8],
     },
@@ -29,6 +30,17 @@ pub enum Made<'a> {
         text: &'a [u8],
         line: &'a mut [u8],
     },
+    Packet {
+        state: &'a mut [u8],
+        memory: &'a mut [u8],
+        kind: u64,
+        id: u64,
+        words: &'a [u16],
+        ack: &'a mut [u16],
+    },
+    Tick {
+        state: &'a mut [u8],
+    },
     Write {
         fields: [u64; FIELDS],
         string: &'a [u8],
@@ -44,7 +56,9 @@ impl Made<'_> {
     /// The model's answer.
     pub fn right(&mut self) -> i64 {
         match self {
-            Made::Start { there, sizes, state } => fresh_start_bytes(*there, sizes, state),
+            Made::Start { there, sizes, door, state } => {
+                fresh_start_bytes(*there, sizes, *door, state)
+            }
             Made::Request { state, memory, message, reply } => {
                 request_bytes(state, memory, message, reply)
             }
@@ -52,6 +66,10 @@ impl Made<'_> {
                 report_bytes(state, memory, *p, *k, *r, words, notice, line)
             }
             Made::Line { state, memory, text, line } => line_bytes(state, memory, text, line),
+            Made::Packet { state, memory, kind, id, words, ack } => {
+                packet_bytes(state, memory, *kind, *id, words, ack)
+            }
+            Made::Tick { state } => tick_bytes(state),
             Made::Write { fields: [host, cmd, pid, arg1, arg2], string, request } => {
                 write_request(*host, *cmd, *pid, *arg1, *arg2, string, request)
             }
@@ -77,12 +95,14 @@ impl Made<'_> {
     }
 
     /// The bytes of the state.
-    fn state(&mut self) -> Option<&mut [u8]> {
+    pub fn state(&mut self) -> Option<&mut [u8]> {
         match self {
             Made::Start { state, .. }
             | Made::Request { state, .. }
             | Made::Report { state, .. }
-            | Made::Line { state, .. } => Some(state),
+            | Made::Line { state, .. }
+            | Made::Packet { state, .. }
+            | Made::Tick { state } => Some(state),
             _ => None,
         }
     }
@@ -106,7 +126,8 @@ impl Made<'_> {
         match self {
             Made::Request { memory, .. }
             | Made::Report { memory, .. }
-            | Made::Line { memory, .. } => Some(memory),
+            | Made::Line { memory, .. }
+            | Made::Packet { memory, .. } => Some(memory),
             _ => None,
         }
     }
@@ -125,6 +146,10 @@ impl Made<'_> {
             Made::Line { memory, text, line, .. } => {
                 line_bytes(&mut state, &mut memory.to_vec(), text, &mut line.to_vec())
             }
+            Made::Packet { memory, kind, id, words, ack, .. } => {
+                packet_bytes(&mut state, &mut memory.to_vec(), kind, id, words, &mut ack.to_vec())
+            }
+            Made::Tick { .. } => tick_bytes(&mut state),
             _ => self.right(),
         }
     }

@@ -2,7 +2,8 @@
 //! every value of each field.
 //!
 //! Arguments: the number of calls (200000 if not given), which are made without
-//! damage to the state and as many again with it; a seed (1 if not given); and
+//! damage to the state and as many again with it, of each half as many more at the Pup
+//! door; a seed (1 if not given); and
 //! the word `each`, with which every call of the lists is printed before it is made
 //! (should the library not come back from one). The same seed always gives the same
 //! calls. The program ends with 1 at the first difference, and with 1 if a kind
@@ -12,7 +13,8 @@
 //! The library is given to the linker (`-L DIR -l static=palustrode`); with the
 //! feature `standin` the model itself takes its place, and with the word `wrong` in
 //! place of `each` there is a comparison for each wrong library of `wrong.rs` and of
-//! the files beside it: the program ends with 0 if each of them was seen. If the library
+//! the files beside it, or of those alone in whose name the next word stands: the program
+//! ends with 0 if each of them was seen. If the library
 //! was built by another compiler, or has a panic handler of its own, the linker needs
 //! `-C link-arg=-Wl,--allow-multiple-definition` besides.
 
@@ -22,6 +24,7 @@ mod calls;
 #[cfg(feature = "standin")]
 mod changes;
 mod damage;
+mod damage_packets;
 mod damage_places;
 mod damage_watches;
 mod desk;
@@ -33,15 +36,23 @@ mod lined;
 mod lines;
 #[cfg(feature = "standin")]
 mod made;
+mod moods;
+mod packet_table;
+mod packets;
 mod passages;
+mod passages_go;
 mod passages_layout;
 mod passages_lines;
 mod passages_owed;
+mod passages_packets;
 mod passages_passing;
 mod passages_status;
 mod passages_watches;
 mod passages_watching;
 mod passing;
+mod pup;
+#[cfg(feature = "standin")]
+mod pupped;
 mod random;
 mod reports;
 mod run;
@@ -50,10 +61,13 @@ mod sizes;
 mod stack;
 #[cfg(feature = "standin")]
 mod standin;
+mod starts;
 mod states;
 mod status;
 mod sweeps;
+mod sweeps_go;
 mod sweeps_lines;
+mod sweeps_packets;
 mod sweeps_runs;
 mod sweeps_status;
 mod sweeps_watches;
@@ -61,6 +75,7 @@ mod table;
 mod values;
 mod values_layout;
 mod values_lines;
+mod values_packets;
 mod values_passing;
 mod values_status;
 mod values_watches;
@@ -71,11 +86,19 @@ mod watching;
 #[cfg(feature = "standin")]
 mod wrong;
 #[cfg(feature = "standin")]
+mod wrong_abandon;
+#[cfg(feature = "standin")]
 mod wrong_answers;
+#[cfg(feature = "standin")]
+mod wrong_blocks;
 #[cfg(feature = "standin")]
 mod wrong_create;
 #[cfg(feature = "standin")]
 mod wrong_end_watch;
+#[cfg(feature = "standin")]
+mod wrong_go;
+#[cfg(feature = "standin")]
+mod wrong_go_sound;
 #[cfg(feature = "standin")]
 mod wrong_going;
 #[cfg(feature = "standin")]
@@ -86,6 +109,8 @@ mod wrong_lines;
 mod wrong_numbers;
 #[cfg(feature = "standin")]
 mod wrong_owed;
+#[cfg(feature = "standin")]
+mod wrong_packets;
 #[cfg(feature = "standin")]
 mod wrong_passing;
 #[cfg(feature = "standin")]
@@ -99,16 +124,20 @@ mod wrong_status_desk;
 #[cfg(feature = "standin")]
 mod wrong_text;
 #[cfg(feature = "standin")]
+mod wrong_ticks;
+#[cfg(feature = "standin")]
 mod wrong_told;
 #[cfg(feature = "standin")]
 mod wrong_watches;
+#[cfg(feature = "standin")]
+mod wrong_words;
 
 use run::Comparison;
 use std::process::ExitCode;
 
 /// The stack that include/palustrode.h says a call needs. The model in the library's
 /// place may need any.
-const STACK: usize = if cfg!(feature = "standin") { usize::MAX } else { 1536 };
+const STACK: usize = if cfg!(feature = "standin") { usize::MAX } else { 1600 };
 
 fn main() -> ExitCode {
     let mut arguments = std::env::args().skip(1);
@@ -123,7 +152,9 @@ fn main() -> ExitCode {
     let word = arguments.next();
     #[cfg(feature = "standin")]
     if word.as_deref() == Some("wrong") {
-        return if wrong::all_seen(limit, seed) { ExitCode::SUCCESS } else { ExitCode::from(1) };
+        let part = arguments.next().unwrap_or_default();
+        let seen = wrong::all_seen(limit, seed, &part);
+        return if seen { ExitCode::SUCCESS } else { ExitCode::from(1) };
     }
     let print_each = word.as_deref() == Some("each");
     let mut comparison = Comparison::new(seed, print_each);

@@ -2,9 +2,11 @@
 //! call took each of them.
 
 use crate::about::{has_bytes, old, About};
+use crate::passages_go::GO_PASSAGES;
 use crate::passages_layout::LAYOUT_PASSAGES;
 use crate::passages_lines::LINE_PASSAGES;
 use crate::passages_owed::OWED_PASSAGES;
+use crate::passages_packets::PACKET_PASSAGES;
 use crate::passages_passing::PASSING_PASSAGES;
 use crate::passages_status::STATUS_PASSAGES;
 use crate::passages_watches::WATCH_PASSAGES;
@@ -185,7 +187,8 @@ const PASSAGES: &[Passage] = &[
 fn every() -> impl Iterator<Item = &'static Passage> {
     let lines = LINE_PASSAGES.iter().chain(OWED_PASSAGES);
     let watches = WATCH_PASSAGES.iter().chain(WATCHING_PASSAGES).chain(STATUS_PASSAGES);
-    let later = PASSING_PASSAGES.iter().chain(lines).chain(watches);
+    let packets = PACKET_PASSAGES.iter().chain(GO_PASSAGES);
+    let later = PASSING_PASSAGES.iter().chain(lines).chain(watches).chain(packets);
     PASSAGES.iter().chain(LAYOUT_PASSAGES).chain(later)
 }
 

@@ -20,6 +20,7 @@ pub fn broken_passing(call: &Call, before: &Side, after: &Side) -> Option<&'stat
     let keeps = match call {
         Call::Request { message } => RUNS.contains(&message[4]),
         Call::Line { text } => !read_line(text).is_some_and(|line| stores(line.request)),
+        Call::Packet { kind, .. } => *kind != STORE.into(),
         _ => true,
     };
     let (old, new) = (before.memory.bytes(), after.memory.bytes());

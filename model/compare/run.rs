@@ -8,15 +8,17 @@
 //! back. Calls on damaged states, and on what follows from them, are counted
 //! apart.
 
-use crate::calls::{make_call, make_request, some_output, used_address, Mood, MOODS};
+use crate::calls::{make_call, make_request, some_output, used_address};
 use crate::damage::{damage_state, STATE_LENGTHS};
 use crate::desk::make_desk_call;
 use crate::line_table::LineTable;
 use crate::lines::some_line_buffer;
+use crate::moods::{Mood, MOODS, PUP_MOODS};
+use crate::packet_table::PacketTable;
+use crate::packets::some_ack;
 use crate::passages::{self, open, Open, Passages};
 use crate::random::Random;
 use crate::sides::{describe, is_sound, Call, Lent, Pair, Side, GUARD};
-use crate::sizes::{shared, sizes_with_room, wrong_size};
 use crate::states::some_sound_state;
 use crate::sweeps::Sweep;
 use crate::table::{DeskTable, Table};
@@ -27,6 +29,7 @@ use model::*;
 struct Met {
     table: Table,
     lines: LineTable,
+    packets: PacketTable,
     passages: Passages,
     /// Stores by the machine into a planted word.
     stores: u64,
@@ -39,6 +42,7 @@ impl Met {
         Met {
             table: Table::new(damaged),
             lines: LineTable::new(damaged),
+            packets: PacketTable::new(damaged),
             passages: Passages::new(),
             stores: 0,
             stores_at_edge: 0,
@@ -47,12 +51,12 @@ impl Met {
 }
 
 pub struct Comparison {
-    random: Random,
-    pair: Pair,
+    pub random: Random,
+    pub pair: Pair,
     pub calls: u64,
     print_each: bool,
     /// Whether the list goes on from a damaged state.
-    damaged: bool,
+    pub damaged: bool,
     met: [Met; 2],
     desk: DeskTable,
     values: Values,
@@ -72,11 +76,14 @@ impl Comparison {
         }
     }
 
-    /// Makes so many calls in lists without damage, as many in lists with it, and
-    /// then those with every value: nothing, or the first difference.
+    /// Makes so many calls in lists without damage, as many in lists with it, of each half
+    /// as many more in lists at the Pup door, and then those with every value: nothing, or
+    /// the first difference.
     pub fn run(&mut self, limit: u64) -> Result<(), String> {
-        self.lists(limit, false)?;
-        self.lists(2 * limit, true)?;
+        for with_damage in [false, true] {
+            self.lists(limit, with_damage, &MOODS)?;
+            self.lists(limit / 2, with_damage, &PUP_MOODS)?;
+        }
         let (calls, desk) = (&mut self.calls, &mut self.desk);
         Sweep::all(&mut |call, _, answer| {
             *calls += 1;
@@ -84,24 +91,25 @@ impl Comparison {
         })
     }
 
-    /// Lists up to so many calls in all.
-    fn lists(&mut self, limit: u64, with_damage: bool) -> Result<(), String> {
+    /// Lists of so many calls together.
+    fn lists(&mut self, count: u64, with_damage: bool, moods: &[Mood]) -> Result<(), String> {
+        let limit = self.calls + count;
         while self.calls < limit {
             let length = 100 + self.random.below(500) as u64;
-            self.list(limit.min(self.calls + length), with_damage)?;
+            let mood = &moods[self.random.below(moods.len())];
+            self.list(limit.min(self.calls + length), with_damage, mood)?;
         }
         Ok(())
     }
 
     /// One list, up to so many calls in all.
-    fn list(&mut self, end: u64, with_damage: bool) -> Result<(), String> {
-        self.start()?;
+    fn list(&mut self, end: u64, with_damage: bool, mood: &Mood) -> Result<(), String> {
+        self.start(mood.packets > 0)?;
         if with_damage && self.random.one_in(3) {
             let state = some_sound_state(&mut self.random);
             self.lend_state(&encode(&state));
             self.damaged = true;
         }
-        let mood = &MOODS[self.random.below(MOODS.len())];
         while self.calls < end {
             self.stores();
             self.calls += 1;
@@ -115,89 +123,12 @@ impl Comparison {
         Ok(())
     }
 
-    /// A fresh start into a buffer with random bytes in it, at times after some
-    /// that are refused.
-    fn start(&mut self) -> Result<(), String> {
-        let there = match self.random.below(6) {
-            0 => 0,
-            1 => 255,
-            _ => self.random.byte(),
-        };
-        let sizes = self.sizes(there);
-        self.refused_starts(there, &sizes)?;
-        self.fresh_start(there.into(), &sizes, STATE_BYTES)?;
-        let mut memory = vec![0; MEMORY];
-        if !self.random.one_in(4) {
-            self.random.fill(&mut memory);
-        }
-        let offset = self.offset();
-        self.pair.change(|side| side.memory = Lent::new(&memory, offset));
-        self.damaged = false;
-        Ok(())
-    }
-
-    /// Sizes for a fresh start that is granted: right ones of the processes that are
-    /// there, and often wrong ones of the others.
-    fn sizes(&mut self, there: u8) -> Vec<u16> {
-        let random = &mut self.random;
-        let mut sizes = sizes_with_room(random, there).to_vec();
-        for (p, size) in sizes.iter_mut().enumerate() {
-            if there >> p & 1 == 0 && random.one_in(2) {
-                *size = wrong_size(random);
-            }
-        }
-        sizes
-    }
-
-    /// Fresh starts like this one, each with an error or two.
-    fn refused_starts(&mut self, there: u8, sizes: &[u16]) -> Result<(), String> {
-        while self.random.one_in(2) {
-            let (mut there, mut sizes, mut length) = (there.into(), sizes.to_vec(), STATE_BYTES);
-            for _ in 0..=self.random.below(2) {
-                match self.random.below(8) {
-                    0 => length = self.random.length(&STATE_LENGTHS, 2000),
-                    1 => sizes.resize(self.random.length(&[0, 1, 7, 9, 16], 40), 4096),
-                    2 => there = self.random.beyond(8, there),
-                    3 => there = self.random.free(64),
-                    4 | 5 => {
-                        there |= 0x1f;
-                        sizes = self.too_many_bytes(there);
-                    }
-                    _ => self.spoil_size(there, &mut sizes),
-                }
-            }
-            self.fresh_start(there, &sizes, length)?;
-        }
-        Ok(())
-    }
-
-    /// Right sizes of five processes and more that together are more than the memory,
-    /// often by two bytes.
-    fn too_many_bytes(&mut self, there: u64) -> Vec<u16> {
-        let total = MEMORY + self.random.pick(&[2, 2, 4, 256, 4096]);
-        shared(total, there as u8, &[LARGEST; PROCESSES]).to_vec()
-    }
-
-    /// Makes the size of a process wrong, of one that is there if any is.
-    fn spoil_size(&mut self, there: u64, sizes: &mut [u16]) {
-        let set: Vec<usize> = (0..sizes.len()).filter(|&p| there >> p.min(63) & 1 == 1).collect();
-        if !set.is_empty() {
-            sizes[self.random.pick(&set)] = wrong_size(&mut self.random);
-        }
-    }
-
-    fn fresh_start(&mut self, there: u64, sizes: &[u16], length: usize) -> Result<(), String> {
-        let state = self.random.bytes(length);
-        self.lend_state(&state);
-        self.compare(&Call::FreshStart { there, sizes: sizes.to_vec() }, None)
-    }
-
     /// Where a buffer is to lie.
-    fn offset(&mut self) -> usize {
+    pub fn offset(&mut self) -> usize {
         self.random.below(GUARD)
     }
 
-    fn lend_state(&mut self, state: &[u8]) {
+    pub fn lend_state(&mut self, state: &[u8]) {
         let offset = self.offset();
         self.pair.change(|side| side.state = Lent::new(state, offset));
     }
@@ -328,9 +259,17 @@ impl Comparison {
     fn spoil_buffer(&mut self, call: &mut Call) {
         let random = &mut self.random;
         match (random.below(4), call) {
+            (_, Call::Tick) => {
+                let length = random.length(&STATE_LENGTHS, 2000);
+                self.pair.change(|side| side.state = side.state.resized(length));
+            }
             (0, _) => {
                 let length = random.length(&[0, 1, 16_383, 16_385, 32_768, 65_536], 100_000);
                 self.pair.change(|side| side.memory = side.memory.resized(length));
+            }
+            (_, Call::Packet { .. }) => {
+                let length = random.length(&[0, 1, 2, 17, 33, 34, 34], ACK_WORDS - 1);
+                self.pair.change(|side| side.ack = side.ack.resized(2 * length));
             }
             (1, Call::Report { words, .. }) => {
                 words.resize(random.length(&[0, 1, 16, 17, 19, 20, 36], 100), 0);
@@ -353,15 +292,17 @@ impl Comparison {
         let line = some_line_buffer(&mut self.random);
         let offset = self.offset();
         self.pair.change(|side| side.line = Lent::new(&line, offset));
+        let ack = some_ack(&mut self.random);
+        let offset = self.offset() & !1;
+        self.pair.change(|side| side.ack = Lent::new(&ack, offset));
     }
 
     /// Makes the call on both sides and counts what was met.
-    fn compare(&mut self, call: &Call, open: Option<&Open>) -> Result<(), String> {
+    pub fn compare(&mut self, call: &Call, open: Option<&Open>) -> Result<(), String> {
         if self.print_each {
             println!("{} {}", self.calls, describe(call, &self.pair.model));
         }
-        // the sizes are words
-        let odd = usize::from(!matches!(call, Call::FreshStart { .. }));
+        let odd = usize::from(!call.of_words());
         let offset = self.offset() & (!1 | odd);
         self.pair.change(|side| side.input = Lent::new(&[], offset));
         let answer = self.pair.call(call)?;
@@ -370,6 +311,7 @@ impl Comparison {
         let met = self.met();
         met.table.count(call, answer);
         met.lines.count(call, answer);
+        met.packets.count(call, answer);
         if let Some(open) = open {
             met.passages.count(open, answer);
         }
@@ -383,9 +325,11 @@ impl Comparison {
         println!("calls on states that a fresh start leads to");
         fresh.table.print();
         fresh.lines.print();
+        fresh.packets.print();
         println!("\ncalls on damaged states and on what follows from them");
         damaged.table.print();
         damaged.lines.print();
+        damaged.packets.print();
         println!("\n   fresh  damaged");
         passages::print(&fresh.passages, &damaged.passages);
         println!("{:>8} {:>8}  store into a planted word", fresh.stores, damaged.stores);
@@ -402,6 +346,7 @@ impl Comparison {
         }
         let tables = [fresh.table.wrong(), damaged.table.wrong(), self.desk.wrong()].concat();
         let lines = [fresh.lines.wrong(), damaged.lines.wrong()].concat();
-        [tables, lines, self.values.wrong(), wrong].concat()
+        let packets = [fresh.packets.wrong(), damaged.packets.wrong()].concat();
+        [tables, lines, packets, self.values.wrong(), wrong].concat()
     }
 }

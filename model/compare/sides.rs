@@ -5,6 +5,7 @@ use crate::answers::{broken_line, line_written};
 use crate::layout::{accepted_fault, broken_layout};
 use crate::library::*;
 use crate::passing::broken_passing;
+use crate::pup::broken_pup;
 use crate::stack::on_painted;
 use crate::status::{broken_numbers, broken_status};
 use crate::watching::broken_watch;
@@ -12,27 +13,40 @@ use model::*;
 use std::borrow::Cow;
 
 pub enum Call {
-    FreshStart { there: u64, sizes: Vec<u16> },
+    FreshStart { there: u64, sizes: Vec<u16>, door: u64 },
     Request { message: Vec<u8> },
     Report { process: u64, kind: u64, reason: u64, words: Vec<u8> },
     Line { text: Vec<u8> },
+    Packet { kind: u64, id: u64, words: Vec<u16> },
+    Tick,
     Write { fields: [u64; FIELDS], string: Vec<u8> },
     Read { message: Vec<u8> },
 }
 
 impl Call {
-    /// The message, the nine words, the text, the string, or the sizes as the processor
-    /// keeps them.
+    /// The message, the nine words, the text, the string, or the sizes or a packet's words
+    /// as the processor keeps them.
     pub fn input(&self) -> Cow<'_, [u8]> {
         match self {
-            Call::FreshStart { sizes, .. } => {
-                sizes.iter().flat_map(|size| size.to_ne_bytes()).collect()
+            Call::FreshStart { sizes: words, .. } | Call::Packet { words, .. } => {
+                words.iter().flat_map(|word| word.to_ne_bytes()).collect()
             }
+            Call::Tick => Cow::default(),
             Call::Request { message } | Call::Read { message } => message.into(),
             Call::Report { words, .. } => words.into(),
             Call::Line { text } => text.into(),
             Call::Write { string, .. } => string.into(),
         }
+    }
+
+    /// Whether what is lent as input is words, which are aligned.
+    pub fn of_words(&self) -> bool {
+        matches!(self, Call::FreshStart { .. } | Call::Packet { .. })
+    }
+
+    /// Whether the call is one on a state, which test 2 is about.
+    pub fn on_state(&self) -> bool {
+        !matches!(self, Call::FreshStart { .. } | Call::Write { .. } | Call::Read { .. })
     }
 }
 
@@ -93,7 +107,8 @@ impl Lent {
 
 /// The buffers lent to one of the two; `input` is the message, the words, the text, the
 /// string or the sizes, `output` the reply, the notice or the request, or the fields that
-/// are read, two bytes each, and `line` the line that is answered.
+/// are read, two bytes each, `line` the line that is answered, and `ack` the words of an
+/// acknowledgement, two bytes each.
 #[derive(Clone)]
 pub struct Side {
     pub state: Lent,
@@ -101,13 +116,15 @@ pub struct Side {
     pub input: Lent,
     pub output: Lent,
     pub line: Lent,
+    pub ack: Lent,
 }
 
 impl Side {
     pub fn new(state: &[u8], memory: &[u8], output: &[u8]) -> Side {
-        let [state, memory, input, output, line] =
-            [state, memory, &[], output, &[0xee; LONGEST_LINE]].map(|bytes| Lent::new(bytes, 0));
-        Side { state, memory, input, output, line }
+        let (line, ack) = ([0xee; LONGEST_LINE], [0xee; 2 * ACK_WORDS]);
+        let [state, memory, input, output, line, ack] =
+            [state, memory, &[], output, &line, &ack].map(|bytes| Lent::new(bytes, 0));
+        Side { state, memory, input, output, line, ack }
     }
 
     fn by_model(&mut self, call: &Call) -> i64 {
@@ -115,21 +132,26 @@ impl Side {
             (self.state.change(), self.memory.change(), self.input.bytes(), self.output.change());
         let l = self.line.change();
         match *call {
-            Call::FreshStart { there, .. } => fresh_start_bytes(there, &words_of(i), s),
+            Call::FreshStart { there, door, .. } => fresh_start_bytes(there, &words_of(i), door, s),
             Call::Request { .. } => request_bytes(s, m, i, o),
             Call::Report { process, kind, reason, .. } => {
                 report_bytes(s, m, process, kind, reason, i, o, l)
             }
             Call::Line { .. } => line_bytes(s, m, i, l),
+            Call::Packet { kind, id, .. } => {
+                let mut ack = words_of(self.ack.bytes());
+                let answer = packet_bytes(s, m, kind, id, &words_of(i), &mut ack);
+                put_words(self.ack.change(), &ack);
+                answer
+            }
+            Call::Tick => tick_bytes(s),
             Call::Write { fields: [host, cmd, pid, arg1, arg2], .. } => {
                 write_request(host, cmd, pid, arg1, arg2, i, o)
             }
             Call::Read { .. } => {
                 let mut fields = words_of(o);
                 let answer = read_answer(i, &mut fields);
-                for (pair, field) in o.chunks_exact_mut(2).zip(fields) {
-                    pair.copy_from_slice(&field.to_ne_bytes());
-                }
+                put_words(o, &fields);
                 answer
             }
         }
@@ -148,10 +170,13 @@ impl Side {
         let (s_len, m_len, i_len, o_len) = (s.len(), m.len(), i.len(), o.len());
         let (s, m, i, o) = (s.as_mut_ptr(), m.as_mut_ptr(), i.as_mut_ptr(), o.as_mut_ptr());
         let (l_len, l) = (self.line.bytes().len(), self.line.change().as_mut_ptr());
+        let (a_len, a) = (self.ack.bytes().len(), self.ack.change().as_mut_ptr());
+        if call.of_words() {
+            assert!(i as usize % 2 == 0 && i_len % 2 == 0, "sizes and a packet's data are words");
+        }
         match *call {
-            Call::FreshStart { there, .. } => unsafe {
-                assert!(i as usize % 2 == 0 && i_len % 2 == 0, "sizes are words");
-                palustrode_fresh_start(there, i.cast(), i_len / 2, s, s_len)
+            Call::FreshStart { there, door, .. } => unsafe {
+                palustrode_fresh_start(there, i.cast(), i_len / 2, door, s, s_len)
             },
             Call::Request { .. } => unsafe {
                 palustrode_request(s, s_len, m, m_len, i, i_len, o, o_len)
@@ -160,6 +185,12 @@ impl Side {
                 palustrode_report(s, s_len, m, m_len, p, k, r, i, i_len, o, o_len, l, l_len)
             },
             Call::Line { .. } => unsafe { palustrode_line(s, s_len, m, m_len, i, i_len, l, l_len) },
+            Call::Packet { kind, id, .. } => unsafe {
+                assert!(a as usize % 2 == 0 && a_len % 2 == 0, "an acknowledgement is words");
+                let (i, a) = (i.cast(), a.cast());
+                palustrode_packet(s, s_len, m, m_len, kind, id, i, i_len / 2, a, a_len / 2)
+            },
+            Call::Tick => unsafe { palustrode_tick(s, s_len) },
             Call::Write { fields: [host, cmd, pid, arg1, arg2], .. } => unsafe {
                 palustrode_write_request(host, cmd, pid, arg1, arg2, i, i_len, o, o_len)
             },
@@ -172,8 +203,14 @@ impl Side {
 }
 
 /// The words of a buffer, as the processor keeps them.
-fn words_of(bytes: &[u8]) -> Vec<u16> {
+pub fn words_of(bytes: &[u8]) -> Vec<u16> {
     bytes.chunks_exact(2).map(|pair| u16::from_ne_bytes([pair[0], pair[1]])).collect()
+}
+
+fn put_words(bytes: &mut [u8], words: &[u16]) {
+    for (pair, word) in bytes.chunks_exact_mut(2).zip(words) {
+        pair.copy_from_slice(&word.to_ne_bytes());
+    }
 }
 
 // ---------------------------------------------------------------- the model and the library
@@ -227,7 +264,8 @@ impl Pair {
                 first_difference(name, place, &model.input, &library.input)
             })
             .or_else(|| first_difference("output", place, &model.output, &library.output))
-            .or_else(|| first_difference("line", place, &model.line, &library.line));
+            .or_else(|| first_difference("line", place, &model.line, &library.line))
+            .or_else(|| first_difference("acknowledgement", place, &model.ack, &library.ack));
         if a == b && byte.is_none() {
             return None;
         }
@@ -239,6 +277,7 @@ impl Pair {
 /// The name of a byte of a state.
 fn in_state(at: usize) -> String {
     match at.checked_sub(BEGINS_AT) {
+        _ if at == DOOR_AT => format!("{at} (the door)"),
         None => format!("{at} (process {}, byte {})", at / RECORD_BYTES, at % RECORD_BYTES),
         Some(begin) => format!("{at} (begin of process {})", begin / 2),
     }
@@ -283,7 +322,7 @@ fn broken_rule(call: &Call, answer: i64, before: &Side, after: &Side) -> Option<
         (Call::FreshStart { .. }, _) => 0,
         (Call::Read { .. }, 0..) => 2 * FIELDS,
         (Call::Report { .. }, _) => notice_length(answer),
-        (Call::Line { .. }, _) => 0,
+        (Call::Line { .. } | Call::Packet { .. } | Call::Tick, _) => 0,
         (_, 0..) => answer as usize,
         (Call::Request { .. }, -16..=-7) => HEAD,
         _ => 0,
@@ -299,16 +338,18 @@ fn broken_rule(call: &Call, answer: i64, before: &Side, after: &Side) -> Option<
     if before.line.bytes()[answered..] != after.line.bytes()[answered..] {
         return Some("both: bytes past the line that is written are touched");
     }
-    let on_state = !matches!(call, Call::Write { .. } | Call::Read { .. });
-    if !refused && on_state && !is_sound(after.state.bytes()) {
+    let left = call.on_state() || matches!(call, Call::FreshStart { .. });
+    if !refused && left && !is_sound(after.state.bytes()) {
         return Some("both: the state is not sound after a granted call");
     }
     if accepted_fault(call, answer, before) {
         return Some("both: a layout that is not sound is accepted");
     }
     let wrong = broken_line(call, answer, before, after)
-        .or_else(|| broken_status(call, answer, before, after));
-    if refused || wrong.is_some() {
+        .or_else(|| broken_status(call, answer, before, after))
+        .or_else(|| broken_pup(call, answer, before, after));
+    // a tick, which is lent no memory, is granted with one of any length here
+    if refused || wrong.is_some() || after.memory.bytes().len() != MEMORY {
         return wrong;
     }
     broken_layout(call, before, after)
@@ -332,8 +373,8 @@ fn decimal(bytes: &[u8]) -> String {
 pub fn describe(call: &Call, side: &Side) -> String {
     let input = decimal(&call.input());
     let call = match call {
-        Call::FreshStart { there, sizes } => {
-            format!("fresh start, processes {there:#b}, sizes {sizes:?}")
+        Call::FreshStart { there, sizes, door } => {
+            format!("fresh start, processes {there:#b}, sizes {sizes:?}, door {door}")
         }
         Call::Request { .. } => format!("request, message of {input}"),
         Call::Report { process, kind, reason, .. } => {
@@ -342,14 +383,18 @@ pub fn describe(call: &Call, side: &Side) -> String {
         Call::Line { text } => {
             format!("line, {:?}, text of {input}", String::from_utf8_lossy(text))
         }
+        Call::Packet { kind, id, words } => {
+            format!("packet, type {kind}, ID {id}, words {words:?}")
+        }
+        Call::Tick => "tick".to_string(),
         Call::Write { fields: [host, cmd, pid, arg1, arg2], .. } => format!(
             "write request, HOST {host}, CMD {cmd}, PID {pid}, ARG1 {arg1}, ARG2 {arg2}, string of {input}"
         ),
         Call::Read { .. } => format!("read answer, message of {input}"),
     };
-    let [s, m, o, l] =
-        [&side.state, &side.memory, &side.output, &side.line].map(|lent| lent.bytes().len());
+    let Side { state, memory, output, line, ack, .. } = side;
+    let [s, m, o, l, a] = [state, memory, output, line, ack].map(|lent| lent.bytes().len());
     format!(
-        "call: {call}\nlent: state of {s} bytes, memory of {m}, output buffer of {o}, line buffer of {l}"
+        "call: {call}\nlent: state of {s} bytes, memory of {m}, output buffer of {o}, line buffer of {l}, acknowledgement of {a}"
     )
 }

@@ -12,11 +12,13 @@ pub unsafe extern "C" fn palustrode_fresh_start(
     there: u64,
     sizes: *const u16,
     sizes_len: usize,
+    door: u64,
     state: *mut u8,
     state_len: usize,
 ) -> i64 {
     answer(Made::Start {
         there,
+        door,
         sizes: from_raw_parts(sizes, sizes_len),
         state: from_raw_parts_mut(state, state_len),
     })
@@ -84,6 +86,34 @@ pub unsafe extern "C" fn palustrode_line(
         text: from_raw_parts(text, text_len),
         line: from_raw_parts_mut(line, line_len),
     })
+}
+
+#[no_mangle]
+pub unsafe extern "C" fn palustrode_packet(
+    state: *mut u8,
+    state_len: usize,
+    memory: *mut u8,
+    memory_len: usize,
+    kind: u64,
+    id: u64,
+    words: *const u16,
+    words_count: usize,
+    ack: *mut u16,
+    ack_count: usize,
+) -> i64 {
+    answer(Made::Packet {
+        state: from_raw_parts_mut(state, state_len),
+        memory: from_raw_parts_mut(memory, memory_len),
+        kind,
+        id,
+        words: from_raw_parts(words, words_count),
+        ack: from_raw_parts_mut(ack, ack_count),
+    })
+}
+
+#[no_mangle]
+pub unsafe extern "C" fn palustrode_tick(state: *mut u8, state_len: usize) -> i64 {
+    answer(Made::Tick { state: from_raw_parts_mut(state, state_len) })
 }
 
 #[no_mangle]

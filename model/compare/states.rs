@@ -2,6 +2,7 @@
 
 use crate::calls::{breakpoint_address, new_host};
 use crate::layout::{lay_out, order};
+use crate::packets::some_door;
 use crate::random::Random;
 use crate::sizes::sizes_with_room;
 use model::*;
@@ -17,6 +18,7 @@ pub fn some_sound_state(random: &mut Random) -> State {
         *process = some_sound_process(random, *process);
     }
     lay_in_any_order(random, &mut state);
+    state.door = some_door(random, there).min(255) as u8;
     state
 }
 
@@ -32,6 +34,7 @@ pub fn lay_in_any_order(random: &mut Random, state: &mut State) {
 fn some_sound_process(random: &mut Random, cleared: Process) -> Process {
     let mut process = Process { run: some_run(random), ..cleared };
     process.vector.fill_with(|| random.word());
+    process.go = old_go(random);
     if !process.there || random.one_in(4) {
         return process;
     }
@@ -42,6 +45,10 @@ fn some_sound_process(random: &mut Random, cleared: Process) -> Process {
     }
     if process.host == TEXT_HOST {
         process.owed = random.pick(&Owed::ALL);
+    }
+    if process.host == PUP_HOST && random.one_in(2) {
+        process.go.waits = true;
+        process.go.ticks %= GO_TICKS;
     }
     let most = random.below(BREAKPOINTS + 1);
     for e in 0..BREAKPOINTS {
@@ -69,6 +76,16 @@ fn add_breakpoint(random: &mut Random, process: &mut Process, e: usize, most: us
         watcher => random.pick(&[process.host, watcher]),
     };
     process.breakpoints[e] = Breakpoint { lifted: false, setter, address, remaining, saved };
+}
+
+/// No Go waits, and bytes may be left of one.
+fn old_go(random: &mut Random) -> Go {
+    let any = random.free(32) as u32;
+    match random.below(3) {
+        0 => Go { waits: false, ticks: random.byte(), id: any },
+        1 => Go { waits: false, ticks: 99, id: random.pick(&[0, u32::MAX, any]) },
+        _ => NONE_THERE.processes[0].go,
+    }
 }
 
 pub fn some_run(random: &mut Random) -> Run {

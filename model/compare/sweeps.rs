@@ -39,7 +39,7 @@ fn to_feed(cmd: u8, arg1: u16, arg2: u16, string: usize) -> Call {
 }
 
 fn start(there: u64, sizes: &[u16]) -> Call {
-    Call::FreshStart { there, sizes: sizes.to_vec() }
+    Call::FreshStart { there, sizes: sizes.to_vec(), door: P.into() }
 }
 
 fn report(process: u64, kind: u64, reason: u64) -> Call {
@@ -78,6 +78,8 @@ impl Sweep<'_> {
         sweep.lines()?;
         sweep.watches()?;
         sweep.statuses()?;
+        sweep.packets()?;
+        sweep.back();
         sweep.lengths()?;
         sweep.starts()?;
         sweep.writes()?;

@@ -8,6 +8,7 @@ use crate::sides::{Call, Lent, Side};
 use crate::sizes::SIZES;
 use crate::values_layout::LAYOUT_VALUES;
 use crate::values_lines::LINE_VALUES;
+use crate::values_packets::PACKET_VALUES;
 use crate::values_passing::PASSING_VALUES;
 use crate::values_status::STATUS_VALUES;
 use crate::values_watches::WATCH_VALUES;
@@ -198,20 +199,20 @@ fn odd(size: u16) -> bool {
 
 /// Whether a process then there has such a size.
 pub fn starts(call: &Call, test: impl Fn(u16) -> bool) -> bool {
-    let Call::FreshStart { there, sizes } = call else { return false };
+    let Call::FreshStart { there, sizes, .. } = call else { return false };
     sizes.iter().take(PROCESSES).enumerate().any(|(p, &size)| there >> p & 1 == 1 && test(size))
 }
 
 /// Whether a process that is then not there has a wrong size.
 fn wrong_absent(call: &Call) -> bool {
-    let Call::FreshStart { there, sizes } = call else { return false };
+    let Call::FreshStart { there, sizes, .. } = call else { return false };
     let absent = |p: usize| there >> p & 1 == 0;
     sizes.iter().take(PROCESSES).enumerate().any(|(p, &size)| absent(p) && !right_size(size))
 }
 
 /// Whether there are so many sizes in a fresh start in which that alone is wrong.
 fn sizes_alone(call: &Call, side: &Side, test: impl Fn(usize) -> bool) -> bool {
-    let Call::FreshStart { there, sizes } = call else { return false };
+    let Call::FreshStart { there, sizes, .. } = call else { return false };
     let right = side.state.bytes().len() == STATE_BYTES && *there < 256;
     right && !starts(call, |size| !right_size(size)) && test(sizes.len())
 }
@@ -268,7 +269,7 @@ fn not_line(call: &Call) -> bool {
 }
 
 pub fn on_state(call: &Call) -> bool {
-    matches!(call, Call::Request { .. } | Call::Report { .. } | Call::Line { .. })
+    call.on_state()
 }
 
 /// The host of a notice, after the call.
@@ -288,8 +289,11 @@ fn wide(call: &Call, field: usize) -> bool {
 /// Every value, in the order in which they are counted.
 fn every() -> impl Iterator<Item = &'static Value> {
     let later = PASSING_VALUES.iter().chain(LINE_VALUES).chain(WATCH_VALUES).chain(STATUS_VALUES);
-    VALUES.iter().chain(LAYOUT_VALUES).chain(later)
+    VALUES.iter().chain(LAYOUT_VALUES).chain(later).chain(PACKET_VALUES)
 }
+
+/// What is read in a call.
+const INPUT: &str = "message, words or string";
 
 /// How often each value was met, and each buffer at each offset modulo 8.
 pub struct Values {
@@ -297,12 +301,21 @@ pub struct Values {
     offsets: [[u64; 8]; BUFFERS.len()],
 }
 
-const BUFFERS: [&str; 7] =
-    ["state", "memory", "message, words or string", "output", "fields", "sizes", "line"];
+const BUFFERS: [&str; 9] = [
+    "state",
+    "memory",
+    INPUT,
+    "output",
+    "line",
+    "fields",
+    "sizes",
+    "data words",
+    "acknowledgement",
+];
 
 /// Whether a buffer is one of words, which are never at an odd address.
 fn of_words(buffer: &str) -> bool {
-    matches!(buffer, "fields" | "sizes")
+    matches!(buffer, "fields" | "sizes" | "data words" | "acknowledgement")
 }
 
 impl Values {
@@ -316,24 +329,26 @@ impl Values {
         for (value, n) in every().zip(&mut self.counts) {
             *n += u64::from(value.by == by && (value.test)(call, side));
         }
-        let mut at = |buffer: usize, lent: &Lent| self.offsets[buffer][lent.offset() % 8] += 1;
-        match call {
-            Call::FreshStart { .. } => {
-                at(0, &side.state);
-                at(5, &side.input);
+        let Side { state, memory, input, output, line, ack } = side;
+        let lent: &[(&str, &Lent)] = match call {
+            Call::FreshStart { .. } => &[("state", state), ("sizes", input)],
+            Call::Request { .. } | Call::Report { .. } => {
+                &[("state", state), ("memory", memory), (INPUT, input), ("output", output)]
             }
-            Call::Read { .. } => at(4, &side.output),
-            Call::Write { .. } => at(3, &side.output),
-            _ => {
-                at(0, &side.state);
-                at(1, &side.memory);
-                let line = matches!(call, Call::Line { .. });
-                let (buffer, lent) = if line { (6, &side.line) } else { (3, &side.output) };
-                at(buffer, lent);
+            Call::Line { .. } => {
+                &[("state", state), ("memory", memory), (INPUT, input), ("line", line)]
             }
-        }
-        if !matches!(call, Call::FreshStart { .. }) {
-            at(2, &side.input);
+            Call::Packet { .. } => {
+                let words = ("data words", input);
+                &[("state", state), ("memory", memory), words, ("acknowledgement", ack)]
+            }
+            Call::Tick => &[("state", state)],
+            Call::Write { .. } => &[(INPUT, input), ("output", output)],
+            Call::Read { .. } => &[(INPUT, input), ("fields", output)],
+        };
+        for (name, lent) in lent {
+            let buffer = BUFFERS.iter().position(|buffer| buffer == name).expect("a buffer");
+            self.offsets[buffer][lent.offset() % 8] += 1;
         }
     }
 

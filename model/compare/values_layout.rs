@@ -38,7 +38,7 @@ pub const LAYOUT_VALUES: &[Value] = &[
     value(
         0,
         "fresh start of eight of 2,048 bytes",
-        |c, _| matches!(c, Call::FreshStart { there: 255, sizes } if *sizes == [2048; PROCESSES]),
+        |c, _| matches!(c, Call::FreshStart { there: 255, sizes, .. } if *sizes == [2048; PROCESSES]),
     ),
     value(
         0,
@@ -56,10 +56,10 @@ pub const LAYOUT_VALUES: &[Value] = &[
         over && started(c) > Some(MEMORY) && right_starts(c)
     }),
     // the lengths of before
-    value(WRONG_BUFFER, "fresh start, state of 720 bytes", |c, s| {
-        matches!(c, Call::FreshStart { .. }) && s.state.bytes().len() == 720
+    value(WRONG_BUFFER, "fresh start, state of 768 bytes", |c, s| {
+        matches!(c, Call::FreshStart { .. }) && s.state.bytes().len() == 768
     }),
-    value(NOT_SOUND, "state of 720 bytes", |c, s| on_state(c) && s.state.bytes().len() == 720),
+    value(NOT_SOUND, "state of 768 bytes", |c, s| on_state(c) && s.state.bytes().len() == 768),
     value(WRONG_BUFFER, "memory of 32,768 bytes", |c, s| {
         on_state(c) && s.memory.bytes().len() == 32_768 && s.output.bytes().len() >= LONGEST
     }),
@@ -114,7 +114,7 @@ fn total(sizes: &[u16]) -> usize {
 
 /// The bytes of those that a fresh start of eight sizes names.
 fn started(call: &Call) -> Option<usize> {
-    let Call::FreshStart { there, sizes } = call else { return None };
+    let Call::FreshStart { there, sizes, .. } = call else { return None };
     let named = |p: &usize| there >> p & 1 == 1;
     let sum = (0..sizes.len()).filter(named).map(|p| usize::from(sizes[p])).sum();
     (sizes.len() == PROCESSES).then_some(sum)

@@ -1,6 +1,7 @@
 //! Who asks: the host that debugs a process, the one that watches it, or another.
 
-use crate::calls::{some_host, Mood, HOSTS};
+use crate::calls::{some_host, HOSTS};
+use crate::moods::Mood;
 use crate::random::Random;
 use model::*;
 
@@ -25,8 +26,8 @@ pub fn at_his(process: &Process) -> bool {
 
 /// Mostly a host with a right to what is asked.
 pub fn asker(random: &mut Random, process: &Process, cmd: u8, mood: &Mood) -> u8 {
-    if mood.bench && process.host == NOBODY && !random.one_in(4) {
-        return TEXT_HOST;
+    if mood.console != NOBODY && !mood.guest && process.host == NOBODY && !random.one_in(4) {
+        return mood.console;
     }
     let shares = matches!(cmd, EXAMINE | BREAK | UNBREAK | STATUS);
     match cmd {
@@ -46,7 +47,7 @@ fn some_watcher(random: &mut Random, process: &Process, mood: &Mood) -> u8 {
         1 => random.pick(&[1, 254, 255]),
         2 => random.free_byte(),
         3 | 4 if process.watcher != NOBODY => process.watcher,
-        _ if mood.bench && process.host != TEXT_HOST => TEXT_HOST,
+        _ if mood.console != NOBODY && process.host != mood.console => mood.console,
         _ if other == process.host => some_host(random, NOBODY),
         _ => other,
     }

@@ -19,9 +19,9 @@ pub const WRONG_LAYOUT: &[Wrong] = &[
         },
     },
     Wrong {
-        name: "a fresh start into 720 bytes is accepted",
+        name: "a fresh start into 768 bytes is accepted",
         answer: |mut made| match &made {
-            Made::Start { sizes: &[_, _, _, _, _, _, _, _], state, .. } if state.len() == 720 => 0,
+            Made::Start { sizes: &[_, _, _, _, _, _, _, _], state, .. } if state.len() == 768 => 0,
             _ => made.right(),
         },
     },
@@ -242,7 +242,7 @@ pub const WRONG_LAYOUT: &[Wrong] = &[
 
 /// The bytes that a fresh start asks for, of those that are there or of all eight.
 fn started(made: &Made, all: bool) -> Option<usize> {
-    let Made::Start { there, sizes, state } = made else { return None };
+    let Made::Start { there, sizes, state, .. } = made else { return None };
     let meant = |p: &usize| all || there >> p & 1 == 1;
     let lengths = sizes.len() == PROCESSES && state.len() == STATE_BYTES;
     lengths.then(|| (0..PROCESSES).filter(meant).map(|p| usize::from(sizes[p])).sum())

@@ -165,8 +165,8 @@ pub const WRONG_SIZES: &[Wrong] = &[
     Wrong {
         name: "a fresh start takes nine sizes",
         answer: |mut made| match &mut made {
-            Made::Start { there, sizes, state } if sizes.len() == 9 => {
-                fresh_start_bytes(*there, &sizes[..8], state)
+            Made::Start { there, sizes, door, state } if sizes.len() == 9 => {
+                fresh_start_bytes(*there, &sizes[..8], *door, state)
             }
             made => made.right(),
         },
@@ -267,7 +267,7 @@ fn in_a_named(mut made: Made, change: impl Fn(&Process) -> u16) -> i64 {
 
 /// Whether a fresh start has such a size, of a process then there or of any.
 fn has_size(made: &Made, any: bool, test: impl Fn(u16) -> bool) -> bool {
-    let Made::Start { there, sizes, state } = made else { return false };
+    let Made::Start { there, sizes, state, .. } = made else { return false };
     let meant = |p: usize| any || there >> p & 1 == 1;
     let lengths = sizes.len() == PROCESSES && state.len() == STATE_BYTES;
     lengths && sizes.iter().enumerate().any(|(p, &size)| meant(p) && test(size))
@@ -276,9 +276,9 @@ fn has_size(made: &Made, any: bool, test: impl Fn(u16) -> bool) -> bool {
 /// The model's answer to a fresh start with other sizes.
 fn started(made: Made, change: impl Fn(u16) -> u16) -> i64 {
     match made {
-        Made::Start { there, sizes, state } => {
+        Made::Start { there, sizes, door, state } => {
             let sizes: Vec<u16> = sizes.iter().map(|&size| change(size)).collect();
-            fresh_start_bytes(there, &sizes, state)
+            fresh_start_bytes(there, &sizes, door, state)
         }
         mut made => made.right(),
     }

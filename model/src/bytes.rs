@@ -3,7 +3,7 @@
 use super::*;
 
 /// Bytes of a process record: there, host, run state, size, number of breakpoints, what is
-/// owed, watcher, nine words, 8 entries.
+/// owed, watcher, a waiting Go, nine words, 8 entries.
 pub const RECORD_BYTES: usize = ENTRIES_AT + BREAKPOINTS * ENTRY_BYTES;
 /// Bytes of a breakpoint entry: whether it is lifted, who set it, address, count, saved word.
 pub const ENTRY_BYTES: usize = 8;
@@ -15,14 +15,22 @@ pub const SET_AT: usize = SIZE_AT + 2;
 pub const OWED_AT: usize = SET_AT + 1;
 /// Where a record says who watches.
 pub const WATCHER_AT: usize = OWED_AT + 1;
+/// Where a record says whether a Go waits.
+pub const GO_WAITS_AT: usize = WATCHER_AT + 1;
+/// Where its ticks stand.
+pub const GO_TICKS_AT: usize = GO_WAITS_AT + 1;
+/// Where its ID stands, four bytes, low byte first.
+pub const GO_ID_AT: usize = GO_TICKS_AT + 1;
 /// Where the nine words begin in a record.
-pub const VECTOR_AT: usize = WATCHER_AT + 1;
+pub const VECTOR_AT: usize = GO_ID_AT + 4;
 /// Where the entries begin in a record.
 pub const ENTRIES_AT: usize = VECTOR_AT + VECTOR;
 /// Where the eight begins stand in a state, two bytes each, low byte first.
 pub const BEGINS_AT: usize = PROCESSES * RECORD_BYTES;
+/// Where a state says which process has the Pup door.
+pub const DOOR_AT: usize = BEGINS_AT + PROCESSES * 2;
 /// Bytes of a state.
-pub const STATE_BYTES: usize = BEGINS_AT + PROCESSES * 2;
+pub const STATE_BYTES: usize = DOOR_AT + 1;
 
 /// "the nine words [..], 18 bytes, low byte first"
 pub fn vector_bytes(words: &[u16; WORDS]) -> [u8; VECTOR] {
@@ -58,14 +66,22 @@ fn owed_from(byte: u8) -> Option<Owed> {
     Owed::ALL.get(usize::from(byte)).copied()
 }
 
-/// The state of 736 bytes; nothing where the length, a flag, a run state or what is owed
+/// Whether a Go waits, its ticks and its ID. What the last two say where none waits means
+/// nothing, and is kept.
+fn go_from(bytes: &[u8]) -> Option<Go> {
+    let id = u32::from_le_bytes([bytes[2], bytes[3], bytes[4], bytes[5]]);
+    Some(Go { waits: flag(bytes[0])?, ticks: bytes[1], id })
+}
+
+/// The state of 785 bytes; nothing where the length, a flag, a run state or what is owed
 /// is none that `encode` gives.
 pub fn decode(bytes: &[u8]) -> Option<State> {
     if bytes.len() != STATE_BYTES {
         return None;
     }
     let mut state = NONE_THERE;
-    let (records, begins) = bytes.split_at(BEGINS_AT);
+    let (records, begins) = bytes[..DOOR_AT].split_at(BEGINS_AT);
+    state.door = bytes[DOOR_AT];
     for (process, begin) in state.processes.iter_mut().zip(begins.chunks_exact(2)) {
         process.begin = u16::from_le_bytes([begin[0], begin[1]]);
     }
@@ -77,6 +93,7 @@ pub fn decode(bytes: &[u8]) -> Option<State> {
         process.set = record[SET_AT];
         process.owed = owed_from(record[OWED_AT])?;
         process.watcher = record[WATCHER_AT];
+        process.go = go_from(&record[GO_WAITS_AT..VECTOR_AT])?;
         process.vector = vector_from(&record[VECTOR_AT..ENTRIES_AT]);
         let entries = record[ENTRIES_AT..].chunks_exact(ENTRY_BYTES);
         for (breakpoint, entry) in process.breakpoints.iter_mut().zip(entries) {
@@ -92,10 +109,11 @@ pub fn decode(bytes: &[u8]) -> Option<State> {
     Some(state)
 }
 
-/// The 736 bytes of a state.
+/// The 785 bytes of a state.
 pub fn encode(state: &State) -> [u8; STATE_BYTES] {
     let mut bytes = [0; STATE_BYTES];
-    let (records, begins) = bytes.split_at_mut(BEGINS_AT);
+    bytes[DOOR_AT] = state.door;
+    let (records, begins) = bytes[..DOOR_AT].split_at_mut(BEGINS_AT);
     for (begin, process) in begins.chunks_exact_mut(2).zip(&state.processes) {
         begin.copy_from_slice(&process.begin.to_le_bytes());
     }
@@ -107,6 +125,9 @@ pub fn encode(state: &State) -> [u8; STATE_BYTES] {
         record[SET_AT] = process.set;
         record[OWED_AT] = process.owed as u8;
         record[WATCHER_AT] = process.watcher;
+        record[GO_WAITS_AT] = u8::from(process.go.waits);
+        record[GO_TICKS_AT] = process.go.ticks;
+        record[GO_ID_AT..VECTOR_AT].copy_from_slice(&process.go.id.to_le_bytes());
         record[VECTOR_AT..ENTRIES_AT].copy_from_slice(&vector_bytes(&process.vector));
         let entries = record[ENTRIES_AT..].chunks_exact_mut(ENTRY_BYTES);
         for (entry, b) in entries.zip(&process.breakpoints) {
@@ -180,6 +201,36 @@ pub fn line_bytes(state: &mut [u8], memory: &mut [u8], text: &[u8], buffer: &mut
     answer
 }
 
+/// `packet` over the bytes of a state.
+pub fn packet_bytes(
+    state: &mut [u8],
+    memory: &mut [u8],
+    kind: u64,
+    id: u64,
+    words: &[u16],
+    ack: &mut [u16],
+) -> i64 {
+    if memory.len() != MEMORY || ack.len() < ACK_WORDS {
+        return -WRONG_BUFFER;
+    }
+    let Some(mut records) = decode(state) else {
+        return -NOT_SOUND;
+    };
+    let answer = packet(&mut records, memory, kind, id, words, ack);
+    write_back(&records, answer, state);
+    answer
+}
+
+/// `tick` over the bytes of a state.
+pub fn tick_bytes(state: &mut [u8]) -> i64 {
+    let Some(mut records) = decode(state) else {
+        return -NOT_SOUND;
+    };
+    let answer = tick(&mut records);
+    write_back(&records, answer, state);
+    answer
+}
+
 /// "State and memory are unchanged by a refusal"
 fn write_back(records: &State, answer: i64, state: &mut [u8]) {
     if answer >= 0 {
@@ -187,18 +238,19 @@ fn write_back(records: &State, answer: i64, state: &mut [u8]) {
     }
 }
 
-/// `fresh_start` into 736 bytes: 0, or minus 1 where the buffer has not 736 or the
+/// `fresh_start` into 785 bytes: 0, or minus 1 where the buffer has not 785 or the
 /// sizes are not eight, or minus 2 where a process then there has a bad size or they
 /// are more than the memory, or minus 7 where a bit above the eighth is set: "number over 7". "The
-/// lowest-numbered test that fails gives the answer"
-pub fn fresh_start_bytes(there: u64, sizes: &[u16], state: &mut [u8]) -> i64 {
+/// lowest-numbered test that fails gives the answer". A door over 255 is no process.
+pub fn fresh_start_bytes(there: u64, sizes: &[u16], door: u64, state: &mut [u8]) -> i64 {
     let Ok(sizes) = sizes.try_into() else {
         return -WRONG_BUFFER;
     };
     if state.len() != STATE_BYTES {
         return -WRONG_BUFFER;
     }
-    let started = match fresh_start(there as u8, sizes) {
+    let door = u8::try_from(door).unwrap_or(NO_DOOR);
+    let started = match fresh_start(there as u8, sizes, door) {
         Ok(started) => started,
         Err(number) => return -number,
     };

@@ -1,11 +1,15 @@
 //! The paper's cases P1 to P12, its other cases and its list of easy errors. The desk's end,
 //! and what the change requests add, have files of their own.
 
+mod blocks;
 mod desk;
+mod doors;
 mod gateway;
+mod goes;
 mod layout;
 mod lines;
 mod owed;
+mod packets;
 mod passing;
 mod sizes;
 mod status;
@@ -269,11 +273,11 @@ fn numbers_that_no_field_holds() {
     assert_eq!(g.report(1 << 32, HALT, 0, 0), -7);
     g.written(0);
     let mut state = [9; STATE_BYTES];
-    assert_eq!(fresh_start_bytes(256, &FULL, &mut state), -7);
-    assert_eq!(fresh_start_bytes(1 << 63, &FULL, &mut state), -7);
+    assert_eq!(fresh_start_bytes(256, &FULL, 255, &mut state), -7);
+    assert_eq!(fresh_start_bytes(1 << 63, &FULL, 255, &mut state), -7);
     assert_eq!(state, [9; STATE_BYTES]);
-    assert_eq!(fresh_start_bytes(256, &FULL, &mut state[1..]), -1);
-    assert_eq!(fresh_start_bytes(255, &EIGHT, &mut state), 0);
+    assert_eq!(fresh_start_bytes(256, &FULL, 255, &mut state[1..]), -1);
+    assert_eq!(fresh_start_bytes(255, &EIGHT, 255, &mut state), 0);
 }
 
 #[test]
@@ -308,7 +312,7 @@ fn the_order_of_a_requests_tests() {
 
 #[test]
 fn sound_states() {
-    let mut state = fresh_start(3, &FULL).unwrap();
+    let mut state = fresh_start(3, &FULL, NO_DOOR).unwrap();
     assert!(sound(&state));
     let entry = Breakpoint { setter: 9, address: 4094, ..FREE };
     state.processes[0].breakpoints[3] = entry;
@@ -342,33 +346,36 @@ fn sound_states() {
 #[test]
 fn the_byte_form() {
     let mut bytes = [9; STATE_BYTES];
-    assert_eq!((STATE_BYTES, RECORD_BYTES, BEGINS_AT), (736, 90, 720));
-    assert_eq!(fresh_start_bytes(0b100, &[FEED; PROCESSES], &mut bytes), 0);
-    assert_eq!(bytes[BEGINS_AT..], [0; 16]);
+    assert_eq!((STATE_BYTES, RECORD_BYTES, BEGINS_AT), (785, 96, 768));
+    assert_eq!(fresh_start_bytes(0b100, &[FEED; PROCESSES], 255, &mut bytes), 0);
+    assert_eq!(bytes[BEGINS_AT..DOOR_AT], [0; 16]);
+    assert_eq!((DOOR_AT, bytes[DOOR_AT]), (784, 255));
     for (p, record) in bytes[..BEGINS_AT].chunks_exact(RECORD_BYTES).enumerate() {
         let head = if p == 2 { [1, 0, 0, 0, 6] } else { [0, 0, 0, 0, 16] };
         assert_eq!(record[..5], head);
         assert!(record[5..].iter().all(|&b| b == 0));
     }
-    assert_eq!(fresh_start_bytes(0, &FULL, &mut bytes[1..]), -1);
+    assert_eq!(fresh_start_bytes(0, &FULL, 255, &mut bytes[1..]), -1);
     let mut memory = vec![0; MEMORY];
     let (mut output, mut line) = (vec![0; LONGEST], vec![0; LONGEST_LINE]);
     memory[256..][..2].copy_from_slice(&[18, 52]);
     for m in [message(5, DEBUG, 2, 0, 0, &[]), message(5, BREAK, 2, 256, 515, &[])] {
         assert_eq!(request_bytes(&mut bytes, &mut memory, &m, &mut output), 10);
     }
-    assert_eq!(bytes[180..188], [1, 5, 0, 0, 6, 1, 0, 0]);
-    assert_eq!(bytes[206..214], [0, 5, 0, 1, 3, 2, 18, 52]);
+    assert_eq!(bytes[192..200], [1, 5, 0, 0, 6, 1, 0, 0]);
+    assert_eq!(bytes[224..232], [0, 5, 0, 1, 3, 2, 18, 52]);
     let words = vector_bytes(&words_with(256));
     let (b, m, o, l) = (&mut bytes, &mut memory, &mut output, &mut line);
     assert_eq!(report_bytes(b, m, 2, BPT.into(), 0, &words[1..], o, l), -1);
     assert_eq!(report_bytes(b, m, 2, BPT.into(), 0, &words, o, &mut l[1..]), -1);
     assert_eq!(report_bytes(b, m, 2, BPT.into(), 0, &words, o, l), 0);
-    assert_eq!(b[180..188], [1, 5, 5, 0, 6, 1, 0, 0]);
-    assert_eq!(b[188..206], words);
-    assert_eq!(b[206..214], [1, 5, 0, 1, 2, 2, 18, 52]);
+    assert_eq!(b[192..200], [1, 5, 5, 0, 6, 1, 0, 0]);
+    assert_eq!(b[206..224], words);
+    assert_eq!(b[224..232], [1, 5, 0, 1, 2, 2, 18, 52]);
     assert_eq!(encode(&decode(b).unwrap()), *b);
-    for (at, byte) in [(0, 2), (180, 255), (2, 6), (186, 3), (206, 2), (214, 255), (712, 2)] {
+    for (at, byte) in
+        [(0, 2), (192, 255), (2, 6), (198, 3), (8, 2), (200, 255), (224, 2), (232, 255), (760, 2)]
+    {
         let mut damaged = *b;
         damaged[at] = byte;
         assert_eq!(decode(&damaged), None);

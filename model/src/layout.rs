@@ -74,9 +74,8 @@ pub(super) fn create(
     Ok(p as u8)
 }
 
-/// "DESTROY: the process is absent, its record cleared", with what it owed and who watched
-/// it. K9: "at a
-/// DESTROY those above move down, what is seen in them unchanged"; "DESTROY zeroes the
+/// "DESTROY: the process is absent, its record cleared", with what it owed, who watched
+/// it and a Go that waits. K9: "at a DESTROY those above move down, what is seen in them unchanged"; "DESTROY zeroes the
 /// bytes it adds to the free end." Planted words move as they stand.
 pub(super) fn destroy(state: &mut State, memory: &mut [u8], p: usize) {
     let Process { begin, size, .. } = state.processes[p];

@@ -8,31 +8,40 @@
 
 #![forbid(unsafe_code)]
 
+mod blocks;
 mod bytes;
 #[cfg(test)]
 mod cases;
 mod desk;
+mod goes;
 mod layout;
 mod line_text;
 mod lines;
+mod packets;
 mod reports;
 mod requests;
 mod runs;
+mod soundness;
 mod watches;
 
+pub use blocks::{block, ACK_WORDS, LONGEST_ASKED, LONGEST_BLOCK};
 pub use bytes::*;
 pub use desk::{read_answer, write_request, FIELDS};
+pub use goes::{tick, Go, GO_TICKS};
 pub use layout::{asked_size, free_bytes, used_bytes};
 pub use line_text::{read_line, write_line, LineRead, LETTERS, LONGEST_LINE};
 pub use lines::{line, Owed, TEXT_HOST};
+pub use packets::{packet, ACK, FETCH, GO, GO_REPLY, NO_DOOR, PUP_HOST, STORE};
 pub use reports::{answered_length, notice_length, report};
 pub use requests::request;
 pub use runs::Run;
+pub use soundness::{right_size, sound};
 pub use watches::WATCHED_LIMIT;
 
 use bytes::vector_from;
+use goes::NO_GO;
 use layout::{create, destroy, layout_sound, size_fits};
-use requests::{fields_fit, named, Asked};
+use requests::{fields_fit, named, run_state_fits, Asked};
 
 // ---------------------------------------------------------------- sizes
 
@@ -142,17 +151,18 @@ const NOTICE_CMD: u8 = 64;
 pub type Refusal = i64;
 
 /// 1: "reply or notice buffer under 266"; K9: "1 asks 16,384 here", of the memory; K7:
-/// "1 asks 35 bytes of line buffer (a report's too)"
+/// "1 asks 35 bytes of line buffer (a report's too)"; K1: "1 asks 35 output words, not 266
+/// bytes"
 pub const WRONG_BUFFER: Refusal = 1;
 /// 2: "state not sound"; K2: "2 covers a bad size (at fresh start too, of a
 /// process then there) or a breakpoint past it"; K9: "2 also more than that at fresh
-/// start", the 16,384 bytes; K6: "2 covers a wrong stored number"
+/// start", the 16,384 bytes; K6: "2 covers a wrong stored number"; K1: "sound includes this"
 pub const NOT_SOUND: Refusal = 2;
-/// 3: "message under 10 or over 266 bytes"
+/// 3: "message under 10 or over 266 bytes"; K1: "3 too few data words"
 pub const WRONG_LENGTH: Refusal = 3;
 /// 4: "TYPE, LINK or STYPE wrong, or HOST 0"
 pub const WRONG_HEAD: Refusal = 4;
-/// 5: "CMD not a known op code"
+/// 5: "CMD not a known op code"; K1: "5 another type"
 pub const UNKNOWN_CMD: Refusal = 5;
 /// 6: "unused field not zero, or string of wrong length"; K9: "6, at the desk too, an
 /// odd or greater size"; K7: "6 a PID or request that cannot be read"
@@ -199,7 +209,7 @@ pub struct Breakpoint {
 /// vector; up to 8 breakpoints". K2: "Each process gets a size". K9: "Starts and sizes
 /// are public": where it begins in memory is kept too. K7: "an owed answer". K5: "the one
 /// watcher of a process", if it has one. K6: "Each process record keeps its number of
-/// breakpoints".
+/// breakpoints". K1: "the waiting Go", if there is one.
 #[derive(Clone, Copy, PartialEq, Eq, Debug)]
 pub struct Process {
     pub there: bool,
@@ -211,14 +221,17 @@ pub struct Process {
     pub set: u8,
     pub owed: Owed,
     pub watcher: u8,
+    pub go: Go,
     pub vector: [u16; WORDS],
     pub breakpoints: [Breakpoint; BREAKPOINTS],
 }
 
-/// The eight process records.
+/// The eight process records, and K1's "one process set at start".
 #[derive(Clone, PartialEq, Eq, Debug)]
 pub struct State {
     pub processes: [Process; PROCESSES],
+    /// The process of the Pup door; a number over 7 is none.
+    pub door: u8,
 }
 
 /// "a freed entry is all zero"
@@ -236,20 +249,22 @@ const CLEARED: Process = Process {
     set: 0,
     owed: Owed::Nothing,
     watcher: NOBODY,
+    go: NO_GO,
     vector: [0; WORDS],
     breakpoints: [FREE; BREAKPOINTS],
 };
 
-/// A state in which no process is there.
-pub const NONE_THERE: State = State { processes: [CLEARED; PROCESSES] };
+/// A state in which no process is there, and none has the Pup door.
+pub const NONE_THERE: State = State { processes: [CLEARED; PROCESSES], door: NO_DOOR };
 
 /// "At a fresh start a given set of processes is there, running, with no host
 /// and zero vectors; every other record is cleared". K2: "Each process gets a
 /// size [..] set at fresh start"; "2 covers a bad size (at fresh start too, of a
 /// process then there)". K9: "Processes lie without gaps, at fresh start in number
-/// order"; "2 also more than that at fresh start".
-pub fn fresh_start(there: u8, sizes: &[u16; PROCESSES]) -> Result<State, Refusal> {
-    let mut state = NONE_THERE;
+/// order"; "2 also more than that at fresh start". K1: the Pup door is "on one process set
+/// at start", there or not.
+pub fn fresh_start(there: u8, sizes: &[u16; PROCESSES], door: u8) -> Result<State, Refusal> {
+    let mut state = State { door, ..NONE_THERE };
     let mut end = 0;
     for (p, process) in state.processes.iter_mut().enumerate() {
         if there >> p & 1 == 0 {
@@ -265,76 +280,6 @@ pub fn fresh_start(there: u8, sizes: &[u16; PROCESSES]) -> Result<State, Refusal
         return Err(NOT_SOUND);
     }
     Ok(state)
-}
-
-// ---------------------------------------------------------------- soundness
-
-/// "A state is sound when: [..]" each of its eight records is; K9: "sound includes the
-/// layout".
-pub fn sound(state: &State) -> bool {
-    state.processes.iter().all(Process::sound) && layout_sound(state)
-}
-
-impl Process {
-    fn sound(&self) -> bool {
-        // K2: "2 covers a bad size", there or not: "Each process gets a size"
-        if !right_size(self.size) {
-            return false;
-        }
-        // K6: "2 covers a wrong stored number", there or not: "Each process record keeps"
-        // one
-        if usize::from(self.set) != self.breakpoints.iter().filter(|b| b.used()).count() {
-            return false;
-        }
-        // K7: "none is owed unless host 253 debugs it"
-        if self.owed != Owed::Nothing && self.host != TEXT_HOST {
-            return false;
-        }
-        // K5: "Sound includes these facts"
-        if !self.watch_sound() {
-            return false;
-        }
-        // "an absent process has no host"
-        if !self.there && self.host != NOBODY {
-            return false;
-        }
-        // "and no breakpoints; a process with no host has none either"
-        if self.host == NOBODY {
-            return self.breakpoints.iter().all(|b| !b.used());
-        }
-        self.addresses_sound() && self.lifting_sound()
-    }
-
-    /// "addresses within a process are different, even"; K2: "or a breakpoint past
-    /// it", the size
-    fn addresses_sound(&self) -> bool {
-        self.breakpoints.iter().enumerate().all(|(i, b)| {
-            let earlier = &self.breakpoints[..i];
-            !b.used()
-                || self.takes_breakpoint(b.address)
-                    && !earlier.iter().any(|e| e.used() && e.address == b.address)
-        })
-    }
-
-    /// "at most one is lifted"; K3: "Sound now allows a lifted one only while stepping or
-    /// passing."
-    fn lifting_sound(&self) -> bool {
-        match self.breakpoints.iter().filter(|b| b.used() && b.lifted).count() {
-            0 => true,
-            1 => self.run.allows_lifted(),
-            _ => false,
-        }
-    }
-
-    /// "BREAK address odd"; K2: "BREAK at most size − 2"
-    fn takes_breakpoint(&self, address: u16) -> bool {
-        address & 1 == 0 && within(address, WORD, self.size.into())
-    }
-}
-
-/// K2: "a size, even, 2 to 4,096"
-pub fn right_size(size: u16) -> bool {
-    size & 1 == 0 && (SMALLEST..=LARGEST).contains(&size)
 }
 
 // ---------------------------------------------------------------- memory

@@ -143,7 +143,7 @@ pub(super) fn named(state: &mut State, pid: u8) -> Result<&mut Process, Refusal>
 /// 9: "wrong run state". "RESUME, SINGLE STEP: from stopped or at a
 /// breakpoint". "PROCEED BPT: only at a breakpoint". K3, of passing: "RESUME, SINGLE
 /// STEP and PROCEED BPT give 9". No other request asks for a run state.
-fn run_state_fits(process: &Process, cmd: u8) -> Result<(), Refusal> {
+pub(super) fn run_state_fits(process: &Process, cmd: u8) -> Result<(), Refusal> {
     let fits = match cmd {
         RESUME | SINGLE_STEP => process.run.waits(),
         PROCEED_BPT => process.run == Run::AtBreakpoint,
@@ -189,7 +189,8 @@ impl Process {
     /// it. Stopped, at a breakpoint or stepping becomes running; ended stays."
     /// K3: passing becomes running too. "a freed entry is all zero": so are all
     /// eight, and K6: none is set. K7: "STOP, END DEBUG and DESTROY cancel an owed answer". K5: "END DEBUG and
-    /// DESTROY end the watch".
+    /// DESTROY end the watch". K1: another packet abandons the Go, "and so do END DEBUG and
+    /// DESTROY".
     fn end_debug(&mut self, space: &mut [u8]) {
         for breakpoint in &mut self.breakpoints {
             breakpoint.free(space);
@@ -198,6 +199,7 @@ impl Process {
         self.host = NOBODY;
         self.watcher = NOBODY;
         self.owed = Owed::Nothing;
+        self.go = NO_GO;
         if self.run != Run::Ended {
             self.run = Run::Running;
         }

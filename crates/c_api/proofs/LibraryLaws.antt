@@ -2,7 +2,7 @@
 use mathlib.Core.Path.{_≡_, refl, sym, ap, ap₂, _∙_}
 use mathlib.Core.Bool.{true, true≢false}
 use mathlib.Core.List.{List, [], _∷_, map}
-use Prim.Native.Nat.{ℕ, zero, suc}
+use Prim.Native.Nat.{ℕ, zero, suc, _%_}
 use native.Mathlib.Omega.{arith}
 use borrow.Author.Tests.{eq-eqb, eqb-true, ltb-true, not-false}
 use lib.IntN.{ℤ, pos, negsuc, +ℤ-idl}
@@ -16,8 +16,8 @@ use Rattle.format.specs.Layout.{headerOf}
 use Rattle.format.proofs.OutcomeLaws.{first-passes, rest-passes}
 use Rattle.state.specs.Layout.{capacity}
 use Rattle.rules.specs.Rule.{names, creates}
-use Rattle.rules.specs.Tests.{State, requestNumber, textNumber}
-use Rattle.rules.specs.Step.{Answer, StepResult, plainAnswer, Call, request, report, store, textLine, step, requestStep, granted, grantedNamed, grantedCreate, refused, textStep}
+use Rattle.rules.specs.Tests.{State, requestNumber, textNumber, packetNumber}
+use Rattle.rules.specs.Step.{Answer, StepResult, plainAnswer, Call, request, report, store, textLine, packet, tick, step, requestStep, granted, grantedNamed, grantedCreate, refused, textStep, packetStep, tickStep}
 use Rattle.rules.specs.Ready.{Typed}
 use Rattle.rules.specs.Run.{TraceItem, traceItem, run}
 use Rattle.rules.specs.Isolation.{isGranted}
@@ -28,8 +28,8 @@ use Rattle.gateway.specs.Called.{Called, callOn, machineStored, Did}
 use Rattle.gateway.specs.Sequence.{Begins, readFrom}
 use Rattle.gateway.proofs.SequenceLaws.{Follows, did-follows, did-begins, fresh-begins}
 use Rattle.gateway.proofs.DemandLaws.{lists-on-bytes}
-use Rattle.c_api.specs.Called.{signed, bothLengths, Returns, Reports, kindOf, reportOn, bitsOf, startNumber, startWith}
-use Rattle.c_api.specs.Library.{LibraryCall, requested, reported, stored, lineSent, Returned, DidReturn, DoneByLibrary, callOf, Whole, AllWhole, outcomeOf, noticeTold, lineTold, plainTold, answerTold, returnedItem, returnedItems, MadeByLibrary, LibraryDemands}
+use Rattle.c_api.specs.Called.{signed, bothLengths, Returns, Reports, byteOf, kindOf, reportOn, typeOf, packetOn, bitsOf, startNumber, startWith}
+use Rattle.c_api.specs.Library.{LibraryCall, requested, reported, stored, lineSent, packetSent, ticked, Returned, DidReturn, DoneByLibrary, callOf, Whole, AllWhole, outcomeOf, noticeTold, lineTold, plainTold, answerTold, returnedItem, returnedItems, MadeByLibrary, LibraryDemands}
 use Rattle.c_api.proofs.ShortLaws.{Small, report-small, nine-words}
 use Rattle.c_api.proofs.StartLaws.{start-same}
 
@@ -69,6 +69,14 @@ line-lineless : (s : State) (text buffer : List ℕ) → Lineless (step s (textL
 unfolding Lineless step textStep
 line-lineless s text buffer = by-test Lineless (eqb (textNumber s text buffer) 0) (λ e. (refl, refl)) (λ e. (refl, refl))
 
+packet-lineless : (s : State) (door kind id : ℕ) (words buffer : List ℕ) → Lineless (step s (packet door kind id words buffer))
+unfolding Lineless step packetStep
+packet-lineless s door kind id words buffer = by-test Lineless (eqb (packetNumber s door kind words buffer) 0) (λ e. (refl, refl)) (λ e. (refl, refl))
+
+tick-lineless : (s : State) (door : ℕ) → Lineless (step s (tick door))
+unfolding Lineless step tickStep
+tick-lineless s door = (refl, refl)
+
 store-lineless : (s : State) (p a v : ℕ) → Lineless (step s (store p a v))
 unfolding Lineless step
 store-lineless s p a v = (refl, refl)
@@ -89,6 +97,8 @@ typed (requested m reply) = tt
 typed (reported p kind reason words notice line) = nine-words words
 typed (stored p a v) = tt
 typed (lineSent text line) = tt
+typed (packetSent door kind id words ack) = tt
+typed (ticked door) = tt
 
 module _ (state memory : List ℕ) (c : Call) (y : Returned) (x : Called) (f : Follows state memory c x) where
   abbrev a : Answer
@@ -115,7 +125,7 @@ module _ (state memory : List ℕ) (c : Call) (y : Returned) (x : Called) (f : F
       rw (r .result-is, back .0, back .1, r .notice-is, r .line-is) (f .answer)
 
 is-call : (state memory : List ℕ) (c : LibraryCall) → Whole c → (y : Returned) → DidReturn state memory c y → IsCall state memory c y
-unfolding DidReturn Did callOf Whole reportOn answerTold
+unfolding DidReturn Did callOf Whole reportOn packetOn answerTold
 is-call state memory (requested m reply) w y d = record {
   call = callOn state memory (request m reply);
   did = refl;
@@ -146,6 +156,23 @@ is-call state memory (lineSent text line) w y d = record {
   answered = λ f. plain-told state memory (textLine text line) y _ f (line-lineless (readFrom state memory) text line) d;
   state-is = d .state-is;
   memory-is = d .memory-is;
+}
+is-call state memory (packetSent door kind id words ack) w y d =
+    let c = packet door (typeOf kind id) (id % 4294967296) words ack in
+    let r : Returns (callOn state memory c) (y .result) (y .state) (y .memory) (y .buffer) = rw (← d .0) at (d .1) in
+    record {
+      call = callOn state memory c;
+      did = (d .0, refl);
+      answered = λ f. plain-told state memory c y _ f (packet-lineless (readFrom state memory) door (typeOf kind id) (id % 4294967296) words ack) r;
+      state-is = r .state-is;
+      memory-is = r .memory-is;
+    }
+is-call state memory (ticked door) w y d = record {
+  call = callOn state memory (tick door);
+  did = (d .0, refl);
+  answered = λ f. plain-told state memory (tick door) y _ f (tick-lineless (readFrom state memory) door) (d .1);
+  state-is = d .1 .state-is;
+  memory-is = d .1 .memory-is;
 }
 
 module _ (state memory : List ℕ) (b : Begins state memory) (c : LibraryCall) (y : Returned) (i : IsCall state memory c y) where
@@ -188,24 +215,24 @@ none-fails zero e = refl
 none-fails (suc n) e =
     sym (ap (λ (z : ℤ). numberOf (outcomeOf z)) e ∙ ap numberOf (told (Refused (suc n)) (λ z. absurd (omega (arith, z)))))
 
-started-begins : (there : ℕ) (sizes before memory : List ℕ) → startNumber there sizes before ≡ 0 → length memory ≡ capacity
-    → Begins (startWith there sizes before .state) memory
+started-begins : (there door : ℕ) (sizes before memory : List ℕ) → startNumber there sizes before ≡ 0 → length memory ≡ capacity
+    → Begins (startWith there sizes door before .state) memory
 unfolding startNumber
-started-begins there sizes before memory e size =
+started-begins there door sizes before memory e size =
     let eight = eqb-true (length sizes) processCount (not-false _ (first-passes 0 _ _ e)) in
     let state = rest-passes 0 _ _ e in
     let wide = eqb-true (length before) stateWidth (not-false _ (first-passes 0 _ _ state)) in
     let right = not-false _ (first-passes 1 _ _ (rest-passes 0 _ _ state)) in
     let low = ltb-true there 256 (not-false _ (first-passes 6 _ _ (rest-passes 1 _ _ (rest-passes 0 _ _ state)))) in
-    rw (start-same there sizes before low eight) (fresh-begins (bitsOf there) sizes (eight-bits there) right before memory wide size)
+    rw (start-same there sizes door before low eight) (fresh-begins (bitsOf there) sizes (eight-bits there) right (byteOf door) before memory wide size)
 
-started-zero : (there : ℕ) (sizes before : List ℕ) (r : ℤ) → r ≡ signed (startWith there sizes before .outcome) → r ≡ pos 0 → startNumber there sizes before ≡ 0
+started-zero : (there door : ℕ) (sizes before : List ℕ) (r : ℤ) → r ≡ signed (startWith there sizes door before .outcome) → r ≡ pos 0 → startNumber there sizes before ≡ 0
 unfolding startWith
-started-zero there sizes before r e z = none-fails (startNumber there sizes before) (sym z ∙ e)
+started-zero there door sizes before r e z = none-fails (startNumber there sizes before) (sym z ∙ e)
 
 pub library-demands : LibraryDemands
 library-demands = record {
-  fresh = λ there sizes before state memory r s z size.
-      rw (s .state-is) (started-begins there sizes before memory (started-zero there sizes before r (s .result-is) z) size);
+  fresh = λ there door sizes before state memory r s z size.
+      rw (s .state-is) (started-begins there door sizes before memory (started-zero there door sizes before r (s .result-is) z) size);
   lists = lists-on-bytes MadeByLibrary made-runs;
 }

@@ -13,17 +13,17 @@ use Rattle.state.specs.Fresh.{freshStart, sizesRight}
 use Rattle.state_bytes.specs.Widths.{processCount, stateWidth}
 use Rattle.state_bytes.specs.State.{stateBytes}
 use Rattle.gateway.specs.Called.{StartResult, started, startOn}
-use Rattle.c_api.specs.Called.{minus, signed, Short, bitsOf, startNumber, startWith}
+use Rattle.c_api.specs.Called.{minus, signed, Short, byteOf, bitsOf, startNumber, startWith}
 
 abbrev ShortStart : StartResult → Type 0
 ShortStart x = Short (x .outcome)
 
-module _ (there : ℕ) (sizes state : List ℕ) where
+module _ (there : ℕ) (sizes : List ℕ) (door : ℕ) (state : List ℕ) where
   abbrev fresh : List ℕ
-  fresh = stateBytes (freshStart (bitsOf there) sizes)
+  fresh = stateBytes (byteOf door) (freshStart (bitsOf there) sizes)
 
   -- eight sizes and no bit above the eighth: the gateway's tests are left
-  pub start-same : there < 256 → length sizes ≡ processCount → startWith there sizes state ≡ startOn (bitsOf there) sizes state
+  pub start-same : there < 256 → length sizes ≡ processCount → startWith there sizes door state ≡ startOn (bitsOf there) sizes (byteOf door) state
   unfolding startWith startNumber startOn firstFailing
   start-same low eight =
       rw (eq-eqb (length sizes) processCount eight, lt-ltb there 256 low) (go (eqb (length state) stateWidth) (sizesRight (bitsOf there) sizes))
@@ -38,7 +38,7 @@ module _ (there : ℕ) (sizes state : List ℕ) where
       go false r = refl
 
   -- a bit above the eighth: refused, with 7 where nothing else is wrong
-  pub start-over : 256 ≤ there → startWith there sizes state ≡ started (outcome (startNumber there sizes state) 0) state
+  pub start-over : 256 ≤ there → startWith there sizes door state ≡ started (outcome (startNumber there sizes state) 0) state
   unfolding startWith startNumber firstFailing
   start-over over =
       rw (le-ltb there 256 over) (go (eqb (length sizes) processCount) (eqb (length state) stateWidth) (sizesRight (bitsOf there) sizes))
@@ -53,14 +53,14 @@ module _ (there : ℕ) (sizes state : List ℕ) where
       go false s r = refl
 
   -- another number of sizes than eight
-  pub start-uneven : (length sizes ≡ processCount → ⊥) → startWith there sizes state ≡ started (outcome 1 0) state
+  pub start-uneven : (length sizes ≡ processCount → ⊥) → startWith there sizes door state ≡ started (outcome 1 0) state
   unfolding startWith startNumber firstFailing
   start-uneven other = rw (ne-eqb (length sizes) processCount other)
 
 -- no start has a length
-pub startOn-short : (there : List Bool) (sizes state : List ℕ) → Short (startOn there sizes state .outcome)
+pub startOn-short : (there : List Bool) (sizes : List ℕ) (door : ℕ) (state : List ℕ) → Short (startOn there sizes door state .outcome)
 unfolding startOn lengthOf
-startOn-short there sizes state =
+startOn-short there sizes door state =
     by-test ShortStart (eqb (length state) stateWidth)
     (λ e. by-test ShortStart (sizesRight there sizes) (λ r. omega arith) (λ r. omega arith))
     (λ e. omega arith)

@@ -11,9 +11,9 @@ use Rattle.format.specs.declared.outcome.Outcome.{Outcome}
 use Rattle.format.specs.declared.outcome.Outcome.the-variants.{Granted, Refused}
 use Rattle.format.specs.Outcome.{outcome, numberOf, lengthOf, isGranted, test, firstFailing}
 use Rattle.state.specs.Fresh.{freshStart, sizesRight}
-use Rattle.rules.specs.Step.{report}
+use Rattle.rules.specs.Step.{report, packet}
 use Rattle.state_bytes.specs.Widths.{processCount, stateWidth}
-use Rattle.state_bytes.specs.State.{stateBytes}
+use Rattle.state_bytes.specs.State.{stateBytes, doorOf}
 use Rattle.gateway.specs.Called.{Called, StartResult, refusedBy, callOn, started}
 
 -- minus this number
@@ -62,6 +62,14 @@ reportOn state memory pid kind reason words notice line =
     cond (eqb (length words) 18) (callOn state memory (report pid (kindOf kind reason) reason (vectorOf words) notice line))
     (refusedBy 1 state memory (record { own = notice; line = line }))
 
+-- 'a 32-bit ID': a packet with a greater one is of no type, and so test 5 refuses it
+unfoldable pub typeOf : ℕ → ℕ → ℕ
+typeOf kind id = cond (ltb id 4294967296) (byteOf kind) 255
+
+-- a packet of numbers of any size, to the process of the door
+unfoldable pub packetOn : List ℕ → List ℕ → ℕ → ℕ → List ℕ → List ℕ → Called
+packetOn state memory kind id words ack = callOn state memory (packet (doorOf state) (typeOf kind id) (id % 4294967296) words ack)
+
 -- process p is there where bit p is set
 unfoldable pub bitsOf : ℕ → List Bool
 bitsOf n =
@@ -86,11 +94,11 @@ startNumber there sizes state =
     ∷ test 7 (not (ltb there 256))
     ∷ [])
 
--- a fresh start with the processes whose bits are set, each with its size; a refused one leaves the bytes
-unfoldable pub startWith : ℕ → List ℕ → List ℕ → StartResult
-startWith there sizes state =
+-- a fresh start with the processes whose bits are set, each with its size, and this process of the Pup door; a refused one leaves the bytes
+unfoldable pub startWith : ℕ → List ℕ → ℕ → List ℕ → StartResult
+startWith there sizes door state =
     started (outcome (startNumber there sizes state) 0)
-    (cond (eqb (startNumber there sizes state) 0) (stateBytes (freshStart (bitsOf there) sizes)) state)
+    (cond (eqb (startNumber there sizes state) 0) (stateBytes (byteOf door) (freshStart (bitsOf there) sizes)) state)
 
 -- a fresh start returned this number, and left these bytes of the state
 pub record Starts (x : StartResult) (result : ℤ) (state : List ℕ) : Type 0 where

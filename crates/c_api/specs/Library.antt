@@ -8,20 +8,22 @@ use Rattle.lists.specs.Word.{vectorOf}
 use Rattle.format.specs.declared.outcome.Outcome.{Outcome}
 use Rattle.format.specs.Outcome.{outcome}
 use Rattle.state.specs.Layout.{capacity, extentAt}
-use Rattle.rules.specs.Step.{Answer, plainAnswer, Call, request, report, store, textLine}
+use Rattle.rules.specs.Step.{Answer, plainAnswer, Call, request, report, store, textLine, packet, tick}
 use Rattle.rules.specs.Run.{TraceItem}
-use Rattle.state_bytes.specs.State.{stateOf}
+use Rattle.state_bytes.specs.State.{stateOf, doorOf}
 use Rattle.gateway.specs.Called.{callOn, machineStored}
 use Rattle.gateway.specs.Sequence.{Begins, readFrom}
 use Rattle.gateway.specs.Demands.{ListsOnBytes}
-use Rattle.c_api.specs.Called.{Returns, Reports, Starts, kindOf, reportOn, startWith}
+use Rattle.c_api.specs.Called.{Returns, Reports, Starts, kindOf, reportOn, typeOf, packetOn, startWith}
 
--- a call of the library, or a store by the machine between two
+-- a call of the library, or a store by the machine between two; a packet and a tick carry the process of the door, which the state tells
 pub data LibraryCall : Type 0 where
   requested : (message reply : List ℕ) → LibraryCall
   reported : (process kind reason : ℕ) (words notice line : List ℕ) → LibraryCall
   stored : (process address value : ℕ) → LibraryCall
   lineSent : (text line : List ℕ) → LibraryCall
+  packetSent : (door kind id : ℕ) (words ack : List ℕ) → LibraryCall
+  ticked : (door : ℕ) → LibraryCall
 
 -- what it returned, and the bytes that it left; a report also in its line buffer
 pub record Returned : Type 0 where
@@ -39,6 +41,9 @@ DidReturn state memory (reported p kind reason words notice line) y =
 DidReturn state memory (stored p a v) y =
     (a < extentAt (stateOf state) p) × Returns (machineStored p a v state memory) (y .result) (y .state) (y .memory) (y .buffer)
 DidReturn state memory (lineSent text line) y = Returns (callOn state memory (textLine text line)) (y .result) (y .state) (y .memory) (y .buffer)
+DidReturn state memory (packetSent door kind id words ack) y =
+    (door ≡ doorOf state) × Returns (packetOn state memory kind id words ack) (y .result) (y .state) (y .memory) (y .buffer)
+DidReturn state memory (ticked door) y = (door ≡ doorOf state) × Returns (callOn state memory (tick door)) (y .result) (y .state) (y .memory) (y .buffer)
 
 -- each on the bytes that the one before it left
 unfoldable pub DoneByLibrary : List ℕ → List ℕ → List LibraryCall → List Returned → Type 0
@@ -55,6 +60,8 @@ callOf (requested m reply) = request m reply
 callOf (reported p kind reason words notice line) = report p (kindOf kind reason) reason (vectorOf words) notice line
 callOf (stored p a v) = store p a v
 callOf (lineSent text line) = textLine text line
+callOf (packetSent door kind id words ack) = packet door (typeOf kind id) (id % 4294967296) words ack
+callOf (ticked door) = tick door
 
 -- the nine words of a report are 18 bytes; with others it is refused with 1, and no call of the rules
 unfoldable pub Whole : LibraryCall → Type 0
@@ -62,6 +69,8 @@ Whole (requested m reply) = Unit {0}
 Whole (reported p kind reason words notice line) = length words ≡ 18
 Whole (stored p a v) = Unit {0}
 Whole (lineSent text line) = Unit {0}
+Whole (packetSent door kind id words ack) = Unit {0}
+Whole (ticked door) = Unit {0}
 
 -- each of a list
 unfoldable pub AllWhole : List LibraryCall → Type 0
@@ -94,6 +103,8 @@ answerTold (reported p kind reason words notice line) y =
     record { outcome = noticeTold (y .result); buffer = y .buffer; lineLength = lineTold (y .result); line = y .line }
 answerTold (stored p a v) y = plainTold y
 answerTold (lineSent text line) y = plainTold y
+answerTold (packetSent door kind id words ack) y = plainTold y
+answerTold (ticked door) y = plainTold y
 
 -- a call with what it returned, and the state that the bytes after it stand for
 abbrev pub returnedItem : LibraryCall → Returned → TraceItem
@@ -118,6 +129,6 @@ pub record MadeByLibrary (state memory : List ℕ) (l : List Call) (es : List Tr
 
 -- calls of the library in a row are a run of the rules, from a fresh start of its own that returned 0, and the demands hold of them
 pub record LibraryDemands : Type 0 where
-  pub fresh : (there : ℕ) (sizes before state memory : List ℕ) (r : ℤ) → Starts (startWith there sizes before) r state → r ≡ pos 0
+  pub fresh : (there door : ℕ) (sizes before state memory : List ℕ) (r : ℤ) → Starts (startWith there sizes door before) r state → r ≡ pos 0
       → length memory ≡ capacity → Begins state memory
   pub lists : ListsOnBytes MadeByLibrary

@@ -1,23 +1,28 @@
 // The exported functions of the gateway's end. Numbers come in as wide as C has them, so that none is cut on the way.
 use crate::narrow::byte_of;
 use crate::narrow::kind_of;
+use crate::narrow::type_of;
 use crate::result::both_lengths;
 use crate::result::minus;
 use crate::result::signed;
 use gateway::fresh_start;
+use gateway::packet;
 use gateway::report;
 use gateway::request;
 use gateway::sizes_right;
 use gateway::text_line;
+use gateway::tick;
 use state_bytes::STATE_BYTES;
 use words::vector_of;
 ghost use mathlib.Core.Path.{_≡_};
-ghost use Prim.Native.Nat.{_≤_};
+ghost use mathlib.Core.List.{List, []};
+ghost use Prim.Native.Nat.{ℕ, _≤_};
 ghost use lib.ListN.{length};
 ghost use Rattle.lists.specs.Word.{vectorOf};
-ghost use Rattle.rules.specs.Step.{request, textLine};
+ghost use Rattle.rules.specs.Step.{request, textLine, tick};
+ghost use Rattle.state_bytes.specs.State.{doorOf};
 ghost use Rattle.gateway.specs.Called.{callOn};
-ghost use Rattle.c_api.specs.Called.{Returns, Reports, Starts, startWith, startNumber, reportOn, bitsOf};
+ghost use Rattle.c_api.specs.Called.{Returns, Reports, Starts, startWith, startNumber, reportOn, packetOn, bitsOf};
 
 fn bits(there: u64) -> [bool; 8]
     ensures { λ r. ⌜ r ≡ bitsOf there ⌝ }
@@ -67,10 +72,15 @@ fn start_refusal(there: u64, sizes: &[u16], state: &[u8]) -> u8
     }
 }
 
-// A fresh start with the processes whose bits are set, each with its size.
+// A fresh start with the processes whose bits are set, each with its size, and the process of the Pup door.
 #[no_mangle]
-pub extern "C" fn palustrode_fresh_start(there: u64, sizes: &[u16], state: &mut [u8]) -> i64
-    ensures { λ r. ⌜ Starts (startWith there (now (sizes .entry)) (now (state .entry))) r (now (state .exit)) ⌝ }
+pub extern "C" fn palustrode_fresh_start(
+    there: u64,
+    sizes: &[u16],
+    door: u64,
+    state: &mut [u8],
+) -> i64
+    ensures { λ r. ⌜ Starts (startWith there (now (sizes .entry)) door (now (state .entry))) r (now (state .exit)) ⌝ }
 {
     if sizes.len() != 8 {
         return minus(1);
@@ -78,7 +88,7 @@ pub extern "C" fn palustrode_fresh_start(there: u64, sizes: &[u16], state: &mut 
     if 256 <= there {
         return minus(start_refusal(there, sizes, state));
     }
-    let outcome = fresh_start(bits(there), eight(sizes), state);
+    let outcome = fresh_start(bits(there), eight(sizes), byte_of(door), state);
     signed(outcome)
 }
 
@@ -147,5 +157,37 @@ pub extern "C" fn palustrode_line(
     ensures { λ r. ⌜ Returns (callOn (now (state .entry)) (now (memory .entry)) (textLine (now (text .entry)) (now (line .entry)))) r (now (state .exit)) (now (memory .exit)) (now (line .exit)) ⌝ }
 {
     let outcome = text_line(state, memory, text, line);
+    signed(outcome)
+}
+
+// A packet of the Pup door: its type, its ID and its data words, and the buffer for those of its acknowledgement. Returns how many words that has.
+#[no_mangle]
+pub extern "C" fn palustrode_packet(
+    state: &mut [u8],
+    memory: &mut [u8],
+    kind: u64,
+    id: u64,
+    words: &[u16],
+    ack: &mut [u16],
+) -> i64
+    ensures { λ r. ⌜ Returns (packetOn (now (state .entry)) (now (memory .entry)) kind id (now (words .entry)) (now (ack .entry))) r (now (state .exit)) (now (memory .exit)) (now (ack .exit)) ⌝ }
+{
+    let outcome = packet(
+        state,
+        memory,
+        type_of(kind, id),
+        (id % 4294967296) as u32,
+        words,
+        ack,
+    );
+    signed(outcome)
+}
+
+// A tick of a tenth of a second, at the process of the Pup door.
+#[no_mangle]
+pub extern "C" fn palustrode_tick(state: &mut [u8]) -> i64
+    ensures { λ r. ⌜ ((memory : List ℕ) → Returns (callOn (now (state .entry)) memory (tick (doorOf (now (state .entry))))) r (now (state .exit)) memory []) ⌝ }
+{
+    let outcome = tick(state);
     signed(outcome)
 }

@@ -4,3 +4,4 @@ pub mod ListingLaws
 pub mod MeaningLaws
 pub mod TextLaws
 pub mod ShownLaws
+pub mod PacketLaws

@@ -121,13 +121,13 @@ module _ (o : Outcome) (s m buffer : List ℕ) (x : Called) (X : called o s m bu
 
 -- ---- a fresh start
 
-module _ (o : Outcome) (there : List Bool) (sizes s m s₁ : List ℕ) (X : started o s₁ ≡ startOn there sizes s) (number : ℕ) (N : number ≡ numberOf o) where
+module _ (o : Outcome) (there : List Bool) (sizes : List ℕ) (door : ℕ) (s m s₁ : List ℕ) (X : started o s₁ ≡ startOn there sizes door s) (number : ℕ) (N : number ≡ numberOf o) where
   pub start-refused : (number ≡ 0 → ⊥) → (len : ℕ) (before after : List ℕ) → Prints (numberLine number) len before after
-      → Does (startMade there sizes s m) len s₁ m before after
+      → Does (startMade there sizes door s m) len s₁ m before after
   unfolding startMade startAnswered
   start-refused ne len before after p = rw (← X, ← N, ne-eqb number 0 ne) (record { state = refl; memory = refl; text = p })
 
-  pub start-granted : number ≡ 0 → (m₁ before : List ℕ) → m₁ ≡ replicate (length m) 0 → Does (startMade there sizes s m) 0 s₁ m₁ before before
+  pub start-granted : number ≡ 0 → (m₁ before : List ℕ) → m₁ ≡ replicate (length m) 0 → Does (startMade there sizes door s m) 0 s₁ m₁ before before
   unfolding startMade startAnswered overlay
   start-granted z m₁ before M =
       rw (← X, ← N, eq-eqb number 0 z) (record { state = refl; memory = M; text = record { size = refl; fits = omega arith; laid = refl } })

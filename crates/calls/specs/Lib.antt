@@ -2,5 +2,6 @@
 pub mod Effect
 pub mod Words
 pub mod Listing
+pub mod Packet
 pub mod Shown
 pub mod Meaning

@@ -5,11 +5,12 @@ use Prim.Native.Nat.{ℕ, _+_}
 use lib.ListN.{length, take, drop, replicate}
 use lib.Dec.{eqb, leb}
 use Rattle.format.specs.declared.outcome.Outcome.{Outcome}
-use Rattle.format.specs.Outcome.{numberOf}
+use Rattle.format.specs.Outcome.{numberOf, lengthOf}
 use Rattle.state.specs.Records.{processAt, startOf}
 use Rattle.state.specs.Layout.{capacity, extentAt, slot}
-use Rattle.rules.specs.Step.{request, report, textLine}
-use Rattle.state_bytes.specs.State.{stateOf}
+use Rattle.packets.specs.Ack.{ackWords}
+use Rattle.rules.specs.Step.{request, report, textLine, packet, tick}
+use Rattle.state_bytes.specs.State.{stateOf, doorOf}
 use Rattle.gateway.specs.Called.{Called, StartResult, callOn, machineStored, startOn}
 use Rattle.gateway.specs.Lengths.{replyLength, noticeLength, lineLength}
 use Rattle.lines.specs.declared.scan.Phase.{Phase}
@@ -25,6 +26,7 @@ use Rattle.calls.specs.declared.text.Shown.{Shown}
 use Rattle.calls.specs.declared.text.Shown.the-variants.{Recorded}
 use Rattle.calls.specs.Listing.{empty, listed, complete}
 use Rattle.calls.specs.Words.{processIn, kindIn, reasonIn, wordsOf, reportIn}
+use Rattle.calls.specs.Packet.{typeIn, idIn, wordsIn, packetIn, acknowledged, silentLine, packetShown}
 use Rattle.calls.specs.Shown.{textShown, reportShown}
 use Rattle.calls.specs.Effect.{Effect, effect, messageSize, lineSize}
 use Rattle.process.specs.Sizes.{memoryBytes}
@@ -99,18 +101,48 @@ unfoldable pub startAnswered : StartResult → List ℕ → Effect
 startAnswered x m =
     cond (eqb (numberOf (x .outcome)) 0) (effect (x .state) (replicate (length m) 0) []) (effect (x .state) m (numberLine (numberOf (x .outcome))))
 
--- the fresh start with these processes and sizes
-unfoldable pub startMade : List Bool → List ℕ → List ℕ → List ℕ → Effect
-startMade there sizes s m = startAnswered (startOn there sizes s) m
+-- the fresh start with these processes and sizes, and this process of the Pup door
+unfoldable pub startMade : List Bool → List ℕ → ℕ → List ℕ → List ℕ → Effect
+startMade there sizes door s m = startAnswered (startOn there sizes door s) m
 
--- the processes and sizes that a line lists after the word `start`
+-- the processes, sizes and process of the Pup door that a line lists after the word `start`
 abbrev pub startListing : List ℕ → Listing
 startListing line = listed empty (drop 5 line)
 
--- start P:SIZE P ..: a fresh start of the processes that are listed
+-- start P:SIZE P .. pup P: a fresh start of the processes that are listed
 unfoldable pub startEffect : List ℕ → List ℕ → List ℕ → Effect
 startEffect line s m =
-    ifRight (complete (startListing line .place)) (startMade (startListing line .there) (startListing line .sizes) s m) s m
+    ifRight (complete (startListing line .place)) (startMade (startListing line .there) (startListing line .sizes) (startListing line .door) s m) s m
+
+-- the buffer that is lent to each call for an acknowledgement: 35 words, all zero
+unfoldable pub zeroAck : List ℕ
+zeroAck = replicate ackWords 0
+
+-- a packet prints its number, and its acknowledgement or a dash
+unfoldable pub packetAnswered : ℕ → ℕ → Called → Effect
+packetAnswered kind id x =
+    effect (x .state) (x .memory)
+    (packetShown (acknowledged kind (numberOf (x .outcome))) (numberOf (x .outcome)) id (take (lengthOf (x .outcome)) (x .buffer)))
+
+-- the call that hands over a packet: it goes to the process of the Pup door
+unfoldable pub packetMade : ℕ → ℕ → List ℕ → List ℕ → List ℕ → Effect
+packetMade kind id words s m = packetAnswered kind id (callOn s m (packet (doorOf s) kind id words zeroAck))
+
+-- packet TYPE ID W ..
+unfoldable pub packetEffect : List ℕ → List ℕ → List ℕ → Effect
+packetEffect line s m = ifRight (packetIn line) (packetMade (typeIn line .value) (idIn line .value) (wordsIn line) s m) s m
+
+-- a tick prints its number and a dash
+unfoldable pub tickAnswered : Called → Effect
+tickAnswered x = effect (x .state) (x .memory) (silentLine (numberOf (x .outcome)))
+
+-- the call that tells of a tenth of a second: it goes to the process of the Pup door
+unfoldable pub tickMade : List ℕ → List ℕ → Effect
+tickMade s m = tickAnswered (callOn s m (tick (doorOf s)))
+
+-- tick: the word alone
+unfoldable pub tickEffect : List ℕ → List ℕ → List ℕ → Effect
+tickEffect line s m = ifRight (eqb (length line) 4) (tickMade s m) s m
 
 -- the line ends after this number, and the bytes that it names end at this address, at most here
 unfoldable pub endsWithin : List ℕ → Number → ℕ → ℕ → Bool

@@ -25,12 +25,14 @@ use lines::at_most;
 use lines::put;
 use state_bytes::read_extent_at;
 ghost use mathlib.Core.Path.{_≡_};
+ghost use mathlib.Core.List.{_++_};
 ghost use Prim.Native.Nat.{_+_, _*_, _≤_, _<_};
 ghost use lib.ListN.{length, set, replicate};
 ghost use Rattle.lines.specs.declared.scan.Phase.the-variants.{Open};
 ghost use Rattle.lines.specs.Scan.{bytesOf};
+ghost use Rattle.decimal.specs.Numeral.{numeral};
 ghost use Rattle.calls.specs.Effect.{longestText, Prints, Does};
-ghost use Rattle.calls.specs.Meaning.{zeroBuffer, requestMade, requestEffect, reportMade, reportEffect, numberLine, startMade, startEffect, storeEffect};
+ghost use Rattle.calls.specs.Meaning.{zeroBuffer, requestMade, requestEffect, reportMade, reportEffect, startMade, startEffect, storeEffect};
 
 // The buffer that is lent to a call for a reply or a notice.
 fn zero_buffer() -> [u8; MESSAGE]
@@ -147,13 +149,13 @@ fn clear(memory: &mut [u8])
     }
 }
 
-// The number of a refused start, as a line.
-fn put_refused(number: u8, out: &mut [u8]) -> usize
-    requires { ⌜ longestText ≤ length (now out) ⌝ }
-    ensures { λ r. ⌜ Prints (numberLine number) r (now (out .entry)) (now (out .exit)) ⌝ }
+// The number of a call, and what follows it.
+pub(crate) fn put_numbered(number: u8, rest: &[u8], out: &mut [u8]) -> usize
+    requires { ⌜ 5 + length (now rest) ≤ length (now out) ⌝ }
+    ensures { λ r. ⌜ Prints (numeral number ++ now (rest .entry)) r (now (out .entry)) (now (out .exit)) ⌝ }
 {
     let at = put_number(number as u16, 0, out);
-    put(b"\n", at, out)
+    put(rest, at, out)
 }
 
 // Makes a fresh start, and puts the line of a refused one.
@@ -162,20 +164,21 @@ fn make_start(
     memory: &mut [u8; MEMORY],
     there: [bool; 8],
     sizes: [u16; 8],
+    door: u8,
     out: &mut [u8],
 ) -> usize
     requires { ⌜ longestText ≤ length (now out) ⌝ }
-    ensures { λ r. ⌜ Does (startMade there sizes (now (state .entry)) (now (memory .entry))) r (now (state .exit)) (now (memory .exit)) (now (out .entry)) (now (out .exit)) ⌝ }
+    ensures { λ r. ⌜ Does (startMade there sizes door (now (state .entry)) (now (memory .entry))) r (now (state .exit)) (now (memory .exit)) (now (out .entry)) (now (out .exit)) ⌝ }
 {
-    let number = fresh_start(there, sizes, state).number();
+    let number = fresh_start(there, sizes, door, state).number();
     if number != 0 {
-        return put_refused(number, out);
+        return put_numbered(number, b"\n", out);
     }
     clear(memory);
     0
 }
 
-// start P:SIZE P ..
+// start P:SIZE P .. pup P
 pub fn answer_start(
     state: &mut [u8; STATE],
     memory: &mut [u8; MEMORY],
@@ -192,7 +195,7 @@ pub fn answer_start(
     if !listing.is_complete() {
         return answer_unknown(state, memory, out);
     }
-    make_start(state, memory, there, sizes, out)
+    make_start(state, memory, there, sizes, listing.door, out)
 }
 
 // Stores a byte at an index, if memory reaches so far.

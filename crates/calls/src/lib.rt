@@ -3,8 +3,10 @@
 mod call;
 mod listing;
 mod number;
+mod packet;
 mod show;
 mod text;
+mod tick;
 
 pub use call::answer_report;
 pub use call::answer_request;
@@ -12,6 +14,8 @@ pub use call::answer_start;
 pub use call::answer_store;
 use fields::LINE_BYTES;
 use format::MESSAGE_BYTES;
+pub use listing::NO_DOOR;
+pub use packet::answer_packet;
 pub use show::answer_memory;
 pub use show::answer_process;
 pub use show::answer_unknown;
@@ -21,6 +25,7 @@ use state_bytes::STATE_BYTES;
 pub use text::Shown;
 pub use text::answer_raw;
 pub use text::answer_text;
+pub use tick::answer_tick;
 
 // The bytes of a state.
 pub const STATE: usize = STATE_BYTES;

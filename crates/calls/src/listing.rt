@@ -1,15 +1,21 @@
-// The processes that a start lists, each a digit after a single blank, and a colon and a size after it, or none.
+// The processes that a start lists, each a digit after a single blank, and a colon and a size after it, or none; and after them the process
+// of the Pup door.
 use process::MEMORY_BYTES;
 ghost use mathlib.Core.Path.{_≡_};
 ghost use mathlib.Core.Bool.{true};
 ghost use Prim.Native.Nat.{_+_, _-_, _*_, _<_};
-ghost use Rattle.calls.specs.Listing.{isDigit, goesOn, at, named, sized, sizeOf, endsItem, empty, nextIn, nextListing, listed, complete};
+ghost use Rattle.calls.specs.Listing.{isDigit, goesOn, at, named, sized, sizeOf, doored, only, empty, nextIn, nextListing, listed, complete};
+
+// No size is greater, whether a process may have it or not.
+const MOST_SIZE: u16 = 65535;
+// No process of the Pup door is greater, and this one is none.
+pub const NO_DOOR: u8 = 255;
 
 // Where in the line the reading stands.
 pub enum Place {
     // After the word: a blank may follow.
     Behind,
-    // After a blank: a process has to follow.
+    // After a blank: a process or the word `pup` has to follow.
     Before,
     // After a process: a colon or a blank may follow.
     Named,
@@ -17,16 +23,27 @@ pub enum Place {
     Colon,
     // After a digit of a size: another or a blank may follow.
     Sized,
+    // After the first letter of the word `pup`: the others have to follow.
+    P,
+    // After the second letter of the word `pup`: the third has to follow.
+    Pu,
+    // After the word `pup`: a blank has to follow.
+    Pup,
+    // After the word `pup` and its blank: the process of the Pup door has to follow.
+    AtDoor,
+    // After a digit of the process of the Pup door: another may follow, and nothing else.
+    Door,
     // The line is no start.
     Wrong,
 }
 
-// Where the reading after the word stands, which process was named last, which were listed, and the size of each.
+// Where the reading after the word stands, which process was named last, which were listed, the size of each, and the process of the Pup door.
 pub struct Listing {
     pub place: Place,
     pub process: usize,
     pub there: [bool; 8],
     pub sizes: [u16; 8],
+    pub door: u8,
 }
 
 // Whether a character is a digit, and not after this last one.
@@ -36,17 +53,17 @@ fn is_digit(last: u8, c: u8) -> bool
     48 <= c && c <= last
 }
 
-// Whether a size goes on with this digit.
-fn goes_on(size: u16, c: u8) -> bool
-    ensures { λ r. ⌜ r ≡ goesOn size c ⌝ }
+// Whether a number of at most so much goes on with this digit.
+fn goes_on(most: u16, n: u16, c: u8) -> bool
+    ensures { λ r. ⌜ r ≡ goesOn most n c ⌝ }
 {
-    if size == 0 {
+    if n == 0 {
         return false;
     }
     if !is_digit(57, c) {
         return false;
     }
-    10 * (size as usize) + ((c - 48) as usize) <= 65535
+    10 * (n as usize) + ((c - 48) as usize) <= most as usize
 }
 
 impl Listing {
@@ -60,6 +77,7 @@ impl Listing {
             process: 0,
             there: [false; 8],
             sizes: [MEMORY_BYTES as u16; 8],
+            door: NO_DOOR,
         }
     }
 
@@ -74,6 +92,7 @@ impl Listing {
             process: self.process,
             there: there,
             sizes: sizes,
+            door: self.door,
         }
     }
 
@@ -92,6 +111,7 @@ impl Listing {
             process: p,
             there: there,
             sizes: sizes,
+            door: self.door,
         }
     }
 
@@ -110,15 +130,32 @@ impl Listing {
             process: p,
             there: there,
             sizes: sizes,
+            door: self.door,
         }
     }
 
-    // A blank may follow.
-    fn ends_item(self, c: u8) -> Listing
-        ensures { λ r. ⌜ r ≡ endsItem c self ⌝ }
+    // This is the process of the Pup door so far.
+    fn doored(self, door: u8) -> Listing
+        ensures { λ r. ⌜ r ≡ doored door self ⌝ }
     {
-        if c == 32 {
-            return self.at(Place::Before);
+        let place = Place::Door;
+        let there = self.there;
+        let sizes = self.sizes;
+        Listing {
+            place: place,
+            process: self.process,
+            there: there,
+            sizes: sizes,
+            door: door,
+        }
+    }
+
+    // This one character may follow, and nothing else.
+    fn only(self, mark: u8, place: Place, c: u8) -> Listing
+        ensures { λ r. ⌜ r ≡ only mark place c self ⌝ }
+    {
+        if c == mark {
+            return self.at(place);
         }
         self.at(Place::Wrong)
     }
@@ -130,7 +167,7 @@ impl Listing {
         if is_digit(55, c) {
             return self.named((c - 48) as usize);
         }
-        self.at(Place::Wrong)
+        self.only(b'p', Place::P, c)
     }
 
     // After a process.
@@ -140,7 +177,7 @@ impl Listing {
         if c == 58 {
             return self.at(Place::Colon);
         }
-        self.ends_item(c)
+        self.only(32, Place::Before, c)
     }
 
     // After a colon.
@@ -162,10 +199,31 @@ impl Listing {
         let sizes = self.sizes;
         let p = self.process;
         let size = sizes[p];
-        if goes_on(size, c) {
+        if goes_on(MOST_SIZE, size, c) {
             return self.sized(10 * size + ((c - 48) as u16));
         }
-        self.ends_item(c)
+        self.only(32, Place::Before, c)
+    }
+
+    // After the word `pup` and its blank.
+    fn after_pup(self, c: u8) -> Listing
+        ensures { λ r. ⌜ r ≡ nextIn Place.AtDoor c self ⌝ }
+    {
+        if is_digit(57, c) {
+            return self.doored(c - 48);
+        }
+        self.at(Place::Wrong)
+    }
+
+    // After a digit of the process of the Pup door.
+    fn after_door(self, c: u8) -> Listing
+        ensures { λ r. ⌜ r ≡ nextIn Place.Door c self ⌝ }
+    {
+        let door = self.door;
+        if goes_on(NO_DOOR as u16, door as u16, c) {
+            return self.doored(10 * door + (c - 48));
+        }
+        self.at(Place::Wrong)
     }
 
     // One character more.
@@ -176,11 +234,16 @@ impl Listing {
     {
         let place = self.place;
         match place {
-            Place::Behind => self.ends_item(c),
+            Place::Behind => self.only(32, Place::Before, c),
             Place::Before => self.after_blank(c),
             Place::Named => self.after_process(c),
             Place::Colon => self.after_colon(c),
             Place::Sized => self.after_digit(c),
+            Place::P => self.only(b'u', Place::Pu, c),
+            Place::Pu => self.only(b'p', Place::Pup, c),
+            Place::Pup => self.only(32, Place::AtDoor, c),
+            Place::AtDoor => self.after_pup(c),
+            Place::Door => self.after_door(c),
             Place::Wrong => self,
         }
     }
@@ -210,6 +273,11 @@ impl Listing {
             Place::Named => true,
             Place::Colon => false,
             Place::Sized => true,
+            Place::P => false,
+            Place::Pu => false,
+            Place::Pup => false,
+            Place::AtDoor => false,
+            Place::Door => true,
             Place::Wrong => false,
         }
     }

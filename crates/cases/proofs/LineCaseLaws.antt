@@ -41,7 +41,7 @@ use Rattle.rules.specs.Rule.{public, insider, ruleOf, names}
 use Rattle.rules.specs.Window.{putInPlace}
 use Rattle.rules.specs.Run.{run}
 use Rattle.rules.specs.TextRule.{wordOf, wordBytes, wordAt, wordRange, pcRange, textRuleOf, failure, statusOf, owedLine}
-use Rattle.session.specs.Session.{owedSound, watcherSound, sessionSound}
+use Rattle.session.specs.Session.{owedSound, watcherSound, goSound, sessionSound}
 use Rattle.rules.specs.Step.{put, grantedNamed, granted, requestStep, noticeTo, notified, reportStep, textStep, step}
 use Rattle.rules.specs.Tests.{askedTests, requestNumber, reportNumber, textNumber}
 use Rattle.cases.specs.Case.{Seen, outcomes, answer, answerLine, noticedBeside}
@@ -135,7 +135,7 @@ record Computed : Type 0 where
   owed : outcomes owedCase ≡ owedSeen (about 100 failedFlag 16) (about 99 0 1407) (about 100 0 13330)
 
 computed : Computed
-unfolding overlay lowFirst noticeOf written headerOf stringOf fixedRight firstFailing fieldsRight carriedLength wrongLength wrongHeader misfits rowOf requestForm matches find replanted fresh accepts goesOn storeVectorAndReplant passes noticeHost verdictOf recipientOf answerOf owedLine runAfter reported hasBreak examined deposited cleared restored seen savedFrom sheltered overlaySavedByte overlaySavedWord validBreakAddress absentHasNoHost liftSound setterSound usedSound entrySound soundTest validSize countUsed keepsRules owedSound watcherSound sessionSound freshProcess freshProcesses freshStarts freshStart total used usedBefore startIsUnique placed laidOut recordsSound soundState slot withSlot public insider ruleOf names run putInPlace put grantedNamed granted requestStep noticeTo notified reportStep step askedTests requestNumber reportNumber textNumber textStep wordOf wordBytes wordAt wordRange pcRange textRuleOf failure statusOf separates headAfter headOf endsAt lineAfter lineFrom lineOf known hexValue digitsOf valueFrom plain digitsAt numberAt numberAfter broughtToStop stopped vectorFrom wentOn continued
+unfolding overlay lowFirst noticeOf written headerOf stringOf fixedRight firstFailing fieldsRight carriedLength wrongLength wrongHeader misfits rowOf requestForm matches find replanted fresh accepts goesOn storeVectorAndReplant passes noticeHost verdictOf recipientOf answerOf owedLine runAfter reported hasBreak examined deposited cleared restored seen savedFrom sheltered overlaySavedByte overlaySavedWord validBreakAddress absentHasNoHost liftSound setterSound usedSound entrySound soundTest validSize countUsed keepsRules owedSound watcherSound goSound sessionSound freshProcess freshProcesses freshStarts freshStart total used usedBefore startIsUnique placed laidOut recordsSound soundState slot withSlot public insider ruleOf names run putInPlace put grantedNamed granted requestStep noticeTo notified reportStep step askedTests requestNumber reportNumber textNumber textStep wordOf wordBytes wordAt wordRange pcRange textRuleOf failure statusOf separates headAfter headOf endsAt lineAfter lineFrom lineOf known hexValue digitsOf valueFrom plain digitsAt numberAt numberAfter broughtToStop stopped vectorFrom wentOn continued
 computed = record { lines = refl; owed = refl }
 
 line-holds : outcomes lineCase ≡ lineCase .seen

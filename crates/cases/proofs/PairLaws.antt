@@ -37,7 +37,7 @@ use Rattle.rules.specs.Rule.{public, ruleOf, names, sizeAsked}
 use Rattle.rules.specs.Window.{putInPlace, putLast, takenOut}
 use Rattle.rules.specs.Run.{run}
 use Rattle.rules.specs.TextRule.{owedLine}
-use Rattle.session.specs.Session.{owedSound, watcherSound, sessionSound}
+use Rattle.session.specs.Session.{owedSound, watcherSound, goSound, sessionSound}
 use Rattle.rules.specs.Step.{put, grantedNamed, grantedCreate, granted, refused, requestStep, noticeTo, notified, reportStep, step}
 use Rattle.rules.specs.Tests.{askedTests, requestNumber, reportNumber}
 use Rattle.rules.specs.Tests.{State}
@@ -71,7 +71,7 @@ each F a b c d e f g h (suc (suc (suc (suc (suc (suc (suc zero))))))) l = h
 each F a b c d e f g h (suc (suc (suc (suc (suc (suc (suc (suc p)))))))) l = absurd (omega arith)
 
 pub premises-met : PremisesMet
-unfolding namesOne asker subject event passedOver isOne struck withoutData strike fieldsOf insider isGranted publicThen toldOf Never stored heard part sentTo noticed lineSent lengthOf overlay lowFirst cantOf createdOf noticeOf written headerOf stringOf fixedRight numberOf firstFailing fieldsRight carriedLength wrongLength wrongHeader misfits rowOf requestForm matches find plantedIn liftedIn removedFrom replanted liftedAt fresh accepts goesOn storeVectorAndReplant passes noticeHost verdictOf recipientOf answerOf owedLine passed runAfter reported hasBreak hasRoom countSetBy isSetBy mayHaveMore hasRoomFor isHis examined deposited vectorAfter breakSet breakRemoved created cleared restored seen savedFrom sheltered overlaySavedByte overlaySavedWord validBreakAddress absentHasNoHost liftSound setterSound usedSound entrySound soundTest validSize countUsed keepsRules owedSound watcherSound sessionSound freshProcess freshProcesses freshStarts freshStart total used usedBefore startIsUnique placed laidOut recordsSound soundState slot withSlot closed startWithout startsWithout public ruleOf names sizeAsked run putInPlace putLast takenOut put grantedNamed grantedCreate granted refused requestStep noticeTo notified reportStep step lowestAbsent askedTests requestNumber reportNumber
+unfolding namesOne asker subject event passedOver isOne struck withoutData strike fieldsOf insider isGranted publicThen toldOf Never stored heard part sentTo noticed lineSent lengthOf overlay lowFirst cantOf createdOf noticeOf written headerOf stringOf fixedRight numberOf firstFailing fieldsRight carriedLength wrongLength wrongHeader misfits rowOf requestForm matches find plantedIn liftedIn removedFrom replanted liftedAt fresh accepts goesOn storeVectorAndReplant passes noticeHost verdictOf recipientOf answerOf owedLine passed runAfter reported hasBreak hasRoom countSetBy isSetBy mayHaveMore hasRoomFor isHis examined deposited vectorAfter breakSet breakRemoved created cleared restored seen savedFrom sheltered overlaySavedByte overlaySavedWord validBreakAddress absentHasNoHost liftSound setterSound usedSound entrySound soundTest validSize countUsed keepsRules owedSound watcherSound goSound sessionSound freshProcess freshProcesses freshStarts freshStart total used usedBefore startIsUnique placed laidOut recordsSound soundState slot withSlot closed startWithout startsWithout public ruleOf names sizeAsked run putInPlace putLast takenOut put grantedNamed grantedCreate granted refused requestStep noticeTo notified reportStep step lowestAbsent askedTests requestNumber reportNumber
 premises-met = record {
   one-ready = record { memory = refl; processes = refl; starts = refl; entries = eight one refl; sound = refl };
   other-ready = record { memory = refl; processes = refl; starts = refl; entries = eight other refl; sound = refl };

@@ -250,6 +250,14 @@ five-digits =
     (more-digits 2 100 (omega arith)
     (more-digits 1 10 (omega arith) (λ n h. omega (arith, ap (λ (l : List ℕ). length l) (numeral-small n h))))))
 
+pub ten-digits : (n : ℕ) → n < 10000000000 → length (numeral n) ≤ 10
+ten-digits =
+    more-digits 9 1000000000 (omega arith)
+    (more-digits 8 100000000 (omega arith)
+    (more-digits 7 10000000 (omega arith)
+    (more-digits 6 1000000 (omega arith)
+    (more-digits 5 100000 (omega arith) five-digits))))
+
 pub length-field : (mark n : ℕ) → n < 65536 → length (field mark n) ≤ 6
 unfolding field
 length-field mark n h = omega (arith, five-digits n (omega (arith, h)))

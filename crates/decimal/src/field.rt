@@ -6,15 +6,32 @@ ghost use lib.ListN.{length};
 ghost use Rattle.lines.specs.Scan.{Put};
 ghost use Rattle.decimal.specs.Numeral.{numeral, field};
 
+// The numeral of a number from an index on, where there is room for it; the index after it.
+fn put_numeral(n: u64, at: usize, out: &mut [u8]) -> usize
+    requires { ⌜ at + length (numeral n) ≤ length (now out) ⌝ }
+    ensures { λ r. ⌜ Put at (numeral n) (now (out .entry)) r (now (out .exit)) ⌝ }
+{
+    let mut text = [0u8; 20];
+    let k = io::decimal(n, &mut text);
+    put(&text[..k], at, out)
+}
+
 // A number from an index on; the index after it.
 pub fn put_number(n: u16, at: usize, out: &mut [u8]) -> usize
     requires { ⌜ at + 5 ≤ length (now out) ⌝ }
     ensures { λ r. ⌜ Put at (numeral n) (now (out .entry)) r (now (out .exit)) ⌝ }
     ensures { λ r. ⌜ r ≤ at + 5 ⌝ }
 {
-    let mut text = [0u8; 20];
-    let k = io::decimal(n as u64, &mut text);
-    put(&text[..k], at, out)
+    put_numeral(n as u64, at, out)
+}
+
+// A number of 32 bits from an index on; the index after it.
+pub fn put_long(long: u32, at: usize, out: &mut [u8]) -> usize
+    requires { ⌜ at + 10 ≤ length (now out) ⌝ }
+    ensures { λ r. ⌜ Put at (numeral long) (now (out .entry)) r (now (out .exit)) ⌝ }
+    ensures { λ r. ⌜ r ≤ at + 10 ⌝ }
+{
+    put_numeral(long as u64, at, out)
 }
 
 // A mark and a number, from an index on; the index after them.

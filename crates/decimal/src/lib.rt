@@ -5,5 +5,6 @@ mod number;
 pub mod theorems;
 
 pub use field::put_field;
+pub use field::put_long;
 pub use field::put_number;
 pub use number::Number;

@@ -79,7 +79,7 @@ impl Number {
 
     // The digits from an index on, as a number of at most so much.
     fn digits(line: &[u8], at: usize, most: usize) -> Number
-        requires { ⌜ most ≤ 65535 ⌝ }
+        requires { ⌜ most ≤ 4294967295 ⌝ }
         requires { ⌜ at ≤ length (now line) ⌝ }
         ensures { λ r. ⌜ r ≡ numberAt most (now (line .entry)) at ⌝ }
     {
@@ -101,7 +101,7 @@ impl Number {
 
     // The next number: a blank and digits.
     pub fn then(self, line: &[u8], most: usize) -> Number
-        requires { ⌜ most ≤ 65535 ⌝ }
+        requires { ⌜ most ≤ 4294967295 ⌝ }
         ensures { λ r. ⌜ r ≡ behind most (now (line .entry)) self ⌝ }
         ensures { λ r. ⌜ r .value ≤ most ⌝ }
     {

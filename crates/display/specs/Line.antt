@@ -10,6 +10,7 @@ use Rattle.breakpoints.specs.declared.entry.Breakpoint.{Breakpoint}
 use Rattle.process.specs.declared.record.Process.{Process}
 use Rattle.run_state.specs.RunState.{runNumber}
 use Rattle.session.specs.declared.Owed.{Owed}
+use Rattle.session.specs.declared.Go.{Go}
 use Rattle.session.specs.Session.{owedLetter, owes}
 use Rattle.decimal.specs.Numeral.{numeral, field}
 use Rattle.breakpoints.specs.Entry.{inUse}
@@ -48,6 +49,10 @@ setName = 32 ∷ 115 ∷ 101 ∷ 116 ∷ []
 abbrev pub owedName : List ℕ
 owedName = 32 ∷ 111 ∷ 119 ∷ 101 ∷ 100 ∷ 32 ∷ []
 
+-- ' go '
+abbrev pub goName : List ℕ
+goName = 32 ∷ 103 ∷ 111 ∷ 32 ∷ []
+
 -- ' begin'
 abbrev pub beginName : List ℕ
 beginName = 32 ∷ 98 ∷ 101 ∷ 103 ∷ 105 ∷ 110 ∷ []
@@ -60,17 +65,30 @@ owedShown o = cond (owes o) (owedLetter o) 45
 unfoldable pub owedText : Owed → List ℕ
 owedText o = owedName ++ (owedShown o ∷ [])
 
+-- ID and ticks of a Go, parted by a colon
+unfoldable pub waitingText : Go → List ℕ
+waitingText g = numeral (g .id) ++ field 58 (g .ticks)
+
+-- '`-` where none waits, or ID:TICKS' (K1)
+unfoldable pub goShown : Go → List ℕ
+goShown g = cond (g .waits) (waitingText g) (45 ∷ [])
+
+-- the Go after its name
+unfoldable pub goText : Go → List ℕ
+goText g = goName ++ goShown g
+
 -- 'where its bytes begin; 0 where it is absent'
 abbrev pub beginShown : Bool → ℕ → ℕ
 beginShown there start = cond there start 0
 
--- then the nine words, the eight entries, the size, the watcher, the number of breakpoints and the owed answer
+-- then the nine words, the eight entries, the size, the watcher, the number of breakpoints, the owed answer and the Go
 unfoldable pub recordText : Process → List ℕ
 recordText p =
-    (((((headText (p .there) (p .host) (p .run) ++ joined wordText (p .vector)) ++ joined entryText (p .breaks)) ++ named sizeName (p .size))
+    ((((((headText (p .there) (p .host) (p .run) ++ joined wordText (p .vector)) ++ joined entryText (p .breaks)) ++ named sizeName (p .size))
     ++ named watcherName (p .session .watcher))
     ++ named setName (p .number))
-    ++ owedText (p .session .owed)
+    ++ owedText (p .session .owed))
+    ++ goText (p .session .go)
 
 -- the record of a process, then where its bytes begin, as a line with its newline
 unfoldable pub processLine : Process → ℕ → List ℕ

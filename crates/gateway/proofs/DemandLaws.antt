@@ -8,9 +8,9 @@ use Rattle.format.specs.declared.outcome.Outcome.{Outcome}
 use Rattle.format.specs.declared.outcome.Outcome.the-variants.{Granted, Refused}
 use Rattle.format.specs.Outcome.{numberOf}
 use Rattle.format.proofs.OutcomeLaws.{numberOf-outcome, outcome-other}
-use Rattle.rules.specs.Tests.{State, noRoom, noReportRoom, noLineRoom}
+use Rattle.rules.specs.Tests.{State, noRoom, noReportRoom, noLineRoom, noAckRoom}
 use Rattle.rules.specs.Window.{Buffers}
-use Rattle.rules.specs.Step.{Call, request, report, store, textLine, step, localOf}
+use Rattle.rules.specs.Step.{Call, request, report, store, textLine, packet, tick, step, localOf}
 use Rattle.rules.specs.Turn.{single, buffersOf}
 use Rattle.rules.specs.Run.{TraceItem, run, leave}
 use Rattle.rules.specs.Total.{oneOf, numbersOf}
@@ -28,13 +28,14 @@ use Rattle.rules.proofs.LoopLaws.{loops}
 use Rattle.rules.proofs.OwedLaws.{owed-answers}
 use Rattle.rules.proofs.BreakLifeLaws.{watching}
 use Rattle.rules.proofs.StatusLaws.{how-many-set}
+use Rattle.rules.proofs.WaitingLaws.{waiting}
 use Rattle.state_bytes.specs.State.{stateFormed, stateSound}
 use Rattle.gateway.specs.Called.{Called, reportCalled, finished, badlyLent, lentOn, refusedBy, callOn, machineStored, Did}
 use Rattle.gateway.specs.Sequence.{Begins, Made, readFrom}
 use Rattle.gateway.specs.Demands.{TotalOnBytes, ListsOnBytes, Demands}
-use Rattle.gateway.proofs.LentLaws.{request-unfit, report-unfit, line-unfit}
+use Rattle.gateway.proofs.LentLaws.{request-unfit, report-unfit, line-unfit, packet-unfit, tick-unfit}
 use Rattle.gateway.proofs.ReportLaws.{both}
-use Rattle.gateway.proofs.SequenceLaws.{did-begins, done-run, fresh-begins, passed-begins, passed-line-begins}
+use Rattle.gateway.proofs.SequenceLaws.{did-begins, did-door, done-run, fresh-begins, fresh-door, passed-begins, passed-line-begins, passed-packet-begins}
 
 -- ---- demand 1 on any bytes
 
@@ -80,15 +81,35 @@ module _ (state memory : List ℕ) (c : Call) where
       go true f = rw f formed
       go false f = rw f (unformed state memory (badlyLent memory c) (buffersOf c) (numbersOf c) one two f)
 
+-- a tick is lent nothing that could be too short
+tick-answered : (state memory : List ℕ) (door : ℕ) (x : Called) → x ≡ callOn state memory (tick door) → Answered state memory (numbersOf (tick door)) x
+unfolding callOn badlyLent lentOn stateSound numbersOf numberOf
+tick-answered state memory door x e = rw e (go (stateFormed state) refl)
+  where
+    go : (t : Bool) → stateFormed state ≡ t → Answered state memory (numbersOf (tick door)) (callOn state memory (tick door))
+    go true f = rw f (formed state memory (tick door))
+    go false f = rw f (record { listed = refl; refused = λ n. (refl, refl) })
+
 answered : (state memory : List ℕ) (c : Call) (x : Called) → Did state memory c x → Answered state memory (numbersOf c) x
 unfolding Did numbersOf machineStored numberOf
 answered state memory (request m buffer) x d = call-answered state memory (request m buffer) refl refl x d
 answered state memory (report p kind reason words buffer line) x d = call-answered state memory (report p kind reason words buffer line) refl refl x d
 answered state memory (store p a v) x d = rw (d .1) (record { listed = refl; refused = λ n. absurd (n refl) })
 answered state memory (textLine text buffer) x d = call-answered state memory (textLine text buffer) refl refl x d
+answered state memory (packet door kind id words buffer) x d = call-answered state memory (packet door kind id words buffer) refl refl x (d .1)
+answered state memory (tick door) x d = tick-answered state memory door x (d .1)
 
 refused-by : (state memory : List ℕ) (b : Buffers) (n : ℕ) → (n ≡ 0 → ⊥) → reportCalled (Refused n) 0 state memory (b .own) (b .line) ≡ refusedBy n state memory b
 refused-by state memory b n z = ap (λ (o : Outcome). reportCalled o 0 state memory (b .own) (b .line)) (outcome-other n 0 z)
+
+-- what is lent to a tick is never too short
+tick-number : (state : List ℕ) → (lentOn state false ≡ 0 → ⊥) → lentOn state false ≡ 2
+unfolding lentOn
+tick-number state n = go (stateSound state) n
+  where
+    go : (t : Bool) → (_≡_ {A = ℕ} (cond t 0 2) 0 → ⊥) → _≡_ {A = ℕ} (cond t 0 2) 2
+    go true z = absurd (z refl)
+    go false z = refl
 
 total-on-bytes : TotalOnBytes
 unfolding Did buffersOf
@@ -104,6 +125,13 @@ total-on-bytes = record {
   unfit-line = λ state memory text buffer x d n.
       let k = lentOn state (noLineRoom memory buffer) in
       d ∙ sym (line-unfit state memory text buffer k refl n) ∙ refused-by state memory (single buffer) k n;
+  unfit-packet = λ state memory door kind id words buffer x d n.
+      let k = lentOn state (noAckRoom memory buffer) in
+      d .1 ∙ sym (packet-unfit state memory door kind id words buffer k refl n) ∙ refused-by state memory (single buffer) k n;
+  unfit-tick = λ state memory door x d n.
+      let k = lentOn state false in
+      d .1 ∙ sym (tick-unfit state memory door k refl n) ∙ refused-by state memory (single []) k n
+      ∙ ap (λ (number : ℕ). refusedBy number state memory (single [])) (tick-number state n);
 }
 
 -- ---- lists
@@ -154,7 +182,14 @@ made-runs state memory b l es m = m .trace ∙ done-run state memory b l (m .typ
 
 pub demands : Demands
 demands = record {
-  starts = record { fresh = λ there sizes state memory long right. fresh-begins there sizes long right state memory; passed = passed-begins; passed-line = passed-line-begins; after = did-begins };
+  starts = record {
+    fresh = λ there sizes door state memory long right. fresh-begins there sizes long right door state memory;
+    passed = passed-begins;
+    passed-line = passed-line-begins;
+    passed-packet = passed-packet-begins;
+    after = did-begins;
+  };
+  door-stays = record { set = λ there sizes door state long right. fresh-door there sizes long right door state; stays = did-door };
   total-on-bytes = total-on-bytes;
   lists = lists-on-bytes Made made-runs;
   total = total;
@@ -166,4 +201,5 @@ demands = record {
   owed-answers = owed-answers;
   watching = watching;
   how-many-set = how-many-set;
+  waiting = waiting;
 }

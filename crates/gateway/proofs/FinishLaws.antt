@@ -1,6 +1,6 @@
 -- The bytes of a state after a call, by what the call left: the process as it was, changed where it lies, gone, or come as the last. What the
 -- code leaves is the byte form of what the rules put. Assumes nothing.
-use mathlib.Core.Path.{_≡_, refl, sym, ap, _∙_}
+use mathlib.Core.Path.{_≡_, refl, sym, ap, ap₂, _∙_}
 use mathlib.Core.Bool.{Bool, true, false, cond}
 use mathlib.Core.List.{List, []}
 use Prim.Native.Nat.{ℕ, _<_}
@@ -17,7 +17,7 @@ use Rattle.rules.specs.Step.{Answer, StepResult, localOf, put}
 use Rattle.rules.proofs.StateLaws.{put-is, put-stays, put-same}
 use Rattle.rules.specs.Isolation.{isGranted}
 use Rattle.service.specs.At.{ProcessResult, leaving}
-use Rattle.state_bytes.specs.State.{stateBytes, stateOf, stateFormed, withProcessBytes, withStartBytes, withStartsBytes}
+use Rattle.state_bytes.specs.State.{stateBytes, stateOf, doorOf, stateFormed, withProcessBytes, withStartBytes, withStartsBytes}
 use Rattle.state_bytes.specs.Theorems.{Sized}
 use Rattle.state_bytes.proofs.StartLaws.{eight-starts}
 use Rattle.state_bytes.proofs.StateLaws.{inverse}
@@ -31,15 +31,18 @@ leaves a state memory = reportCalled (a .outcome) (a .lineLength) state memory (
 
 -- ---- a record put into the bytes of a state whose starts were written before it
 
-module _ (g : Records) (m : List ℕ) (sized : Sized g) (is : stateBytes g ≡ m) (bytes : Bytes m) (p : ℕ) (q : Process) (low : p < 8) where
+module _ (door : ℕ) (g : Records) (m : List ℕ) (sized : Sized g) (is : stateBytes door g ≡ m) (bytes : Bytes m) (p : ℕ) (q : Process) (low : p < 8) where
   read-back : stateOf m ≡ g
-  read-back = ap stateOf (sym is) ∙ inverse .written-is-read g sized
+  read-back = ap stateOf (sym is) ∙ inverse .written-is-read door g sized
+
+  door-back : doorOf m ≡ door
+  door-back = ap doorOf (sym is) ∙ inverse .door-is-read door g sized
 
   formed-still : stateFormed m ≡ true
-  formed-still = ap stateFormed (sym is) ∙ inverse .written-is-formed g sized
+  formed-still = ap stateFormed (sym is) ∙ inverse .written-is-formed door g sized
 
-  put-on : withProcessBytes p q m ≡ stateBytes (withProcess p q g)
-  put-on = sym (ap (λ (x : Records). stateBytes (withProcess p q x)) (sym read-back) ∙ inverse .put-is-with m bytes formed-still p q low)
+  put-on : withProcessBytes p q m ≡ stateBytes door (withProcess p q g)
+  put-on = sym (ap₂ (λ (d : ℕ) (x : Records). stateBytes d (withProcess p q x)) (sym door-back) (sym read-back) ∙ inverse .put-is-with m bytes formed-still p q low)
 
 module _ (state memory : List ℕ) (bytes : Bytes state) (formed : stateFormed state ≡ true) where
   abbrev s : State
@@ -47,26 +50,26 @@ module _ (state memory : List ℕ) (bytes : Bytes state) (formed : stateFormed s
 
   -- 'a new one last'
   pub last-bytes : (p start : ℕ) (q : Process) (part : List ℕ) → p < 8 → start ≡ used (stateOf state) → Bytes (withStartBytes p start state)
-      → withProcessBytes p q (withStartBytes p start state) ≡ stateBytes (putLast p (local q part) s .records)
+      → withProcessBytes p q (withStartBytes p start state) ≡ stateBytes (doorOf state) (putLast p (local q part) s .records)
   unfolding putLast
   last-bytes p start q part low e more =
       rw (← e)
-      (put-on (withStart p start (stateOf state)) (withStartBytes p start state)
+      (put-on (doorOf state) (withStart p start (stateOf state)) (withStartBytes p start state)
       (read-sized state (set (stateOf state .starts) p start) (length-set (stateOf state .starts) p start ∙ eight-starts state))
       (inverse .put-start state bytes formed p start low) more p q low)
 
   -- 'those above move down'
   pub gone-bytes : (p : ℕ) (q : Process) → p < 8 → Bytes (withStartsBytes (startsWithout p (stateOf state)) state)
-      → withProcessBytes p q (withStartsBytes (startsWithout p (stateOf state)) state) ≡ stateBytes (takenOut p (local q []) s .records)
+      → withProcessBytes p q (withStartsBytes (startsWithout p (stateOf state)) state) ≡ stateBytes (doorOf state) (takenOut p (local q []) s .records)
   unfolding takenOut startsWithout
   gone-bytes p q low more =
-      put-on (record { processes = stateOf state .processes; starts = startsWithout p (stateOf state) })
+      put-on (doorOf state) (record { processes = stateOf state .processes; starts = startsWithout p (stateOf state) })
       (withStartsBytes (startsWithout p (stateOf state)) state) (read-sized state (startsWithout p (stateOf state)) refl)
       (inverse .put-starts state bytes formed (startsWithout p (stateOf state))) more p q low
 
   -- ---- no process changed
 
-  kept-bytes : (t : Bool) → cond t (stateBytes (stateOf state)) state ≡ state
+  kept-bytes : (t : Bool) → cond t (stateBytes (doorOf state) (stateOf state)) state ≡ state
   kept-bytes true = inverse .read-is-written state bytes formed
   kept-bytes false = refl
 
@@ -81,7 +84,7 @@ module _ (state memory : List ℕ) (bytes : Bytes state) (formed : stateFormed s
     granted = isGranted (a .outcome)
 
     -- where the call is granted, the rules put this state
-    finished-put : (t : State) → put p (local q part) s ≡ t → leaves a (cond granted (stateBytes (t .records)) state) (t .memory) ≡ finished state y
+    finished-put : (t : State) → put p (local q part) s ≡ t → leaves a (cond granted (stateBytes (doorOf state) (t .records)) state) (t .memory) ≡ finished state y
     unfolding finished
     finished-put t k = rw (i, ← e, k)
 
@@ -94,14 +97,14 @@ module _ (state memory : List ℕ) (bytes : Bytes state) (formed : stateFormed s
 
     -- it goes
     finished-gone : recordOf s p .there ≡ true → q .there ≡ false → granted ≡ true
-        → leaves a (stateBytes (takenOut p (local q []) s .records)) (takenOut p (local q []) s .memory) ≡ finished state y
+        → leaves a (stateBytes (doorOf state) (takenOut p (local q []) s .records)) (takenOut p (local q []) s .memory) ≡ finished state y
     unfolding takenOut
     finished-gone there absent g =
         rw g at (finished-put (takenOut p (local q part) s) (put-is p (local q part) s true false there absent))
 
     -- it comes
     pub finished-last : recordOf s p .there ≡ false → q .there ≡ true → granted ≡ true
-        → leaves a (stateBytes (putLast p (local q part) s .records)) (withSlot (used (stateOf state)) part memory) ≡ finished state y
+        → leaves a (stateBytes (doorOf state) (putLast p (local q part) s .records)) (withSlot (used (stateOf state)) part memory) ≡ finished state y
     unfolding putLast
     finished-last absent there g =
         rw g at (finished-put (putLast p (local q part) s) (put-is p (local q part) s false true absent there))
@@ -118,13 +121,13 @@ module _ (state memory : List ℕ) (bytes : Bytes state) (formed : stateFormed s
     pub finished-removed : (back : List ℕ) → back ≡ withSlot (startOf (stateOf state) p) part memory
         → (granted ≡ true → (recordOf s p .there ≡ true) × (q .there ≡ false) × (takenOut p (local q []) (lent (stateOf state) back) ≡ takenOut p (local q []) s))
         → (granted ≡ false → x .left ≡ localOf s p)
-        → leaves a (cond granted (stateBytes (takenOut p (local q []) (lent (stateOf state) back) .records)) state)
+        → leaves a (cond granted (stateBytes (doorOf state) (takenOut p (local q []) (lent (stateOf state) back) .records)) state)
         (cond granted (takenOut p (local q []) (lent (stateOf state) back) .memory) back)
         ≡ finished state y
     finished-removed back is gone stays = go granted refl
       where
         go : (t : Bool) → granted ≡ t
-            → leaves a (cond t (stateBytes (takenOut p (local q []) (lent (stateOf state) back) .records)) state)
+            → leaves a (cond t (stateBytes (doorOf state) (takenOut p (local q []) (lent (stateOf state) back) .records)) state)
             (cond t (takenOut p (local q []) (lent (stateOf state) back) .memory) back)
             ≡ finished state y
         go true g = rw (gone g .2) (finished-gone (gone g .0) (gone g .1) g)

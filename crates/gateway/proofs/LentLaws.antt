@@ -1,7 +1,7 @@
 -- The tests 1 and 2 on the bytes of a state, and what they say of its record. Assumes nothing.
 use mathlib.Core.Path.{_≡_, refl, sym, ap, _∙_}
 use mathlib.Core.Bool.{Bool, true, false, not, cond}
-use mathlib.Core.List.{List}
+use mathlib.Core.List.{List, []}
 use Prim.Native.Nat.{ℕ, _≤_}
 use native.Mathlib.Omega.{arith}
 use borrow.Author.Tests.{eqb-true, ltb-false, not-false}
@@ -14,11 +14,12 @@ use Rattle.format.specs.Outcome.{firstFailing}
 use Rattle.format.specs.Sizes.{messageBytes}
 use Rattle.format.proofs.OutcomeLaws.{outcome-other}
 use Rattle.fields.specs.Written.{lineBytes}
+use Rattle.packets.specs.Ack.{ackWords}
 use Rattle.state.specs.Layout.{capacity}
 use Rattle.state.specs.Sound.{soundTest}
-use Rattle.rules.specs.Tests.{State, lent, noRoom, noReportRoom, noLineRoom}
+use Rattle.rules.specs.Tests.{State, lent, noRoom, noReportRoom, noLineRoom, noAckRoom}
 use Rattle.rules.specs.Window.{Buffers}
-use Rattle.rules.specs.Step.{Call, request, report, textLine, step}
+use Rattle.rules.specs.Step.{Call, request, report, textLine, packet, tick, step}
 use Rattle.rules.specs.Turn.{buffersOf}
 use Rattle.rules.specs.Isolation.{isGranted}
 use Rattle.rules.specs.Ready.{Ready}
@@ -30,6 +31,8 @@ use Rattle.gateway.proofs.ReadyLaws.{formed-long, sound-formed, sound-r
 use Rattle.gateway.proofs.StageLaws.{silent, request-lent}
 use Rattle.gateway.proofs.ReportLaws.{both, report-lent}
 use Rattle.gateway.proofs.TextLaws.{line-lent}
+use Rattle.gateway.proofs.PacketLaws.{packet-lent}
+use Rattle.gateway.proofs.TickLaws.{tick-lent}
 
 -- ---- what is lent, where the tests 1 and 2 pass
 
@@ -53,7 +56,7 @@ module _ (state : List ℕ) where
       go false false = refl
 
   -- both pass
-  passed : (short : Bool) → lentOn state short ≡ 0 → (short ≡ false) × (stateSound state ≡ true)
+  pub passed : (short : Bool) → lentOn state short ≡ 0 → (short ≡ false) × (stateSound state ≡ true)
   unfolding lentOn
   passed short e = go short (stateSound state) e
     where
@@ -100,6 +103,12 @@ line-fits state memory buffer e =
     fit state memory _ (both .1) (eqb-true (length memory) capacity (not-false _ (||-right (ltb (length buffer) lineBytes) _ (both .0))))
     (ltb-false (length buffer) lineBytes (||-left _ _ (both .0)))
 
+pub ack-fits : (state memory buffer : List ℕ) → lentOn state (noAckRoom memory buffer) ≡ 0 → Fit state memory (ackWords ≤ length buffer)
+ack-fits state memory buffer e =
+    let both = passed state (noAckRoom memory buffer) e in
+    fit state memory _ (both .1) (eqb-true (length memory) capacity (not-false _ (||-right (ltb (length buffer) ackWords) _ (both .0))))
+    (ltb-false (length buffer) ackWords (||-left _ _ (both .0)))
+
 -- ---- calls on bytes
 
 -- a refused step leaves the bytes
@@ -138,6 +147,16 @@ module _ (state memory : List ℕ) where
       → called (Refused n) state memory buffer ≡ callOn state memory (textLine text buffer)
   unfolding badlyLent buffersOf step
   line-unfit text buffer n e z = unfit (textLine text buffer) n e z (λ i. line-lent s text buffer n i z)
+
+  pub packet-unfit : (door kind id : ℕ) (words buffer : List ℕ) (n : ℕ) → n ≡ lentOn state (noAckRoom memory buffer) → (n ≡ 0 → ⊥)
+      → called (Refused n) state memory buffer ≡ callOn state memory (packet door kind id words buffer)
+  unfolding badlyLent buffersOf step
+  packet-unfit door kind id words buffer n e z =
+      unfit (packet door kind id words buffer) n e z (λ i. packet-lent s door kind id words buffer n i z)
+
+  pub tick-unfit : (door n : ℕ) → n ≡ lentOn state false → (n ≡ 0 → ⊥) → called (Refused n) state memory [] ≡ callOn state memory (tick door)
+  unfolding badlyLent buffersOf step
+  tick-unfit door n e z = unfit (tick door) n e z (λ i. tick-lent s door n i z)
 
   -- a call that they let pass
   pub call-fit : stateFormed state ≡ true → (c : Call) → callOn state memory c ≡ finished state (step (lent (stateOf state) memory) c)

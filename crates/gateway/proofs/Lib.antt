@@ -4,9 +4,12 @@ pub mod StageLaws
 pub mod AskedLaws
 pub mod ReportLaws
 pub mod TextLaws
+pub mod PacketLaws
+pub mod TickLaws
 pub mod ReadyLaws
 pub mod LentLaws
 pub mod FinishLaws
+pub mod TickedLaws
 pub mod NewlineLaws
 pub mod LengthLaws
 pub mod SequenceLaws

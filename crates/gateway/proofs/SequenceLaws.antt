@@ -21,23 +21,23 @@ use Rattle.state.specs.Theorems.{FreshIsSound}
 use Rattle.state.proofs.MemoryLaws.{set-slot}
 use Rattle.state.proofs.SoundLaws.{state-passes}
 use Rattle.state.proofs.FreshLaws.{fresh-is-sound, length-freshProcesses, getD-freshProcesses, length-freshStarts}
-use Rattle.rules.specs.Tests.{State, lent, recordOf, noRoom, noLineRoom}
+use Rattle.rules.specs.Tests.{State, lent, recordOf, noRoom, noLineRoom, noAckRoom}
 use Rattle.rules.specs.Window.{putInPlace}
-use Rattle.rules.specs.Step.{Answer, StepResult, Call, request, report, store, textLine, stored, localOf, step}
+use Rattle.rules.specs.Step.{Answer, StepResult, Call, request, report, store, textLine, packet, tick, stored, localOf, step}
 use Rattle.rules.specs.Ready.{Ready, Worded, Typed}
 use Rattle.rules.specs.Run.{TraceItem, traceItem, run}
 use Rattle.rules.specs.Isolation.{isGranted}
 use Rattle.rules.proofs.StateLaws.{put-stays, length-local}
 use Rattle.rules.proofs.StepLaws.{by-test}
 use Rattle.rules.proofs.TotalLaws.{total}
-use Rattle.state_bytes.specs.State.{stateBytes, stateOf, stateFormed}
+use Rattle.state_bytes.specs.State.{stateBytes, stateOf, doorOf, stateFormed}
 use Rattle.state_bytes.specs.Theorems.{Sized}
 use Rattle.state_bytes.specs.Widths.{stateWidth}
 use Rattle.state_bytes.proofs.StateLaws.{inverse, eight-at}
 use Rattle.gateway.specs.Called.{Called, finished, callOn, machineStored, lentOn, startOn, Did}
 use Rattle.gateway.specs.Sequence.{Begins, Done, AllTyped, item, items, readFrom}
 use Rattle.gateway.proofs.ReadyLaws.{read-worded}
-use Rattle.gateway.proofs.LentLaws.{request-fits, line-fits}
+use Rattle.gateway.proofs.LentLaws.{request-fits, line-fits, ack-fits}
 
 sized-of : (s : State) → Ready s → Worded s → Sized (s .records)
 sized-of s r w = record { processes = r .processes; vectors = w; entries = r .entries; starts = r .starts }
@@ -65,8 +65,8 @@ module _ (state memory : List ℕ) (b : Begins state memory) (c : Call) (typed :
   unmoved e = total .refused s c (λ z. true≢false (sym (total .granted s c z) ∙ e))
 
   left : (t : Bool) → isGranted (y .answer .outcome) ≡ t
-      → (lent (stateOf (cond t (stateBytes (y .after .records)) state)) (y .after .memory) ≡ y .after) × (stateFormed (cond t (stateBytes (y .after .records)) state) ≡ true)
-  left true e = (ap (λ (g : Records). lent g (y .after .memory)) (inverse .written-is-read (y .after .records) sized), inverse .written-is-formed (y .after .records) sized)
+      → (lent (stateOf (cond t (stateBytes (doorOf state) (y .after .records)) state)) (y .after .memory) ≡ y .after) × (stateFormed (cond t (stateBytes (doorOf state) (y .after .records)) state) ≡ true)
+  left true e = (ap (λ (g : Records). lent g (y .after .memory)) (inverse .written-is-read (doorOf state) (y .after .records) sized), inverse .written-is-formed (doorOf state) (y .after .records) sized)
   left false e = (ap (λ (t : State). lent (s .records) (t .memory)) (unmoved e) ∙ sym (unmoved e), b .formed)
 
   finished-follows : (x : Called) → x ≡ finished state y → Follows state memory c x
@@ -76,6 +76,15 @@ module _ (state memory : List ℕ) (b : Begins state memory) (c : Call) (typed :
     after = left (isGranted (y .answer .outcome)) refl .0;
     formed = left (isGranted (y .answer .outcome)) refl .1;
   })
+
+  -- the process of the Pup door stays
+  door-left : (t : Bool) → doorOf (cond t (stateBytes (doorOf state) (y .after .records)) state) ≡ doorOf state
+  door-left true = inverse .door-is-read (doorOf state) (y .after .records) sized
+  door-left false = refl
+
+  call-door : (x : Called) → x ≡ callOn state memory c → doorOf (x .state) ≡ doorOf state
+  unfolding callOn finished
+  call-door x e = rw (e, b .formed) (door-left (isGranted (y .answer .outcome)))
 
   call-follows : (x : Called) → x ≡ callOn state memory c → Follows state memory c x
   unfolding callOn
@@ -129,6 +138,18 @@ did-follows state memory b (request m buffer) t x d = call-follows state memory 
 did-follows state memory b (report p kind reason words buffer line) t x d = call-follows state memory b (report p kind reason words buffer line) t x d
 did-follows state memory b (store p a v) t x d = store-follows state memory b p a v x (d .0) (d .1)
 did-follows state memory b (textLine text buffer) t x d = call-follows state memory b (textLine text buffer) t x d
+did-follows state memory b (packet door kind id words buffer) t x d = call-follows state memory b (packet door kind id words buffer) t x (d .1)
+did-follows state memory b (tick door) t x d = call-follows state memory b (tick door) t x (d .1)
+
+-- no call changes the process of the Pup door
+pub did-door : (state memory : List ℕ) → Begins state memory → (c : Call) → Typed c → (x : Called) → Did state memory c x → doorOf (x .state) ≡ doorOf state
+unfolding Did machineStored
+did-door state memory b (request m buffer) t x d = call-door state memory b (request m buffer) t x d
+did-door state memory b (report p kind reason words buffer line) t x d = call-door state memory b (report p kind reason words buffer line) t x d
+did-door state memory b (store p a v) t x d = rw (d .1)
+did-door state memory b (textLine text buffer) t x d = call-door state memory b (textLine text buffer) t x d
+did-door state memory b (packet door kind id words buffer) t x d = call-door state memory b (packet door kind id words buffer) t x (d .1)
+did-door state memory b (tick door) t x d = call-door state memory b (tick door) t x (d .1)
 
 -- ---- whole lists
 
@@ -182,11 +203,15 @@ module _ (ts : List Bool) (ns : List ℕ) (long : length ts ≡ 8) (right : size
     sound = state-passes (freshStart ts ns) (fresh-sized .entries) fresh-sound;
   }
 
-  pub fresh-begins : (state memory : List ℕ) → length state ≡ stateWidth → length memory ≡ capacity → Begins (startOn ts ns state .state) memory
+  pub fresh-door : (door : ℕ) (state : List ℕ) → length state ≡ stateWidth → doorOf (startOn ts ns door state .state) ≡ door
   unfolding startOn
-  fresh-begins state memory wide size = rw (eq-eqb (length state) stateWidth wide, right) (record {
-    formed = inverse .written-is-formed (freshStart ts ns) fresh-sized;
-    ready = subst (λ (g : Records). Ready (lent g memory)) (sym (inverse .written-is-read (freshStart ts ns) fresh-sized)) (fresh-ready memory size);
+  fresh-door door state wide = rw (eq-eqb (length state) stateWidth wide, right) (inverse .door-is-read door (freshStart ts ns) fresh-sized)
+
+  pub fresh-begins : (door : ℕ) (state memory : List ℕ) → length state ≡ stateWidth → length memory ≡ capacity → Begins (startOn ts ns door state .state) memory
+  unfolding startOn
+  fresh-begins door state memory wide size = rw (eq-eqb (length state) stateWidth wide, right) (record {
+    formed = inverse .written-is-formed door (freshStart ts ns) fresh-sized;
+    ready = subst (λ (g : Records). Ready (lent g memory)) (sym (inverse .written-is-read door (freshStart ts ns) fresh-sized)) (fresh-ready memory size);
   })
 
 pub passed-begins : (state memory buffer : List ℕ) → lentOn state (noRoom memory buffer) ≡ 0 → Begins state memory
@@ -194,3 +219,6 @@ passed-begins state memory buffer e = let fit = request-fits state memory buffer
 
 pub passed-line-begins : (state memory buffer : List ℕ) → lentOn state (noLineRoom memory buffer) ≡ 0 → Begins state memory
 passed-line-begins state memory buffer e = let fit = line-fits state memory buffer e in record { formed = fit .formed; ready = fit .ready }
+
+pub passed-packet-begins : (state memory buffer : List ℕ) → lentOn state (noAckRoom memory buffer) ≡ 0 → Begins state memory
+passed-packet-begins state memory buffer e = let fit = ack-fits state memory buffer e in record { formed = fit .formed; ready = fit .ready }

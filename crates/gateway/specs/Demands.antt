@@ -1,14 +1,14 @@
 -- The demands of document 01 on the calls of this crate, over lists of any length and on the bytes that the calls are given.
 use mathlib.Core.Path.{_≡_}
-use mathlib.Core.Bool.{Bool, true}
+use mathlib.Core.Bool.{Bool, true, false}
 use mathlib.Core.List.{List, [], _∷_}
 use Prim.Native.Nat.{ℕ, _<_}
 use lib.ListN.{length}
 use Rattle.format.specs.Outcome.{numberOf}
 use Rattle.state.specs.Layout.{capacity}
 use Rattle.state.specs.Fresh.{sizesRight}
-use Rattle.rules.specs.Tests.{noRoom, noReportRoom, noLineRoom}
-use Rattle.rules.specs.Step.{Call, request, report, textLine, localOf}
+use Rattle.rules.specs.Tests.{noRoom, noReportRoom, noLineRoom, noAckRoom}
+use Rattle.rules.specs.Step.{Call, request, report, textLine, packet, tick, localOf}
 use Rattle.rules.specs.Turn.{buffersOf}
 use Rattle.rules.specs.Ready.{Typed}
 use Rattle.rules.specs.Run.{TraceItem, run, leave}
@@ -23,20 +23,31 @@ use Rattle.rules.specs.Loops.{Loops}
 use Rattle.rules.specs.Owed.{OwedAnswers}
 use Rattle.rules.specs.Watch.{Watching}
 use Rattle.rules.specs.Status.{HowManySet}
+use Rattle.rules.specs.Waiting.{Waiting}
 use Rattle.state_bytes.specs.Widths.{stateWidth}
+use Rattle.state_bytes.specs.State.{doorOf}
 use Rattle.gateway.specs.Called.{Called, Did, lentOn, refusedBy, startOn}
 use Rattle.gateway.specs.Sequence.{Begins, Made, readFrom}
 
 -- where lists begin
 pub record Starts : Type 0 where
   -- after a fresh start with right sizes, with a memory of its length
-  pub fresh : (there : List Bool) (sizes state memory : List ℕ) → length there ≡ 8 → sizesRight there sizes ≡ true → length state ≡ stateWidth
-      → length memory ≡ capacity → Begins (startOn there sizes state .state) memory
-  -- wherever the tests 1 and 2 pass, of a message or of a text line
+  pub fresh : (there : List Bool) (sizes : List ℕ) (door : ℕ) (state memory : List ℕ) → length there ≡ 8 → sizesRight there sizes ≡ true
+      → length state ≡ stateWidth → length memory ≡ capacity → Begins (startOn there sizes door state .state) memory
+  -- wherever the tests 1 and 2 pass, of a message, of a text line or of a packet
   pub passed : (state memory buffer : List ℕ) → lentOn state (noRoom memory buffer) ≡ 0 → Begins state memory
   pub passed-line : (state memory buffer : List ℕ) → lentOn state (noLineRoom memory buffer) ≡ 0 → Begins state memory
+  pub passed-packet : (state memory buffer : List ℕ) → lentOn state (noAckRoom memory buffer) ≡ 0 → Begins state memory
   -- and after each call of a list
   pub after : (state memory : List ℕ) → Begins state memory → (c : Call) → Typed c → (x : Called) → Did state memory c x → Begins (x .state) (x .memory)
+
+-- 'on one process set at start': the process of the Pup door
+pub record DoorStays : Type 0 where
+  -- a fresh start with right sizes sets it
+  pub set : (there : List Bool) (sizes : List ℕ) (door : ℕ) (state : List ℕ) → length there ≡ 8 → sizesRight there sizes ≡ true
+      → length state ≡ stateWidth → doorOf (startOn there sizes door state .state) ≡ door
+  -- and no call changes it
+  pub stays : (state memory : List ℕ) → Begins state memory → (c : Call) → Typed c → (x : Called) → Did state memory c x → doorOf (x .state) ≡ doorOf state
 
 -- demand 1 of a call, on any bytes at all
 pub record TotalOnBytes : Type 0 where
@@ -54,6 +65,11 @@ pub record TotalOnBytes : Type 0 where
   pub unfit-line : (state memory text buffer : List ℕ) (x : Called) → Did state memory (textLine text buffer) x
       → (lentOn state (noLineRoom memory buffer) ≡ 0 → ⊥)
       → x ≡ refusedBy (lentOn state (noLineRoom memory buffer)) state memory (buffersOf (textLine text buffer))
+  pub unfit-packet : (state memory : List ℕ) (door kind id : ℕ) (words buffer : List ℕ) (x : Called) → Did state memory (packet door kind id words buffer) x
+      → (lentOn state (noAckRoom memory buffer) ≡ 0 → ⊥)
+      → x ≡ refusedBy (lentOn state (noAckRoom memory buffer)) state memory (buffersOf (packet door kind id words buffer))
+  pub unfit-tick : (state memory : List ℕ) (door : ℕ) (x : Called) → Did state memory (tick door) x → (lentOn state false ≡ 0 → ⊥)
+      → x ≡ refusedBy 2 state memory (buffersOf (tick door))
 
 -- what holds of lists of calls on bytes, however they are made: `made state memory calls trace` says that they were, and what came of it
 pub record ListsOnBytes (made : List ℕ → List ℕ → List Call → List TraceItem → Type 0) : Type 0 where
@@ -85,6 +101,7 @@ pub record ListsOnBytes (made : List ℕ → List ℕ → List Call → List Tra
 -- the demands hold of the calls
 pub record Demands : Type 0 where
   pub starts : Starts
+  pub door-stays : DoorStays
   pub total-on-bytes : TotalOnBytes
   pub lists : ListsOnBytes Made
   -- the rules that the lists are runs of: demand 1
@@ -105,3 +122,5 @@ pub record Demands : Type 0 where
   pub watching : Watching
   -- the number in a record is that of its breakpoints after every call, and STATUS answers it
   pub how-many-set : HowManySet
+  -- a process with a Go that waits runs at the hundredth tick and no sooner, or on the GoReply of the next ID
+  pub waiting : Waiting

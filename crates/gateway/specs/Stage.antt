@@ -9,8 +9,9 @@ use Rattle.fields.specs.declared.read.Line.{Line}
 use Rattle.rules.specs.Tests.{State, unsound, askedTests}
 use Rattle.rules.specs.Step.{StepResult, localOf, put, granted, refused}
 use Rattle.text_door.specs.At.{textAt}
+use Rattle.packet_door.specs.At.{packetAt}
 
--- the tests 1 and 2, which every call makes first; the first fails where what is lent has a wrong length
+-- the tests 1 and 2, which every call makes first; the first fails where what is lent has a wrong length, which a tick does not ask
 unfoldable pub lentNumber : State → Bool → ℕ
 lentNumber s short = firstFailing (test 1 short ∷ test 2 (unsound s) ∷ [])
 
@@ -24,4 +25,11 @@ unfoldable pub lineStep : Line → List ℕ → State → StepResult
 lineStep x buffer s = record {
   answer = textAt x buffer (localOf s (x .pid)) .answer;
   after = put (x .pid) (textAt x buffer (localOf s (x .pid)) .left) s;
+}
+
+-- a packet that passed the tests 1 to 5, to a process with a number under 8: what is answered there, and the process that is left is put back
+unfoldable pub packetStepAt : ℕ → ℕ → ℕ → List ℕ → List ℕ → State → StepResult
+packetStepAt door kind id words buffer s = record {
+  answer = packetAt kind id words buffer (localOf s door) .answer;
+  after = put door (packetAt kind id words buffer (localOf s door) .left) s;
 }

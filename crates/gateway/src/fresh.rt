@@ -63,9 +63,10 @@ pub fn sizes_right(there: [bool; 8], sizes: [u16; 8]) -> bool
 }
 
 // Writes the state in which the given processes are there, each with its size, one after the other in memory; a buffer that is not of a
-// state's length is refused with 1, a bad size of a process then there, or more than the memory holds, with 2.
-pub fn fresh_start(there: [bool; 8], sizes: [u16; 8], state: &mut [u8]) -> Outcome
-    ensures { λ r. ⌜ started r (now (state .exit)) ≡ startOn there sizes (now (state .entry)) ⌝ }
+// state's length is refused with 1, a bad size of a process then there, or more than the memory holds, with 2. The Pup door is at this process, or at
+// none where the number is over 7.
+pub fn fresh_start(there: [bool; 8], sizes: [u16; 8], door: u8, state: &mut [u8]) -> Outcome
+    ensures { λ r. ⌜ started r (now (state .exit)) ≡ startOn there sizes door (now (state .entry)) ⌝ }
 {
     if state.len() != STATE_BYTES {
         return Outcome::Refused(1);
@@ -73,6 +74,6 @@ pub fn fresh_start(there: [bool; 8], sizes: [u16; 8], state: &mut [u8]) -> Outco
     if !sizes_right(there, sizes) {
         return Outcome::Refused(2);
     }
-    put_fresh_start(there, sizes, state);
+    put_fresh_start(there, sizes, door, state);
     Outcome::Granted(0)
 }

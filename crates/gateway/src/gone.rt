@@ -16,7 +16,7 @@ ghost use Rattle.state.specs.Layout.{capacity, extentAt};
 ghost use Rattle.rules.specs.Tests.{lent};
 ghost use Rattle.rules.specs.Window.{takenOut};
 ghost use Rattle.rules.specs.Isolation.{isGranted};
-ghost use Rattle.state_bytes.specs.State.{stateBytes, stateOf, stateSound};
+ghost use Rattle.state_bytes.specs.State.{stateBytes, stateOf, doorOf, stateSound};
 
 // Takes process pid out, whose count bytes begin at start: the bytes of those above it move down, and then their starts, and its record is
 // written, which is that of an absent one. How many bytes are used is asked while it is still there.
@@ -31,7 +31,7 @@ fn take_out(
     requires { ⌜ (pid < 8) × (processAt (stateOf (now state)) pid .there ≡ true) ⌝ }
     requires { ⌜ (start ≡ startOf (stateOf (now state)) pid) × (count ≡ extentAt (stateOf (now state)) pid) ⌝ }
     requires { ⌜ (stateSound (now state) ≡ true) × (length (now memory) ≡ capacity) ⌝ }
-    ensures { λ _. ⌜ now (state .exit) ≡ stateBytes (takenOut pid (local «process» []) (lent (stateOf (now (state .entry))) (now (memory .entry))) .records) ⌝ }
+    ensures { λ _. ⌜ now (state .exit) ≡ stateBytes (doorOf (now (state .entry))) (takenOut pid (local «process» []) (lent (stateOf (now (state .entry))) (now (memory .entry))) .records) ⌝ }
     ensures { λ _. ⌜ now (memory .exit) ≡ takenOut pid (local «process» []) (lent (stateOf (now (state .entry))) (now (memory .entry))) .memory ⌝ }
 {
     let end = used_bytes(state);
@@ -53,7 +53,7 @@ pub(crate) fn remove(
     requires { ⌜ (isGranted outcome ≡ true → processAt (stateOf (now state)) pid .there ≡ true) × (pid < 8) ⌝ }
     requires { ⌜ (isGranted outcome ≡ true → start ≡ startOf (stateOf (now state)) pid) × (count ≡ extentAt (stateOf (now state)) pid) ⌝ }
     requires { ⌜ (stateSound (now state) ≡ true) × (length (now memory) ≡ capacity) ⌝ }
-    ensures { λ _. ⌜ now (state .exit) ≡ cond (isGranted outcome) (stateBytes (takenOut pid (local «process» []) (lent (stateOf (now (state .entry))) (now (memory .entry))) .records)) (now (state .entry)) ⌝ }
+    ensures { λ _. ⌜ now (state .exit) ≡ cond (isGranted outcome) (stateBytes (doorOf (now (state .entry))) (takenOut pid (local «process» []) (lent (stateOf (now (state .entry))) (now (memory .entry))) .records)) (now (state .entry)) ⌝ }
     ensures { λ _. ⌜ now (memory .exit) ≡ cond (isGranted outcome) (takenOut pid (local «process» []) (lent (stateOf (now (state .entry))) (now (memory .entry))) .memory) (now (memory .entry)) ⌝ }
 {
     match outcome {

@@ -1,10 +1,12 @@
-// The tests 1 and 2, which every call makes first.
+// The tests 1 and 2, which every call makes first; a tick makes 2 alone.
 use fields::LINE_BYTES;
 use format::MESSAGE_BYTES;
+use packets::ACK_WORDS;
 use state::CAPACITY;
 use state_bytes::state_sound;
 ghost use mathlib.Core.Path.{_≡_};
-ghost use Rattle.rules.specs.Tests.{noRoom, noReportRoom, noLineRoom};
+ghost use Rattle.rules.specs.Tests.{noRoom, noReportRoom, noLineRoom, noAckRoom};
+ghost use mathlib.Core.Bool.{false};
 ghost use Rattle.gateway.specs.Called.{lentOn};
 
 // Returns 1 where what is lent is too short, 2 where the bytes are not those of a sound state, else 0.
@@ -53,4 +55,21 @@ pub(crate) fn check_line_buffer_and_state(state: &[u8], memory: &[u8], out: &[u8
         return 1;
     }
     check_state(state, memory.len() != CAPACITY)
+}
+
+// The same of a packet, whose buffer holds words.
+pub(crate) fn check_ack_buffer_and_state(state: &[u8], memory: &[u8], out: &[u16]) -> u8
+    ensures { λ r. ⌜ r ≡ lentOn (now (state .entry)) (noAckRoom (now (memory .entry)) (now (out .entry))) ⌝ }
+{
+    if out.len() < ACK_WORDS {
+        return 1;
+    }
+    check_state(state, memory.len() != CAPACITY)
+}
+
+// The test of a tick, which is lent neither memory nor buffer.
+pub(crate) fn check_state_alone(state: &[u8]) -> u8
+    ensures { λ r. ⌜ r ≡ lentOn (now (state .entry)) false ⌝ }
+{
+    check_state(state, false)
 }

@@ -1,5 +1,5 @@
-// The gateway: what answers the requests of the network, the text lines of the bench and the reports of the machine. Its state is a lent buffer
-// of 736 bytes: a call tests them where they lie, reads the one process that it goes to, and writes that one back. All processes lie in one lent
+// The gateway: what answers the requests of the network, the text lines of the bench, the packets of the Pup door and the reports of the machine. Its state is a lent buffer
+// of 785 bytes: a call tests them where they lie, reads the one process that it goes to, and writes that one back. All processes lie in one lent
 // memory, and the state says where each begins; only CREATE and DESTROY change that.
 mod fresh;
 mod gone;
@@ -7,6 +7,7 @@ mod kept;
 mod lengths;
 mod lent;
 mod part;
+mod pup_door;
 mod reports;
 mod requests;
 mod text_lines;
@@ -17,6 +18,8 @@ pub use fresh::sizes_right;
 pub use lengths::line_length;
 pub use lengths::notice_length;
 pub use lengths::reply_length;
+pub use pup_door::packet;
+pub use pup_door::tick;
 pub use reports::Told;
 pub use reports::report;
 pub use requests::request;

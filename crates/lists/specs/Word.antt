@@ -21,6 +21,10 @@ unfoldable pub lowFirst : List ℕ → List ℕ
 lowFirst [] = []
 lowFirst (w ∷ ws) = low w ∷ high w ∷ lowFirst ws
 
+-- so many words of bytes, low byte first
+abbrev pub wordsOf : ℕ → List ℕ → List ℕ
+wordsOf n bytes = elements (λ (i : ℕ). word (getD bytes (2 * i + 1) 0) (getD bytes (2 * i) 0)) n
+
 -- the nine words of 18 bytes, low byte first
 unfoldable pub vectorOf : List ℕ → List ℕ
-vectorOf bytes = elements (λ (i : ℕ). word (getD bytes (2 * i + 1) 0) (getD bytes (2 * i) 0)) 9
+vectorOf bytes = wordsOf 9 bytes

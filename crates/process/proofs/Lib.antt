@@ -16,5 +16,6 @@ pub mod WatchLaws
 pub mod EntryKept
 pub mod EndWatchLaws
 pub mod WatcherKept
+pub mod PacketLaws
 pub mod TheoremLaws
 pub mod ProperLaws

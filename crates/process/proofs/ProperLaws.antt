@@ -1,17 +1,20 @@
--- What STOP, `c`, `s`, DEBUG, WATCH, END WATCH and BREAK leave of a process is again a sound record with eight entries and its bytes. Assumes nothing.
+-- What STOP, `c`, `s`, DEBUG, WATCH, END WATCH, BREAK, packets and ticks leave of a process is again a sound record with eight entries and its bytes. Assumes nothing.
 use mathlib.Core.Path.{_≡_, refl, sym, _∙_}
 use mathlib.Core.Bool.{true, false}
 use mathlib.Core.Logic.{_⊎_}
 use Prim.Native.Nat.{ℕ, _+_, _≤_, _%_}
+use lib.ListN.{length}
 use Rattle.run_state.specs.RunState.{stoppedOrAtBreak}
-use Rattle.session.specs.Session.{textHost}
+use Rattle.session.specs.Session.{textHost, pupHost}
 use Rattle.process.specs.Record.{withHost}
 use Rattle.process.specs.Sound.{Sound, DebugsOrWatches}
 use Rattle.process.specs.Local.{Local, extent, Proper}
-use Rattle.process.specs.Request.{hasBreak, hasRoom, debugged, watched, endWatched, stopped, continued, steppedFrom, breakSet}
+use Rattle.process.specs.Request.{onRecord, hasBreak, hasRoom, debugged, watched, endWatched, stopped, continued, steppedFrom, breakSet}
+use Rattle.process.specs.Packet.{withoutGo, goAsked, goReplied, ticked, wordStored}
 use Rattle.process.proofs.SoundTestLaws.{sound-passes}
 use Rattle.process.proofs.TestedLaws.{tested-sound}
 use Rattle.process.proofs.KeptLaws.{shape, same-there, same-size, same-entries, same-bytes, shape-stopped, shape-endWatched, shape-continued, shape-steppedFrom, shape-breakSet}
+use Rattle.process.proofs.PacketLaws.{shape-goAsked, shape-goReplied, shape-ticked, shape-wordStored}
 use Rattle.process.proofs.TheoremLaws.{sound-stays}
 
 -- a sound process of the shape of a proper one
@@ -49,3 +52,26 @@ module _ (l : Local) (g : Proper l) where
   pub break-proper : (host a n : ℕ) → (l .process .host ≡ 0 → ⊥) → DebugsOrWatches (l .process) host → a % 2 ≡ 0 → a + 2 ≤ l .process .size
       → (hasBreak a (l .process) ≡ false → hasRoom (l .process) ≡ true) → Proper (breakSet host a n l)
   break-proper host a n h i e w r = shape-proper (breakSet host a n l) l (shape-breakSet host a n l) (sound-stays .break host a n l g h i e w r) g
+
+  -- ---- packets and ticks
+
+  is-sound : Sound (l .process)
+  is-sound = tested-sound (l .process) (l .bytes) (g .tested)
+
+  -- no Go waits any more
+  pub abandon-go-proper : Proper (onRecord withoutGo l)
+  abandon-go-proper = shape-proper (onRecord withoutGo l) l refl (sound-stays .abandon-go (l .process) is-sound) g
+
+  -- a Go of the host that may ask for one
+  pub ask-go-proper : (id : ℕ) → l .process .host ≡ pupHost → Proper (onRecord (goAsked id) l)
+  ask-go-proper id h = shape-proper (onRecord (goAsked id) l) l (shape-goAsked id l) (sound-stays .ask-go id (l .process) is-sound h) g
+
+  pub reply-go-proper : (id : ℕ) → Proper (onRecord (goReplied id) l)
+  reply-go-proper id = shape-proper (onRecord (goReplied id) l) l (shape-goReplied id l) (sound-stays .reply-go id (l .process) is-sound) g
+
+  pub tick-proper : Proper (onRecord ticked l)
+  tick-proper = shape-proper (onRecord ticked l) l (shape-ticked l) (sound-stays .tick (l .process) is-sound) g
+
+  -- a word within the process's bytes
+  pub store-proper : (first v : ℕ) → first + 2 ≤ length (l .bytes) → Proper (wordStored first v l)
+  store-proper first v h = shape-proper (wordStored first v l) l (shape-wordStored first v l h) (sound-stays .store first v l g) g

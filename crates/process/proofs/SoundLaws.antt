@@ -12,11 +12,12 @@ use lib.Seq.{getD-set-same, getD-set-other}
 use lib.Dec.{eqb, ltb}
 use Rattle.run_state.specs.declared.Run.{Run}
 use Rattle.session.specs.declared.Owed.{Owed}
-use Rattle.session.specs.Session.{textHost, owes}
+use Rattle.session.specs.declared.Go.{Go}
+use Rattle.session.specs.Session.{textHost, pupHost, owes}
 use Rattle.breakpoints.specs.declared.entry.Breakpoint.{Breakpoint}
 use Rattle.process.specs.declared.record.Process.{Process}
 use Rattle.breakpoints.specs.Entry.{free, inUse}
-use Rattle.process.specs.Record.{noBreaks, entry, countUsed, withHost, withRun, withVector, withBreaks, withNumber, recounted, withEntry, owing, watchedBy}
+use Rattle.process.specs.Record.{noBreaks, entry, countUsed, withHost, withRun, withVector, withBreaks, withNumber, recounted, withEntry, owing, watchedBy, going}
 use Rattle.process.specs.Sound.{Sound, SizeRight, NoBreakpoints, DebugsOrWatches}
 use Rattle.run_state.specs.RunState.{steppingOrPassing}
 use Rattle.process.proofs.CountLaws.{count-none}
@@ -35,6 +36,7 @@ sound-vector v p s = record {
   lifted-while = s .lifted-while;
   owed = s .owed;
   watched = s .watched;
+  waiting = s .waiting;
   set-by = s .set-by;
   counted = s .counted;
 }
@@ -52,6 +54,7 @@ sound-run r p m s = record {
   lifted-while = m;
   owed = s .owed;
   watched = s .watched;
+  waiting = s .waiting;
   set-by = s .set-by;
   counted = s .counted;
 }
@@ -69,6 +72,25 @@ sound-owing o p e s = record {
   lifted-while = s .lifted-while;
   owed = e;
   watched = s .watched;
+  waiting = s .waiting;
+  set-by = s .set-by;
+  counted = s .counted;
+}
+
+-- a Go that may wait
+pub sound-going : (g : Go) (p : Process) → (g .waits ≡ true → (p .host ≡ pupHost) × (g .ticks ≤ 99)) → Sound p → Sound (going g p)
+sound-going g p e s = record {
+  sized = s .sized;
+  absent = s .absent;
+  unhosted = s .unhosted;
+  different = s .different;
+  even = s .even;
+  within = s .within;
+  one-lifted = s .one-lifted;
+  lifted-while = s .lifted-while;
+  owed = s .owed;
+  watched = s .watched;
+  waiting = e;
   set-by = s .set-by;
   counted = s .counted;
 }
@@ -86,6 +108,7 @@ sound-watched host p s n m b = record {
   lifted-while = s .lifted-while;
   owed = s .owed;
   watched = λ w. (n, m);
+  waiting = s .waiting;
   set-by = λ k h u. go (s .set-by k h u) b;
   counted = s .counted;
 }
@@ -108,6 +131,7 @@ sound-unwatched p s his = record {
   lifted-while = s .lifted-while;
   owed = s .owed;
   watched = λ w. absurd (w refl);
+  waiting = s .waiting;
   set-by = λ k h u. inl (his k h u);
   counted = s .counted;
 }
@@ -121,6 +145,11 @@ owed-to h p (inr q) s o = sym q ∙ s .owed o
 watched-beside : (h : ℕ) (p : Process) → (h ≡ 0 → ⊥) → (p .host ≡ 0) ⊎ (p .host ≡ h) → Sound p → (p .session .watcher ≡ 0 → ⊥) → (h ≡ 0 → ⊥) × (p .session .watcher ≡ h → ⊥)
 watched-beside h p n (inl z) s w = absurd (s .watched w .0 z)
 watched-beside h p n (inr q) s w = (n, λ e. s .watched w .1 (e ∙ sym q))
+
+-- a Go waits only where host 254 debugs, so that he is the same
+waiting-still : (h : ℕ) (p : Process) → (p .host ≡ 0) ⊎ (p .host ≡ h) → Sound p → p .session .go .waits ≡ true → (h ≡ pupHost) × (p .session .go .ticks ≤ 99)
+waiting-still h p (inl z) s w = let e = s .waiting w .0 in absurd (omega (arith, z, e))
+waiting-still h p (inr q) s w = (sym q ∙ s .waiting w .0, s .waiting w .1)
 
 set-by-same : (h : ℕ) (p : Process) → (p .host ≡ 0) ⊎ (p .host ≡ h) → Sound p → (k : ℕ) → k < 8 → inUse (entry p k) ≡ true → DebugsOrWatches (withHost h p) (entry p k .setter)
 set-by-same h p (inl z) s k l u = absurd (true≢false (sym u ∙ s .unhosted z k l))
@@ -139,6 +168,7 @@ sound-host h p t n b s = record {
   lifted-while = s .lifted-while;
   owed = owed-to h p b s;
   watched = watched-beside h p n b s;
+  waiting = waiting-still h p b s;
   set-by = set-by-same h p b s;
   counted = s .counted;
 }
@@ -148,9 +178,10 @@ sound-host h p t n b s = record {
 no-entry : (k : ℕ) → k < 8 → inUse (getD noBreaks k free) ≡ false
 no-entry k h = ap (λ (b : Breakpoint). inUse b) (getD-replicate 8 k free free h)
 
--- a record with free entries, their number, nothing owed and no watcher is sound, if an absent one has no host
-pub sound-free : (p : Process) → SizeRight (p .size) → p .breaks ≡ noBreaks → p .number ≡ 0 → owes (p .session .owed) ≡ false → p .session .watcher ≡ 0 → (p .there ≡ false → p .host ≡ 0) → Sound p
-sound-free p n e z o w a =
+-- a record with free entries, their number, nothing owed, no watcher and no Go that waits is sound, if an absent one has no host
+pub sound-free : (p : Process) → SizeRight (p .size) → p .breaks ≡ noBreaks → p .number ≡ 0 → owes (p .session .owed) ≡ false → p .session .watcher ≡ 0
+    → p .session .go .waits ≡ false → (p .there ≡ false → p .host ≡ 0) → Sound p
+sound-free p n e z o w g a =
     let none : NoBreakpoints p = λ k h. rw e (no-entry k h) in
     let never : (k : ℕ) → k < 8 → inUse (entry p k) ≡ true → ⊥ = λ k h u. true≢false (sym u ∙ none k h) in
     record {
@@ -164,6 +195,7 @@ sound-free p n e z o w a =
       lifted-while = λ k h u x. absurd (never k h u);
       owed = λ i. absurd (true≢false (sym i ∙ o));
       watched = λ i. absurd (i w);
+      waiting = λ i. absurd (true≢false (sym i ∙ g));
       set-by = λ k h u. absurd (never k h u);
       counted = rw (z, e) (sym count-none);
     }
@@ -196,6 +228,7 @@ sound-alike bs p a n s = record {
   lifted-while = λ k h u x. s .lifted-while k h (sym (a k h .used) ∙ u) (sym (a k h .lifted) ∙ x);
   owed = s .owed;
   watched = s .watched;
+  waiting = s .waiting;
   set-by = λ k h u. rw (a k h .setter) (s .set-by k h (sym (a k h .used) ∙ u));
   counted = s .counted ∙ sym n;
 }
@@ -230,6 +263,7 @@ module _ (bs : List Breakpoint) (p : Process) (same : (k : ℕ) → k < 8 → in
     lifted-while = λ k h u. rw (same k h u) (s .lifted-while k h (was-used k h u));
     owed = s .owed;
     watched = s .watched;
+    waiting = s .waiting;
     set-by = λ k h u. rw (same k h u) (s .set-by k h (was-used k h u));
     counted = refl;
   }
@@ -334,6 +368,7 @@ module _ (p : Process) (s : Sound p) (eight : length (p .breaks) ≡ 8) (k : ℕ
     lifted-while = λ j l u. kept-at j l u .lifted-while;
     owed = s .owed;
     watched = s .watched;
+    waiting = s .waiting;
     set-by = λ j l u. kept-at j l u .set-by;
     counted = q;
   }

@@ -11,7 +11,7 @@ use Rattle.lists.specs.Every.{below}
 use Rattle.lists.proofs.Bool.{&&-left, &&-right, &&-both}
 use Rattle.lists.proofs.Every.{below-at, below-all}
 use Rattle.session.specs.Session.{sessionSound}
-use Rattle.session.proofs.SessionLaws.{owed-host, watcher-other, session-passes}
+use Rattle.session.proofs.SessionLaws.{owed-host, watcher-other, go-waits, session-passes}
 use Rattle.process.specs.declared.record.Process.{Process}
 use Rattle.breakpoints.specs.declared.entry_query.EntryQuery.the-variants.{Lifted, At}
 use Rattle.process.specs.Sizes.{validSize}
@@ -124,6 +124,7 @@ module _ (p : Process) (s : soundTest p ≡ true) where
     lifted-while = lifted-while;
     owed = owed-host (p .host) (p .session) session-sound;
     watched = watcher-other (p .host) (p .session) session-sound;
+    waiting = go-waits (p .host) (p .session) session-sound;
     set-by = set-by;
     counted = eqb-true _ _ (&&-left (eqb (p .number) (countUsed (p .breaks))) _ number-and-entries);
   }
@@ -197,7 +198,7 @@ module _ (p : Process) (eight : length (p .breaks) ≡ 8) (s : Sound p) where
   unfolding soundTest keepsRules absentHasNoHost validSize
   sound-passes =
       let n = s .sized in
-      rw (eq-eqb _ _ (n .even), le-leb _ _ (n .least), le-leb _ _ (n .most), session-passes (p .host) (p .session) (s .owed) (s .watched), eq-eqb _ _ (s .counted), below-all (entrySound p) 8 entry-sound) (go (p .there) refl)
+      rw (eq-eqb _ _ (n .even), le-leb _ _ (n .least), le-leb _ _ (n .most), session-passes (p .host) (p .session) (s .owed) (s .watched) (s .waiting), eq-eqb _ _ (s .counted), below-all (entrySound p) 8 entry-sound) (go (p .there) refl)
     where
       go : (t : Bool) → p .there ≡ t → (t || eqb (p .host) 0) && true ≡ true
       go true e = refl

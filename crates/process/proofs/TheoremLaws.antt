@@ -10,18 +10,19 @@ use borrow.Author.Tests.{ltb-true, ltb-false, eqb-true, eqb-false}
 use lib.ListN.{length, take, drop, getD, set, getD-replicate}
 use lib.Seq.{paste, set-comm, set-set, getD-set-same, getD-set-other}
 use lib.Dec.{ltb, eqb}
+use Rattle.lists.specs.Word.{low, high}
 use Rattle.lists.proofs.Buffer.{part-paste, getD-paste-before, getD-paste-behind}
 use Rattle.breakpoints.specs.declared.entry.Breakpoint.{Breakpoint}
 use Rattle.process.specs.declared.record.Process.{Process}
 use Rattle.run_state.specs.declared.Run.{Run}
 use Rattle.run_state.specs.declared.Run.the-variants.{Running, Stepping, Stopped, Passing}
 use Rattle.session.specs.declared.Owed.the-variants.{Nothing, Continue, Step}
-use Rattle.session.specs.Session.{textHost, noSession}
+use Rattle.session.specs.Session.{textHost, pupHost, noSession, noGo, newGo, tickedGo, waitsFor, answersGo, isLastTick}
 use Rattle.process.specs.declared.report.Verdict.{Verdict}
 use Rattle.process.specs.declared.report.Verdict.the-variants.{Stops, CountsDown, GoesOn}
 use Rattle.breakpoints.specs.declared.entry_query.EntryQuery.the-variants.{Free, At}
 use Rattle.breakpoints.specs.Entry.{free, breakpointAt, withCount, inUse}
-use Rattle.process.specs.Record.{entry, fresh, emptied, recounted, withHost, withRun, withVector, withSession, withEntry}
+use Rattle.process.specs.Record.{entry, fresh, emptied, recounted, withHost, withRun, withVector, withSession, withEntry, going}
 use Rattle.process.specs.Find.{find}
 use Rattle.process.specs.Sound.{Sound, SizeRight, DebugsOrWatches}
 use Rattle.run_state.specs.RunState.{moving, steppingOrPassing, stoppedOrAtBreak, atBreak, released, afterPass, accepts, runAfter}
@@ -30,12 +31,13 @@ use Rattle.process.specs.Local.{Local, local, extent, Proper}
 use Rattle.process.specs.Planting.{plantedIn, liftedIn, removedFrom, replanted, liftedAt}
 use Rattle.process.specs.Request.{pc, onRecord, hasBreak, hasRoom, endDebugged, broughtToStop, stopped, resumed, stepped, proceeded, goingTo, wentOn, continued, steppedFrom, examined, toBeSeen, deposited, breakSet, breakRemoved, created, cleared}
 use Rattle.process.specs.Report.{storeVectorAndReplant, verdictOf, passed, carriedOut, reported}
+use Rattle.process.specs.Packet.{goOf, withoutGo, goAsked, goEnded, goReplied, ticked, wordStored}
 use Rattle.process.specs.Theorems.{seenOf, DepositIsSeen, SeenStays, EndDebugRestores, StoreIsUnseen, RunningIsPlanted, SoundStays}
 use Rattle.run_state.proofs.RunLaws.{stoppedOrAtBreak-still, atBreak-stopped, after-pass-lifts, accepts-moves}
 use Rattle.process.proofs.FindLaws.{matches-at, find-matches, find-before, at-matches}
 use Rattle.breakpoints.proofs.SeenLaws.{length-seen, restored-planted}
 use Rattle.process.proofs.DepositLaws.{sheltered-seen, map-alike, count-saved}
-use Rattle.process.proofs.SoundLaws.{sound-vector, sound-run, sound-owing, sound-watched, sound-host, sound-free, sound-alike}
+use Rattle.process.proofs.SoundLaws.{sound-vector, sound-run, sound-owing, sound-going, sound-watched, sound-host, sound-free, sound-alike}
 use Rattle.process.proofs.PlantingLaws.{length-entry, run-replanted}
 use Rattle.process.proofs.KeptLaws.{same-host, shape-stepped, shape-wentOn}
 use Rattle.process.proofs.SoundTestLaws.{sound-passes}
@@ -67,6 +69,10 @@ unfolding examined
 read-back at string l g h =
     ap (λ (m : List ℕ). take (length string) (drop at m)) (whole at string l g) ∙ part-paste at string (seenOf l) (room at string l g h)
 
+word-back : (first v : ℕ) (l : Local) → Proper l → first + 2 ≤ length (l .bytes) → examined first 2 (wordStored first v l) ≡ low v ∷ high v ∷ []
+unfolding examined wordStored
+word-back first v l g h = read-back first (low v ∷ high v ∷ []) l g h
+
 elsewhere : (at : ℕ) (string : List ℕ) (l : Local) (i : ℕ) → Proper l → at + length string ≤ length (l .bytes) → (i < at) ⊎ (at + length string ≤ i)
     → getD (seenOf (deposited at string l)) i 0 ≡ getD (seenOf l) i 0
 elsewhere at string l i g h o =
@@ -74,7 +80,7 @@ elsewhere at string l i g h o =
     ∙ ⊎-elim (getD-paste-before at string (seenOf l) (room at string l g h) i) (getD-paste-behind at string (seenOf l) (room at string l g h) i) o
 
 pub deposit-is-seen : DepositIsSeen
-deposit-is-seen = record { whole = whole; read-back = read-back; elsewhere = elsewhere }
+deposit-is-seen = record { whole = whole; read-back = read-back; word = word-back; elsewhere = elsewhere }
 
 -- ---- nothing else changes what is seen
 
@@ -238,7 +244,7 @@ running-is-planted p s r k h u = go (entry p k .lifted) refl
 end-debug-sound : (l : Local) → Proper l → Sound (endDebugged l .process)
 unfolding endDebugged
 end-debug-sound l g =
-    sound-free (withRun (released (l .process .run)) (withHost 0 (withSession noSession (emptied (l .process))))) (sound-of l g .sized) refl refl refl refl (λ t. refl)
+    sound-free (withRun (released (l .process .run)) (withHost 0 (withSession noSession (emptied (l .process))))) (sound-of l g .sized) refl refl refl refl refl (λ t. refl)
 
 halt-sound : (l : Local) → Proper l → Sound (broughtToStop l .process)
 unfolding broughtToStop
@@ -350,11 +356,11 @@ whole-size = record { even = refl; least = omega arith; most = omega arith }
 
 create-sound : (host size : ℕ) → SizeRight size → Sound (created host size .process)
 unfolding created fresh
-create-sound host size right = sound-free (fresh true host Stopped size) right refl refl refl refl (λ t. absurd (true≢false t))
+create-sound host size right = sound-free (fresh true host Stopped size) right refl refl refl refl refl (λ t. absurd (true≢false t))
 
 destroy-sound : Sound cleared
 unfolding cleared fresh
-destroy-sound = sound-free (fresh false 0 Running 4096) whole-size refl refl refl refl (λ t. refl)
+destroy-sound = sound-free (fresh false 0 Running 4096) whole-size refl refl refl refl refl (λ t. refl)
 
 -- ---- a report
 
@@ -409,6 +415,51 @@ report-sound kind words l g a = go (verdictOf kind (storeVectorAndReplant words 
         passed-sound k (storeVectorAndReplant words l) (counts-low kind (storeVectorAndReplant words l .process) k e) proper′ (counts-used kind (storeVectorAndReplant words l .process) (proper′ .eight) k e)
         (moves-stored words l (accepts-moves kind (l .process .run) a)) (none-stored words l g)
 
+-- packets and ticks
+
+abandon-go-sound : (p : Process) → Sound p → Sound (withoutGo p)
+abandon-go-sound p s = sound-going noGo p (λ w. absurd (true≢false (sym w))) s
+
+ask-go-sound : (id : ℕ) (p : Process) → Sound p → p .host ≡ pupHost → Sound (goAsked id p)
+unfolding goAsked
+ask-go-sound id p s h = go (waitsFor id (goOf p))
+  where
+    go : (t : Bool) → Sound (cond t p (going (newGo id) p))
+    go true = s
+    go false = sound-going (newGo id) p (λ w. (h, omega arith)) s
+
+end-go-sound : (p : Process) → Sound p → Sound (goEnded p)
+unfolding goEnded
+end-go-sound p s = go (stoppedOrAtBreak (p .run)) refl
+  where
+    go : (t : Bool) → stoppedOrAtBreak (p .run) ≡ t → Sound (cond t (withRun Running (withoutGo p)) (withoutGo p))
+    go true e = resume-sound (withoutGo p) (abandon-go-sound p s) e
+    go false e = abandon-go-sound p s
+
+reply-go-sound : (id : ℕ) (p : Process) → Sound p → Sound (goReplied id p)
+unfolding goReplied
+reply-go-sound id p s = go (answersGo id (goOf p))
+  where
+    go : (t : Bool) → Sound (cond t (goEnded p) (withoutGo p))
+    go true = end-go-sound p s
+    go false = abandon-go-sound p s
+
+tick-sound : (p : Process) → Sound p → Sound (ticked p)
+unfolding ticked isLastTick
+tick-sound p s = go (goOf p .waits) refl (eqb (goOf p .ticks) 99) refl
+  where
+    go : (t : Bool) → goOf p .waits ≡ t → (u : Bool) → eqb (goOf p .ticks) 99 ≡ u → Sound (cond t (cond u (goEnded p) (going (tickedGo (goOf p)) p)) p)
+    go true e true f = end-go-sound p s
+    go true e false f =
+        let w = s .waiting e in
+        let under : p .session .go .ticks + 1 ≤ 99 = omega (arith, w .1, eqb-false (p .session .go .ticks) 99 f) in
+        sound-going (tickedGo (goOf p)) p (λ i. (w .0, under)) s
+    go false e u f = s
+
+store-sound : (a v : ℕ) (l : Local) → Proper l → Sound (wordStored a v l .process)
+unfolding wordStored
+store-sound a v l g = abandon-go-sound _ (deposit-sound _ _ l g)
+
 pub sound-stays : SoundStays
 sound-stays = record {
   debug = λ host p s t n b. sound-host host p t n b s;
@@ -428,4 +479,9 @@ sound-stays = record {
   create = create-sound;
   destroy = destroy-sound;
   report = report-sound;
+  abandon-go = abandon-go-sound;
+  ask-go = ask-go-sound;
+  reply-go = reply-go-sound;
+  tick = tick-sound;
+  store = store-sound;
 }

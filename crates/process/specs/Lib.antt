@@ -7,4 +7,5 @@ pub mod Local
 pub mod Planting
 pub mod Request
 pub mod Report
+pub mod Packet
 pub mod Theorems

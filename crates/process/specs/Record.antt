@@ -5,8 +5,9 @@ use Prim.Native.Nat.{ℕ, suc}
 use lib.ListN.{getD, set, replicate}
 use Rattle.run_state.specs.declared.Run.{Run}
 use Rattle.session.specs.declared.Owed.{Owed}
+use Rattle.session.specs.declared.Go.{Go}
 use Rattle.session.specs.declared.Session.{Session}
-use Rattle.session.specs.Session.{noSession, withOwed, withWatcher}
+use Rattle.session.specs.Session.{noSession, withOwed, withWatcher, withGo}
 use Rattle.breakpoints.specs.declared.entry.Breakpoint.{Breakpoint}
 use Rattle.breakpoints.specs.Entry.{free, inUse}
 use Rattle.process.specs.declared.record.Process.{Process}
@@ -64,6 +65,10 @@ owing o p = withSession (withOwed o (p .session)) p
 -- with another watcher
 abbrev pub watchedBy : ℕ → Process → Process
 watchedBy host p = withSession (withWatcher host (p .session)) p
+
+-- with another Go
+abbrev pub going : Go → Process → Process
+going g p = withSession (withGo g (p .session)) p
 
 -- entry k of a process
 abbrev pub entry : Process → ℕ → Breakpoint

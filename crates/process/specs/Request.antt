@@ -71,7 +71,7 @@ abbrev pub debugged : ℕ → Local → Local
 debugged host = onRecord (withHost host)
 
 -- 'all breakpoints go, planted words put back; nobody debugs it'; 'STOP, END DEBUG and DESTROY cancel an owed answer'; 'END
--- DEBUG and DESTROY end the watch'
+-- DEBUG and DESTROY end the watch'; a waiting Go is abandoned, 'and so do END DEBUG and DESTROY'
 unfoldable pub endDebugged : Local → Local
 endDebugged l =
     local
@@ -197,6 +197,6 @@ created host size = local (fresh true host Stopped size) (replicate size 0)
 unfoldable pub cleared : Process
 cleared = fresh false 0 Running memoryBytes
 
--- 'the process is absent, its record cleared', and it has no bytes: 'END DEBUG and DESTROY end the watch'
+-- 'the process is absent, its record cleared', and it has no bytes: 'END DEBUG and DESTROY end the watch', and no Go waits
 abbrev pub destroyed : Local → Local
 destroyed l = local cleared []

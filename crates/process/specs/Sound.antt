@@ -6,7 +6,7 @@ use Prim.Native.Nat.{ℕ, _+_, _≤_, _<_, _%_}
 use lib.Dec.{eqb}
 use Rattle.lists.specs.Every.{below}
 use Rattle.run_state.specs.RunState.{steppingOrPassing}
-use Rattle.session.specs.Session.{textHost, owes, sessionSound}
+use Rattle.session.specs.Session.{textHost, pupHost, owes, sessionSound}
 use Rattle.process.specs.declared.record.Process.{Process}
 use Rattle.breakpoints.specs.declared.entry_query.EntryQuery.the-variants.{Lifted, At}
 use Rattle.breakpoints.specs.Entry.{validBreakAddress, inUse}
@@ -48,6 +48,8 @@ pub record Sound (p : Process) : Type 0 where
   pub owed : owes (p .session .owed) ≡ true → p .host ≡ textHost
   -- 'the one watcher of a process another host debugs'
   pub watched : (p .session .watcher ≡ 0 → ⊥) → (p .host ≡ 0 → ⊥) × (p .session .watcher ≡ p .host → ⊥)
+  -- 'A Go waits only while host 254 debugs the process, with at most 99 ticks counted; sound includes this.' (K1)
+  pub waiting : p .session .go .waits ≡ true → (p .host ≡ pupHost) × (p .session .go .ticks ≤ 99)
   -- 'who set a breakpoint debugs or watches its process'
   pub set-by : (k : ℕ) → k < entryCount → inUse (entry p k) ≡ true → DebugsOrWatches p (entry p k .setter)
   -- '2 covers a wrong stored number'

@@ -1,11 +1,12 @@
 -- The statements that the contracts of theorems.rt carry.
 use mathlib.Core.Path.{_≡_}
 use mathlib.Core.Bool.{true, false}
-use mathlib.Core.List.{List}
+use mathlib.Core.List.{List, [], _∷_}
 use mathlib.Core.Logic.{_⊎_}
 use Prim.Native.Nat.{ℕ, _+_, _≤_, _<_, _%_}
 use lib.ListN.{length, getD, set}
 use lib.Seq.{paste}
+use Rattle.lists.specs.Word.{low, high}
 use Rattle.breakpoints.specs.declared.entry.Breakpoint.{Breakpoint}
 use Rattle.process.specs.declared.record.Process.{Process}
 use Rattle.run_state.specs.declared.Run.the-variants.{Running}
@@ -16,9 +17,10 @@ use Rattle.breakpoints.specs.Entry.{isSetBy, inUse}
 use Rattle.breakpoints.specs.Seen.{isPlanted, seen}
 use Rattle.process.specs.Local.{Local, Proper}
 use Rattle.run_state.specs.RunState.{stoppedOrAtBreak, atBreak, accepts}
-use Rattle.session.specs.Session.{textHost}
+use Rattle.session.specs.Session.{textHost, pupHost}
 use Rattle.process.specs.Request.{hasBreak, hasRoom, endDebugged, endWatched, stopped, stepped, proceeded, continued, steppedFrom, examined, deposited, breakSet, breakRemoved, created, cleared}
 use Rattle.process.specs.Report.{reported}
+use Rattle.process.specs.Packet.{withoutGo, goAsked, goReplied, ticked, wordStored}
 
 -- the test passes exactly the sound records
 pub record TestIsSound : Type 0 where
@@ -34,6 +36,8 @@ pub record DepositIsSeen : Type 0 where
   pub whole : (at : ℕ) (string : List ℕ) (l : Local) → Proper l → seenOf (deposited at string l) ≡ paste (seenOf l) at string (length string)
   pub read-back : (at : ℕ) (string : List ℕ) (l : Local) → Proper l → at + length string ≤ length (l .bytes)
       → examined at (length string) (deposited at string l) ≡ string
+  -- a word that is stored is the word that is fetched, 'low first'
+  pub word : (first v : ℕ) (l : Local) → Proper l → first + 2 ≤ length (l .bytes) → examined first 2 (wordStored first v l) ≡ low v ∷ high v ∷ []
   pub elsewhere : (at : ℕ) (string : List ℕ) (l : Local) (i : ℕ) → Proper l → at + length string ≤ length (l .bytes) → (i < at) ⊎ (at + length string ≤ i)
       → getD (seenOf (deposited at string l)) i 0 ≡ getD (seenOf l) i 0
 
@@ -90,7 +94,7 @@ unfoldable pub RunningIsPlanted : Type 0
 RunningIsPlanted =
     (p : Process) → Sound p → p .run ≡ Running → (k : ℕ) → k < entryCount → inUse (entry p k) ≡ true → isPlanted (entry p k) ≡ true
 
--- a sound record stays sound, whatever a request or a report does to it
+-- a sound record stays sound, whatever a request, a report, a packet or a tick does to it
 pub record SoundStays : Type 0 where
   pub debug : (host : ℕ) (p : Process) → Sound p → p .there ≡ true → (host ≡ 0 → ⊥) → (p .host ≡ 0) ⊎ (p .host ≡ host) → Sound (withHost host p)
   pub end-debug : (l : Local) → Proper l → Sound (endDebugged l .process)
@@ -112,3 +116,8 @@ pub record SoundStays : Type 0 where
   pub create : (host size : ℕ) → SizeRight size → Sound (created host size .process)
   pub destroy : Sound cleared
   pub report : (kind : ℕ) (words : List ℕ) (l : Local) → Proper l → accepts kind (l .process .run) ≡ true → Sound (reported kind words l .process)
+  pub abandon-go : (p : Process) → Sound p → Sound (withoutGo p)
+  pub ask-go : (id : ℕ) (p : Process) → Sound p → p .host ≡ pupHost → Sound (goAsked id p)
+  pub reply-go : (id : ℕ) (p : Process) → Sound p → Sound (goReplied id p)
+  pub tick : (p : Process) → Sound p → Sound (ticked p)
+  pub store : (first v : ℕ) (l : Local) → Proper l → Sound (wordStored first v l .process)

@@ -4,6 +4,7 @@ mod debug_requests;
 mod existence;
 mod find;
 mod memory_requests;
+mod packet_requests;
 mod planting;
 mod record;
 mod report;

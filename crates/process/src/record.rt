@@ -1,12 +1,13 @@
 // The process record. Whatever makes a record or writes one anew stands in this file, so that a new field changes it alone.
 use breakpoints::Breakpoint;
 use run_state::Run;
+use session::Go;
 use session::Owed;
 use session::Session;
 ghost use mathlib.Core.Path.{_≡_};
 ghost use Prim.Native.Nat.{_<_};
 ghost use Rattle.process.specs.Sizes.{entryCount};
-ghost use Rattle.process.specs.Record.{fresh, withRun, withHost, withVector, withEntry, emptied, withNumber, withSession, owing, watchedBy};
+ghost use Rattle.process.specs.Record.{fresh, withRun, withHost, withVector, withEntry, emptied, withNumber, withSession, owing, watchedBy, going};
 ghost use Rattle.session.specs.Session.{noSession};
 ghost use Rattle.process.specs.Request.{pc};
 
@@ -110,6 +111,15 @@ impl Process {
     {
         let session = self.session;
         self.session = session.with_owed(owed);
+        self
+    }
+
+    // With another Go.
+    pub(crate) fn going(mut self, go: Go) -> Self
+        ensures { λ r. ⌜ r ≡ going go self ⌝ }
+    {
+        let session = self.session;
+        self.session = session.with_go(go);
         self
     }
 

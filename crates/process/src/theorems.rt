@@ -37,7 +37,7 @@ pub fn running_is_planted()
     ensures { λ _. ⌜ RunningIsPlanted ⌝ }
 {}
 
-// A sound record stays sound under every request and report.
+// A sound record stays sound under every request, report, packet and tick.
 pub fn sound_stays()
     ensures { λ _. ⌜ SoundStays ⌝ }
 {}

@@ -5,7 +5,7 @@ use Prim.Native.Nat.{ℕ}
 use lib.ListN.{length}
 use lib.Dec.{eqb, ltb}
 use Rattle.recording.specs.declared.command.Command.{Command}
-use Rattle.recording.specs.declared.command.Command.the-variants.{Start, Request, Report, Store, Memory, Whole, Process, Text, Raw, Unknown}
+use Rattle.recording.specs.declared.command.Command.the-variants.{Start, Request, Report, Store, Memory, Whole, Process, Packet, Tick, Text, Raw, Unknown}
 
 -- a line begins with this text
 unfoldable pub begins : List ℕ → List ℕ → Bool
@@ -41,6 +41,14 @@ wholeWord = 119 ∷ 104 ∷ 111 ∷ 108 ∷ 101 ∷ []
 abbrev pub processWord : List ℕ
 processWord = 112 ∷ 114 ∷ 111 ∷ 99 ∷ 101 ∷ 115 ∷ 115 ∷ []
 
+-- `packet`
+abbrev pub packetWord : List ℕ
+packetWord = 112 ∷ 97 ∷ 99 ∷ 107 ∷ 101 ∷ 116 ∷ []
+
+-- `tick`
+abbrev pub tickWord : List ℕ
+tickWord = 116 ∷ 105 ∷ 99 ∷ 107 ∷ []
+
 -- `line` and a blank
 abbrev pub lineWord : List ℕ
 lineWord = 108 ∷ 105 ∷ 110 ∷ 101 ∷ 32 ∷ []
@@ -65,7 +73,9 @@ shortCommand line =
     (cond (begins storeWord line) Store
     (cond (begins memoryWord line) Memory
     (cond (begins wholeWord line) Whole
-    (cond (begins processWord line) Process Unknown)))))
+    (cond (begins processWord line) Process
+    (cond (begins packetWord line) Packet
+    (cond (begins tickWord line) Tick Unknown)))))))
 
 -- a line of any length, which stands for bytes; else another
 unfoldable pub anyLength : List ℕ → Command → Command

@@ -11,9 +11,10 @@ use Rattle.lines.specs.Scan.{after, bytesOf}
 use Rattle.calls.specs.declared.text.Shown.{Shown}
 use Rattle.calls.specs.declared.text.Shown.the-variants.{Recorded, Alone}
 use Rattle.calls.specs.Effect.{Effect}
-use Rattle.calls.specs.Meaning.{unknownEffect, requestEffect, reportEffect, textEffect, rawEffect, startEffect, storeEffect, memoryEffect, wholeMemoryEffect, processEffect}
+use Rattle.calls.specs.Listing.{noDoor}
+use Rattle.calls.specs.Meaning.{unknownEffect, requestEffect, reportEffect, textEffect, rawEffect, startEffect, storeEffect, memoryEffect, wholeMemoryEffect, processEffect, packetEffect, tickEffect}
 use Rattle.recording.specs.declared.command.Command.{Command}
-use Rattle.recording.specs.declared.command.Command.the-variants.{Start, Request, Report, Store, Memory, Whole, Process, Text, Raw, Unknown}
+use Rattle.recording.specs.declared.command.Command.the-variants.{Start, Request, Report, Store, Memory, Whole, Process, Packet, Tick, Text, Raw, Unknown}
 use Rattle.recording.specs.declared.language.Language.{Language}
 use Rattle.recording.specs.declared.language.Language.the-variants.{Bench, Recording, TextDoor}
 use Rattle.recording.specs.Command.{begins, rawWord, textWord, commandOf}
@@ -34,9 +35,9 @@ thereAt Bench = false ∷ false ∷ true ∷ false ∷ false ∷ false ∷ false
 thereAt Recording = replicate 8 false
 thereAt TextDoor = replicate 8 false
 
--- the bytes of the state before the first line: what is there has 4,096 bytes
+-- the bytes of the state before the first line: what is there has 4,096 bytes, and no process is that of the Pup door
 unfoldable pub firstState : Language → List ℕ → List ℕ
-firstState l s = startOn (thereAt l) (replicate 8 memoryBytes) s .state
+firstState l s = startOn (thereAt l) (replicate 8 memoryBytes) noDoor s .state
 
 -- what a line of a recording with this word does: phase is where its pairs led, and s and m are state and memory
 module _ (shown : Shown) (phase : Phase) (line s m : List ℕ) where
@@ -49,6 +50,8 @@ module _ (shown : Shown) (phase : Phase) (line s m : List ℕ) where
   commandEffect Memory = memoryEffect line s m
   commandEffect Whole = wholeMemoryEffect line s m
   commandEffect Process = processEffect line s m
+  commandEffect Packet = packetEffect line s m
+  commandEffect Tick = tickEffect line s m
   commandEffect Text = textEffect Recorded (drop 5 line) s m
   commandEffect Raw = rawEffect phase (bytesOf Open (drop 4 line)) s m
   commandEffect Unknown = unknownEffect s m

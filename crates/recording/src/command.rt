@@ -12,6 +12,8 @@ pub enum Command {
     Memory,
     Whole,
     Process,
+    Packet,
+    Tick,
     Text,
     Raw,
     Unknown,
@@ -55,6 +57,12 @@ fn short_command(line: &[u8]) -> Command
     }
     if begins(line, b"process") {
         return Command::Process;
+    }
+    if begins(line, b"packet") {
+        return Command::Packet;
+    }
+    if begins(line, b"tick") {
+        return Command::Tick;
     }
     Command::Unknown
 }

@@ -1,5 +1,6 @@
 // The three languages.
 use crate::command::begins;
+use calls::NO_DOOR;
 use calls::STATE;
 use gateway::fresh_start;
 use process::MEMORY_BYTES;
@@ -47,9 +48,9 @@ impl Language {
     }
 }
 
-// Writes the state before the first line: what is there has 4,096 bytes.
+// Writes the state before the first line: what is there has 4,096 bytes, and no process is that of the Pup door.
 pub fn begin(language: Language, state: &mut [u8; STATE])
     ensures { λ _. ⌜ now (state .exit) ≡ firstState language (now (state .entry)) ⌝ }
 {
-    fresh_start(language.there(), [MEMORY_BYTES as u16; 8], state);
+    fresh_start(language.there(), [MEMORY_BYTES as u16; 8], NO_DOOR, state);
 }

@@ -7,6 +7,7 @@ use calls::MEMORY;
 use calls::STATE;
 use calls::Shown;
 use calls::answer_memory;
+use calls::answer_packet;
 use calls::answer_process;
 use calls::answer_raw;
 use calls::answer_report;
@@ -14,6 +15,7 @@ use calls::answer_request;
 use calls::answer_start;
 use calls::answer_store;
 use calls::answer_text;
+use calls::answer_tick;
 use calls::answer_unknown;
 use calls::answer_whole;
 use lines::Phase;
@@ -47,6 +49,8 @@ fn answer_command(
         Command::Memory => answer_memory(state, memory, line, out),
         Command::Whole => answer_whole(state, memory, line, out),
         Command::Process => answer_process(state, memory, line, out),
+        Command::Packet => answer_packet(state, memory, line, out),
+        Command::Tick => answer_tick(state, memory, line, out),
         Command::Text => answer_text(Shown::Recorded, state, memory, &line[text..], out),
         Command::Raw => answer_raw(phase, state, memory, &line[raw..], out),
         Command::Unknown => answer_unknown(state, memory, out),

@@ -33,8 +33,8 @@ use Rattle.rules.specs.Watch.{GrantedRequest, breakOf, SameBreakpoint, C
 use Rattle.rules.proofs.StateLaws.{each-sound, local-proper}
 use Rattle.rules.proofs.RuleLaws.{insider-in}
 use Rattle.rules.proofs.StepLaws.{step-ready}
-use Rattle.rules.proofs.PlaceLaws.{Reach, passesBy, asks, makes, tells, puts, says, reach, Named, named}
-use Rattle.rules.proofs.BreakRowLaws.{Made, kept, recounted, unbroken, unwatched, ended, rule-entries, letter-entries, Passed, report-entry}
+use Rattle.rules.proofs.PlaceLaws.{Reach, passesBy, asks, makes, tells, puts, says, sends, ticks, reach, Named, named}
+use Rattle.rules.proofs.BreakRowLaws.{Made, kept, recounted, unbroken, unwatched, ended, rule-entries, letter-entries, packet-entries, ticked-entries, Passed, report-entry}
 use Rattle.rules.proofs.WatchLaws.{turns, apart, stays-unwatched, seller}
 use Rattle.rules.proofs.WatchLaws.{kept as watch-kept}
 use Rattle.rules.proofs.LookLaws.{looks-only}
@@ -123,6 +123,8 @@ module _ (s : State) (r : Ready s) (c : Call) (p k : ℕ) (low : p < 8) (in-list
       go (tells is granted e) = told-lives is granted e (report-entry (kindOf c) (wordsOf c) (localOf s p) (local-proper s r p low) k)
       go (puts a v none e) = same-left _ e (same-entry before)
       go (says x w passing e) = same-left _ e (letter-entries (x .letter) x (localOf s p) k)
+      go (sends kind id words w passing e) = same-left _ e (packet-entries kind id words (localOf s p) k)
+      go (ticks none e) = same-left _ e (ticked-entries (localOf s p) k)
 
   -- ---- a call that removes it
 

@@ -1,4 +1,4 @@
--- What each row of the rules makes of a breakpoint: those of the op codes, those of the letters, and a report. Assumes nothing.
+-- What each row of the rules makes of a breakpoint: those of the op codes, those of the letters and of the packets, a tick, and a report. Assumes nothing.
 use mathlib.Core.Path.{_≡_, refl, sym, ap, _∙_, subst}
 use mathlib.Core.Bool.{Bool, true, false, _||_, true≢false}
 use mathlib.Core.List.{List}
@@ -27,14 +27,18 @@ use Rattle.process.specs.Find.{find}
 use Rattle.process.specs.Local.{Local, Proper}
 use Rattle.process.specs.Request.{pc, hasBreak, hasRoom, hasRoomFor, isHis}
 use Rattle.process.specs.Report.{storeVectorAndReplant, passes, verdictOf, reported}
+use Rattle.process.specs.Packet.{ticked, wordStored}
+use Rattle.packets.specs.Types.{STORE, FETCH, GO}
 use Rattle.process.proofs.FindLaws.{matches-at, find-matches}
 use Rattle.process.proofs.EntryLaws.{entry-there, entry-new}
 use Rattle.process.proofs.ReportLaws.{Counts, counts, passes-found}
 use Rattle.process.proofs.EntryKept.{SameBreak, SameEntry, CountedDown, same-entry, EntriesKept, stopped-kept, stepped-kept, proceeded-kept, continued-kept, stepped-from-kept, deposited-kept, reported-kept, reported-counts, break-other, break-counts, free-before, removed-other, removed-freed, end-watched-freed, end-watched-kept, end-debugged-freed, cleared-freed}
 use Rattle.rules.specs.Rule.{public, Rule, rules, breakRule, unbreakRule, endWatchRule, ruleOf}
 use Rattle.rules.specs.TextRule.{TextRule, textRuleOf}
+use Rattle.rules.specs.PacketRule.{PacketRule, packetRowOf}
 use Rattle.rules.proofs.RuleLaws.{Passing, Each, each-rule}
 use Rattle.rules.proofs.NumberLaws.{by-test}
+use Rattle.rules.proofs.PacketLaws.{plain-asked, plain-replied, plain-ticked}
 use Rattle.rules.proofs.LapLaws.{stored-eight, stored-pc}
 
 -- ---- op codes
@@ -195,6 +199,23 @@ letter-entries letter x l =
   where
     All : TextRule → Type 0
     All r = EntriesKept (r .effect x l .process) (l .process)
+
+-- ---- packets and ticks
+
+-- so does every type of packet
+pub packet-entries : (kind id : ℕ) (words : List ℕ) (l : Local) → EntriesKept (packetRowOf kind .effect id words l .process) (l .process)
+unfolding packetRowOf wordStored
+packet-entries kind id words l =
+    by-test All (eqb kind STORE) (λ e. deposited-kept _ _ l)
+    (λ e. by-test All (eqb kind FETCH) (λ i k. same-entry _)
+    (λ i. by-test All (eqb kind GO) (λ j k. rw (plain-asked id (l .process) .breaks) (same-entry _)) (λ j k. rw (plain-replied id (l .process) .breaks) (same-entry _))))
+  where
+    All : PacketRule → Type 0
+    All r = EntriesKept (r .effect id words l .process) (l .process)
+
+-- and a tick
+pub ticked-entries : (l : Local) → EntriesKept (ticked (l .process)) (l .process)
+ticked-entries l k = rw (plain-ticked (l .process) .breaks) (same-entry _)
 
 -- ---- a report
 

@@ -9,6 +9,7 @@ pub mod CallLaws
 pub mod RequestLaws
 pub mod ReportLaws
 pub mod TextLaws
+pub mod PacketLaws
 pub mod LawfulLaws
 pub mod StepLaws
 pub mod DebuggerLaws
@@ -35,3 +36,4 @@ pub mod LookLaws
 pub mod ToldLaws
 pub mod BreakLifeLaws
 pub mod StatusLaws
+pub mod WaitingLaws

@@ -16,7 +16,8 @@ use Rattle.format.specs.declared.header.Header.{Header}
 use Rattle.fields.specs.declared.read.Line.{Line}
 use Rattle.fields.specs.Letters.{READ-CODE, READ-DATA, WRITE-CODE, WRITE-DATA, READ-REGISTER, WRITE-REGISTER, CONTINUE}
 use Rattle.breakpoints.specs.Entry.{validBreakAddress}
-use Rattle.session.specs.Session.{textHost}
+use Rattle.session.specs.Session.{textHost, pupHost}
+use Rattle.packets.specs.Types.{STORE, FETCH, GO}
 use Rattle.process.specs.declared.record.Process.{Process}
 use Rattle.process.specs.Local.{Local, Proper}
 use Rattle.process.specs.Request.{hasBreak, hasRoom, hasRoomFor, endWatched, continued, steppedFrom, breakSet, breakRemoved}
@@ -25,6 +26,7 @@ use Rattle.process.proofs.KeptLaws.{Going, going, going-endWatched, going-break
 use Rattle.process.proofs.TheoremLaws.{seen-stays}
 use Rattle.rules.specs.Rule.{Public, public, Rule, rules, breakRule, holds, ruleOf}
 use Rattle.rules.specs.TextRule.{TextRule, readWordRule, writeWordRule, readRegisterRule, writeRegisterRule, goRule, textRuleOf}
+use Rattle.rules.specs.PacketRule.{PacketRule, storeRow, fetchRow, goRow, goReplyRow, packetRowOf}
 use Rattle.rules.specs.Tests.{State, recordOf}
 use Rattle.rules.specs.Access.{Asker, nobody, by}
 use Rattle.rules.specs.Step.{Call, localOf, step}
@@ -36,7 +38,8 @@ use Rattle.rules.proofs.StateLaws.{each-sound, local-proper}
 use Rattle.rules.proofs.NumberLaws.{by-test}
 use Rattle.rules.proofs.RuleLaws.{Passing, alone, room-or, Each, each-rule}
 use Rattle.rules.proofs.TextLaws.{Passing as TextPassing}
-use Rattle.rules.proofs.PlaceLaws.{Reach, passesBy, asks, makes, tells, puts, says, reach}
+use Rattle.rules.proofs.PacketLaws.{Passing as PacketPassing}
+use Rattle.rules.proofs.PlaceLaws.{Reach, passesBy, asks, makes, tells, puts, says, sends, ticks, reach}
 use Rattle.rules.proofs.StepLaws.{step-ready}
 use Rattle.rules.proofs.RightsLaws.{rights}
 use Rattle.rules.proofs.WatchLaws.{turns, apart}
@@ -158,6 +161,28 @@ letter-looks letter =
     (λ j. by-test LetterLook (eqb letter WRITE-REGISTER) (λ n. held writeRegisterRule (λ u q. q))
     (λ n. by-test LetterLook (eqb letter CONTINUE) (λ c. held (goRule continued) (λ u q. q)) (λ c. held (goRule steppedFrom) (λ u q. q))))))
 
+-- ---- packets
+
+-- so a granted packet with this row
+record PacketLook (r : PacketRule) : Type 0 where
+  looks : (id : ℕ) (words : List ℕ) (l : Local) → PacketPassing r words (l .process) → Another pupHost (l .process) → Looked (r .effect id words l) l
+
+-- a Fetch
+fetching : PacketLook fetchRow
+fetching = record { looks = λ id words l p a. (refl, (refl, refl)) }
+
+-- every other type asks who debugs
+debugged-by : (r : PacketRule) → ((u : Public) → r .right u ≡ true → holds u pupHost ≡ true) → PacketLook r
+unfolding public
+debugged-by r right = record { looks = λ id words l p a. absurd (a .other (eqb-true _ pupHost (right (public (l .process)) (p .right)))) }
+
+packet-looks : (kind : ℕ) → PacketLook (packetRowOf kind)
+unfolding packetRowOf
+packet-looks kind =
+    by-test PacketLook (eqb kind STORE) (λ e. debugged-by storeRow (λ u q. q))
+    (λ e. by-test PacketLook (eqb kind FETCH) (λ i. fetching)
+    (λ i. by-test PacketLook (eqb kind GO) (λ j. debugged-by goRow (λ u q. q)) (λ j. debugged-by goReplyRow (λ u q. q))))
+
 -- ---- any call
 
 -- who asks is one host
@@ -223,3 +248,5 @@ looks-only s r c host p low named by-him w = go (reach s r c p low)
     go (tells is granted e) = absurd (nobody-asks (asker c) host by-him (ap asker is))
     go (puts a v none e) = absurd (nobody-asks (asker c) host by-him none)
     go (says x line-asks passing e) = left _ e (letter-looks (x .letter) .looks x (localOf s p) passing (another textHost line-asks))
+    go (sends kind id words packet-asks passing e) = left _ e (packet-looks kind .looks id words (localOf s p) passing (another pupHost packet-asks))
+    go (ticks none e) = absurd (nobody-asks (asker c) host by-him none)

@@ -31,10 +31,10 @@ use Rattle.process.proofs.AnswerLaws.{none-owed-nothing, stops-owes, stops-stil
 use Rattle.state.specs.Records.{lowestAbsent}
 use Rattle.rules.specs.Rule.{ruleOf, names, creates}
 use Rattle.rules.specs.TextRule.{textRuleOf}
-use Rattle.rules.specs.Tests.{State, recordOf, requestNumber, badReport, textNumber}
+use Rattle.rules.specs.Tests.{State, recordOf, requestNumber, badReport, textNumber, packetNumber}
 use Rattle.rules.specs.Access.{alone, Access, numberAt, grants}
-use Rattle.rules.specs.Step.{StepResult, localOf, granted, grantedNamed, grantedCreate, refused, requestStep, textStep, Call, request, report, store, textLine, step}
-use Rattle.rules.specs.Turn.{ruleAccess, createAccess, requestPlace, requestTurn, reportAccess, storeAccess, storeTurn, textAccess, textTurn, turnOf, buffersOf}
+use Rattle.rules.specs.Step.{StepResult, localOf, granted, grantedNamed, grantedCreate, refused, requestStep, textStep, packetStep, tickStep, Call, request, report, store, textLine, packet, tick, step}
+use Rattle.rules.specs.Turn.{ruleAccess, createAccess, requestPlace, requestTurn, reportAccess, storeAccess, storeTurn, textAccess, textTurn, packetAccess, tickAccess, tickTurn, turnOf, buffersOf}
 use Rattle.rules.specs.Ready.{Ready}
 use Rattle.rules.specs.Isolation.{namesOne, subject, fieldsOf}
 use Rattle.rules.specs.Outsider.{only}
@@ -45,7 +45,8 @@ use Rattle.rules.proofs.NumberLaws.{by-test, orElse-zero}
 use Rattle.rules.proofs.AccessLaws.{outerNumber}
 use Rattle.rules.proofs.RequestLaws.{lowest-absent}
 use Rattle.rules.proofs.StepLaws.{step-ready}
-use Rattle.rules.proofs.PlaceLaws.{Refused, Acted, Reached, came, acted-granted, acted-line, acted-here, acted-else, report-accepted, report-came}
+use Rattle.rules.proofs.PlaceLaws.{Refused, Acted, Reached, came, acted-granted, acted-line, acted-here, acted-else, report-accepted, report-came, packet-came, tick-came}
+use Rattle.rules.proofs.PacketLaws.{packet-row, plain-ticked}
 use Rattle.rules.proofs.OwedRowLaws.{owedIn, absent-owes, rule-owed, Keeps, Later, letter-owed, later-owed, later-silent, no-line, answer-or}
 
 -- ---- what one call does to the answer that process p owes
@@ -70,6 +71,8 @@ cancels-pid (request m buffer) q e k =
 cancels-pid (report p kind reason words buffer line) q e k = absurd (true≢false (sym k))
 cancels-pid (store p a v) q e k = absurd (true≢false (sym k))
 cancels-pid (textLine text buffer) q e k = absurd (true≢false (sym k))
+cancels-pid (packet door kind id words buffer) q e k = absurd (true≢false (sym k))
+cancels-pid (tick door) q e k = absurd (true≢false (sym k))
 
 -- an op code that cancels names a process
 cancels-names : (cmd : ℕ) → cancelling cmd ≡ true → names cmd ≡ true
@@ -299,6 +302,44 @@ module _ (s : State) (r : Ready s) (text buffer : List ℕ) where
       go (inl f) = absurd (true≢false (sym (y .granted) ∙ f .ungranted))
       go (inr x) = subst (λ (n : ℕ). Begun n o s lined) (y .named) (text-begun (x .1) o (y .later) (y .letter))
 
+-- ---- packets and ticks
+
+module _ (s : State) (r : Ready s) (door kind id : ℕ) (words buffer : List ℕ) where
+  abbrev packed : Call
+  packed = packet door kind id words buffer
+
+  packet-turned : (p : ℕ) → p < 8 → Turned p s (packet door kind id words buffer)
+  unfolding fieldsOf packetAccess
+  packet-turned p low = go (packet-came s r door kind id words buffer)
+    where
+      go : Refused s packed ⊎ Acted s packed door (packetAccess kind id words) → Turned p s packed
+      go (inl f) = refused-kept p s packed f
+      go (inr x) =
+          anywhere s r packed _ _ x
+          (keeps (λ y. let e = y .is in let z : _≡_ {A = ℕ} 0 1 = cc in omega arith) (λ y. true≢false (sym (y .op))) (λ i. acted-line s r packed _ _ x)
+          (acted-owes s r packed _ _ x ∙ packet-row kind .owed id words (localOf s door))) p low
+
+module _ (s : State) (r : Ready s) (door : ℕ) where
+  tick-silent : (p : ℕ) → step s (tick door) .answer .lineLength ≡ 0 → owedAt (step s (tick door) .after) p ≡ owedAt s p → Turned p s (tick door)
+  unfolding fieldsOf
+  tick-silent p silent same =
+      keeps (λ y. let e = y .is in let z : _≡_ {A = ℕ} 0 1 = cc in omega arith) (λ y. true≢false (sym (y .op))) (λ i. silent) same
+
+  tick-turned : (p : ℕ) → p < 8 → Turned p s (tick door)
+  unfolding turnOf tickTurn tickAccess Reached
+  tick-turned p low = go (tick-came s r door)
+    where
+      placed : (t : Bool) → ltb door 8 ≡ t → Reached s (tick door) (turnOf s (tick door) .place) → Turned p s (tick door)
+      placed true e x =
+          let y = rw e at x in
+          anywhere s r (tick door) _ _ y
+          (tick-silent door (acted-line s r (tick door) _ _ y) (acted-owes s r (tick door) _ _ y ∙ plain-ticked (recordOf s door) .owed)) p low
+      placed false e x = let y = rw e at x in tick-silent p (rw y) (rw y)
+
+      go : Refused s (tick door) ⊎ Reached s (tick door) (turnOf s (tick door) .place) → Turned p s (tick door)
+      go (inl f) = refused-kept p s (tick door) f
+      go (inr x) = placed (ltb door 8) refl x
+
 -- ---- any call
 
 turned : (s : State) → Ready s → (c : Call) (p : ℕ) → p < 8 → Turned p s c
@@ -306,12 +347,16 @@ turned s r (request m buffer) = request-turned s r m buffer
 turned s r (report q kind reason words buffer line) = report-turned s r q kind reason words buffer line
 turned s r (store q a v) = store-turned s r q a v
 turned s r (textLine text buffer) = text-turned s r text buffer
+turned s r (packet door kind id words buffer) = packet-turned s r door kind id words buffer
+turned s r (tick door) = tick-turned s r door
 
 begun : (s : State) → Ready s → (c : Call) (p : ℕ) (o : Owed) → Asks p o s c → Begun p o s c
 begun s r (request m buffer) p o y = absurd (let e = y .is in let z : _≡_ {A = ℕ} 0 1 = cc in omega arith)
 begun s r (report q kind reason words buffer line) p o y = absurd (let e = y .is in let z : _≡_ {A = ℕ} 0 1 = cc in omega arith)
 begun s r (store q a v) p o y = absurd (let e = y .is in let z : _≡_ {A = ℕ} 0 1 = cc in omega arith)
 begun s r (textLine text buffer) p o y = line-asked s r text buffer p o y
+begun s r (packet door kind id words buffer) p o y = absurd (let e = y .is in let z : _≡_ {A = ℕ} 0 1 = cc in omega arith)
+begun s r (tick door) p o y = absurd (let e = y .is in let z : _≡_ {A = ℕ} 0 1 = cc in omega arith)
 
 -- ---- lists
 
@@ -384,12 +429,23 @@ text-sends : (s : State) (text buffer : List ℕ) → textStep text buffer s .an
 unfolding textStep
 text-sends s text buffer = by-test (λ (x : StepResult). x .answer .lineLength ≡ 0) (eqb (textNumber s text buffer) 0) (λ e. refl) (λ e. refl)
 
+packet-sends : (s : State) (door kind id : ℕ) (words buffer : List ℕ) → packetStep door kind id words buffer s .answer .lineLength ≡ 0
+unfolding packetStep
+packet-sends s door kind id words buffer =
+    by-test (λ (x : StepResult). x .answer .lineLength ≡ 0) (eqb (packetNumber s door kind words buffer) 0) (λ e. refl) (λ e. refl)
+
+tick-sends : (s : State) (door : ℕ) → tickStep door s .answer .lineLength ≡ 0
+unfolding tickStep
+tick-sends s door = refl
+
 only-owed : (s : State) → Ready s → (c : Call) → 0 < step s c .answer .lineLength → (p : ℕ) × Sender s c p
 unfolding step
 only-owed s r (request m buffer) sent = absurd (omega (arith, sent, request-sends s m buffer))
 only-owed s r (report q kind reason words buffer line) sent = report-only s r q kind reason words buffer line sent
 only-owed s r (store q a v) sent = absurd (omega (arith, sent))
 only-owed s r (textLine text buffer) sent = absurd (omega (arith, sent, text-sends s text buffer))
+only-owed s r (packet door kind id words buffer) sent = absurd (omega (arith, sent, packet-sends s door kind id words buffer))
+only-owed s r (tick door) sent = absurd (omega (arith, sent, tick-sends s door))
 
 -- ---- the theorem
 

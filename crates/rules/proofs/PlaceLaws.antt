@@ -15,15 +15,18 @@ use Rattle.format.proofs.OutcomeLaws.{first-passes, rest-passes, isGranted-outc
 use Rattle.fields.specs.declared.read.Line.{Line}
 use Rattle.fields.specs.Read.{lineOf}
 use Rattle.run_state.specs.RunState.{accepts}
-use Rattle.session.specs.Session.{textHost}
+use Rattle.session.specs.Session.{textHost, pupHost}
 use Rattle.process.specs.Local.{Local, local}
+use Rattle.process.specs.Request.{onRecord}
 use Rattle.process.specs.Report.{reported}
+use Rattle.process.specs.Packet.{ticked}
 use Rattle.rules.specs.Rule.{ruleOf, names, creates}
 use Rattle.rules.specs.TextRule.{textRuleOf}
+use Rattle.rules.specs.PacketRule.{packetRowOf}
 use Rattle.rules.specs.Tests.{State, recordOf, badReport}
 use Rattle.rules.specs.Access.{nobody, by, Access, Place, nowhere, atProcess, numberAt, grants, refuses, reached, taken}
-use Rattle.rules.specs.Step.{StepResult, localOf, put, Call, request, report, store, textLine, step}
-use Rattle.rules.specs.Turn.{ruleAccess, messageTests, placeTests, requestPlace, requestTurn, reportAccess, reportTurn, storeAccess, storeTurn, textAccess, textTurn, turnOf, buffersOf}
+use Rattle.rules.specs.Step.{StepResult, localOf, put, Call, request, report, store, textLine, packet, tick, step}
+use Rattle.rules.specs.Turn.{ruleAccess, messageTests, placeTests, requestPlace, requestTurn, reportAccess, reportTurn, storeAccess, storeTurn, textAccess, textTurn, packetAccess, packetTurn, tickAccess, tickTurn, turnOf, buffersOf}
 use Rattle.rules.specs.Ready.{Ready}
 use Rattle.rules.specs.Isolation.{asker, fieldsOf, isGranted}
 use Rattle.rules.specs.Loops.{wordsOf}
@@ -35,6 +38,8 @@ use Rattle.rules.proofs.RuleLaws.{Passing}
 use Rattle.rules.proofs.RequestLaws.{rule-passing, lowest-absent}
 use Rattle.rules.proofs.TextLaws.{text-passing}
 use Rattle.rules.proofs.TextLaws.{Passing as TextPassing}
+use Rattle.rules.proofs.PacketLaws.{packet-passing}
+use Rattle.rules.proofs.PacketLaws.{Passing as PacketPassing}
 use Rattle.rules.proofs.LawfulLaws.{lawful}
 use Rattle.rules.proofs.StepLaws.{acts-changed}
 
@@ -121,6 +126,11 @@ pub data Reach (p : ℕ) (s : State) (c : Call) : Type 0 where
   -- a text line to it
   says : (x : Line) → asker c ≡ by textHost → TextPassing (textRuleOf (x .letter)) x (recordOf s p)
       → localOf (step s c .after) p ≡ textRuleOf (x .letter) .effect x (localOf s p) → Reach p s c
+  -- a packet to it
+  sends : (kind id : ℕ) (words : List ℕ) → asker c ≡ by pupHost → PacketPassing (packetRowOf kind) words (recordOf s p)
+      → localOf (step s c .after) p ≡ packetRowOf kind .effect id words (localOf s p) → Reach p s c
+  -- a tick at it
+  ticks : asker c ≡ nobody → localOf (step s c .after) p ≡ onRecord ticked (localOf s p) → Reach p s c
 
 -- a refused call does not
 refused-reach : (p : ℕ) (s : State) (c : Call) → Refused s c → Reach p s c
@@ -262,6 +272,53 @@ module _ (s : State) (r : Ready s) (text buffer : List ℕ) where
       go (inr x) =
           at-or-not s r lined _ _ (x .1) (says (lineOf text) refl (text-passing (lineOf text) (localOf s (lineOf text .pid)) (x .1 .passes)) (said-left (x .1))) p low
 
+module _ (s : State) (r : Ready s) (door kind id : ℕ) (words buffer : List ℕ) where
+  abbrev packed : Call
+  packed = packet door kind id words buffer
+
+  pub packet-came : Refused s (packet door kind id words buffer) ⊎ Acted s (packet door kind id words buffer) door (packetAccess kind id words)
+  unfolding turnOf packetTurn Reached
+  packet-came = go (came s r packed)
+    where
+      go : Refused s packed ⊎ ((firstFailing (turnOf s packed .tests) ≡ 0) × Acted s packed door (packetAccess kind id words)) → Refused s packed ⊎ Acted s packed door (packetAccess kind id words)
+      go (inl f) = inl f
+      go (inr x) = inr (x .1)
+
+  pub packet-left : Acted s (packet door kind id words buffer) door (packetAccess kind id words)
+      → localOf (step s (packet door kind id words buffer) .after) door ≡ packetRowOf kind .effect id words (localOf s door)
+  unfolding packetAccess
+  packet-left x = acted-left s r packed _ _ x
+
+  packet-reach : (p : ℕ) → p < 8 → Reach p s (packet door kind id words buffer)
+  unfolding asker
+  packet-reach p low = go packet-came
+    where
+      go : Refused s packed ⊎ Acted s packed door (packetAccess kind id words) → Reach p s packed
+      go (inl f) = refused-reach p s packed f
+      go (inr x) = at-or-not s r packed _ _ x (sends kind id words refl (packet-passing kind id words (localOf s door) (x .passes)) (packet-left x)) p low
+
+module _ (s : State) (r : Ready s) (door : ℕ) where
+  -- a tick in a sound state is granted, and goes to the process of the door if there is one
+  pub tick-came : Refused s (tick door) ⊎ Reached s (tick door) (turnOf s (tick door) .place)
+  tick-came = go (came s r (tick door))
+    where
+      go : Refused s (tick door) ⊎ ((firstFailing (turnOf s (tick door) .tests) ≡ 0) × Reached s (tick door) (turnOf s (tick door) .place))
+          → Refused s (tick door) ⊎ Reached s (tick door) (turnOf s (tick door) .place)
+      go (inl f) = inl f
+      go (inr x) = inr (x .1)
+
+  tick-reach : (p : ℕ) → p < 8 → Reach p s (tick door)
+  unfolding turnOf tickTurn tickAccess Reached asker
+  tick-reach p low = go tick-came
+    where
+      placed : (t : Bool) → ltb door 8 ≡ t → Reached s (tick door) (turnOf s (tick door) .place) → Reach p s (tick door)
+      placed true e x = let y = rw e at x in at-or-not s r (tick door) _ _ y (ticks refl (acted-left s r (tick door) _ _ y)) p low
+      placed false e x = let y = rw e at x in passesBy (ap (λ (z : StepResult). localOf (z .after) p) y)
+
+      go : Refused s (tick door) ⊎ Reached s (tick door) (turnOf s (tick door) .place) → Reach p s (tick door)
+      go (inl f) = refused-reach p s (tick door) f
+      go (inr x) = placed (ltb door 8) refl x
+
 -- ---- any call
 
 pub reach : (s : State) → Ready s → (c : Call) (p : ℕ) → p < 8 → Reach p s c
@@ -269,6 +326,8 @@ reach s r (request m buffer) = request-reach s r m buffer
 reach s r (report q kind reason words buffer line) = report-reach s r q kind reason words buffer line
 reach s r (store q a v) = store-reach s r q a v
 reach s r (textLine text buffer) = text-reach s r text buffer
+reach s r (packet door kind id words buffer) = packet-reach s r door kind id words buffer
+reach s r (tick door) = tick-reach s r door
 
 -- a granted request, by its op code and the process that it names
 pub named : (s : State) → Ready s → (c : Call) (cmd p : ℕ) → names cmd ≡ true → fieldsOf c .cmd ≡ cmd → fieldsOf c .pid ≡ p → Granted s c → Named cmd p s c
@@ -277,3 +336,5 @@ named s r (request m buffer) cmd p n op pid granted = rw (op, pid) at (request-n
 named s r (report q kind reason words buffer line) cmd p n op pid granted = absurd (true≢false (sym (rw (← op) at n)))
 named s r (store q a v) cmd p n op pid granted = absurd (true≢false (sym (rw (← op) at n)))
 named s r (textLine text buffer) cmd p n op pid granted = absurd (true≢false (sym (rw (← op) at n)))
+named s r (packet door kind id words buffer) cmd p n op pid granted = absurd (true≢false (sym (rw (← op) at n)))
+named s r (tick door) cmd p n op pid granted = absurd (true≢false (sym (rw (← op) at n)))

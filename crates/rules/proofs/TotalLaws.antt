@@ -17,10 +17,10 @@ use Rattle.format.specs.Answer.{cantOf}
 use Rattle.format.proofs.LayoutLaws.{length-written}
 use Rattle.format.proofs.OutcomeLaws.{numberOf-outcome}
 use Rattle.rules.specs.TextRule.{failure}
-use Rattle.rules.specs.Tests.{State, requestNumber, reportNumber, textNumber}
+use Rattle.rules.specs.Tests.{State, requestNumber, reportNumber, textNumber, packetNumber}
 use Rattle.rules.specs.Window.{Buffers}
 use Rattle.rules.specs.Access.{Output, Place, nowhere, atProcess, Turn, numberAt, grants, refuses, reached, taken}
-use Rattle.rules.specs.Step.{StepResult, localOf, put, granted, refused, requestStep, reportStep, textStep, Call, request, report, textLine, step}
+use Rattle.rules.specs.Step.{StepResult, localOf, put, granted, refused, requestStep, reportStep, textStep, packetStep, Call, request, report, textLine, packet, step}
 use Rattle.rules.specs.Turn.{turnOf, buffersOf}
 use Rattle.rules.specs.Isolation.{isGranted}
 use Rattle.rules.specs.Total.{testsOf, First, cantOver, Total}
@@ -134,6 +134,15 @@ text-silent s text buffer n e = go (eqb (textNumber s text buffer) 0) refl
     go true i = absurd (true≢false (sym (told s (textLine text buffer) .grant (eqb-true _ 0 i)) ∙ ap isGranted e))
     go false i = rw (i, refused-number (textNumber s text buffer) n (rw i at e)) (silent (ltb (suc n) 100) _)
 
+packet-silent : (s : State) (door kind id : ℕ) (words buffer : List ℕ) (n : ℕ) → packetStep door kind id words buffer s .answer .outcome ≡ outcome (suc n) 0
+    → packetStep door kind id words buffer s .answer .buffer ≡ buffer
+unfolding step testsOf packetNumber packetStep isGranted numberOf
+packet-silent s door kind id words buffer n e = go (eqb (packetNumber s door kind words buffer) 0) refl
+  where
+    go : (t : Bool) → eqb (packetNumber s door kind words buffer) 0 ≡ t → packetStep door kind id words buffer s .answer .buffer ≡ buffer
+    go true i = absurd (true≢false (sym (told s (packet door kind id words buffer) .grant (eqb-true _ 0 i)) ∙ ap isGranted e))
+    go false i = rw i
+
 pub total : Total
 unfolding step buffersOf overlay
 total = record {
@@ -147,6 +156,7 @@ total = record {
   cant-ten = λ m. length-written (cantOf (headerOf m)) [];
   report-silent = report-silent;
   line-silent = text-silent;
+  packet-silent = packet-silent;
   request-past = λ s m buffer. told s (request m buffer) .past;
   report-past = λ s p kind reason words buffer line. told s (report p kind reason words buffer line) .past;
   sound-stays = step-ready;

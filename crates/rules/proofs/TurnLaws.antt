@@ -18,12 +18,14 @@ use Rattle.process.specs.Report.{recipientOf}
 use Rattle.run_state.specs.RunState.{accepts}
 use Rattle.state.specs.Records.{lowestAbsent}
 use Rattle.rules.specs.Rule.{Rule, public, ruleOf, names, creates}
-use Rattle.rules.specs.Tests.{State, recordOf, noReportRoom, noLineRoom, unsound, outerTests, innerTests, ruleTests, noPlace, askedTests, requestNumber, badReport, reportNumber, textInnerTests, textNumber}
+use Rattle.rules.specs.Tests.{State, recordOf, noReportRoom, noLineRoom, unsound, outerTests, innerTests, ruleTests, noPlace, askedTests, requestNumber, badReport, reportNumber, textInnerTests, textNumber, noAckRoom, packetInnerTests, packetNumber, tickNumber}
 use Rattle.rules.specs.TextRule.{textRuleOf, failure}
+use Rattle.rules.specs.PacketRule.{packetRowOf}
+use Rattle.packets.specs.Types.{knownType, tooFew}
 use Rattle.rules.specs.Window.{Buffers}
 use Rattle.rules.specs.Access.{alone, Access, Place, nowhere, atProcess, Turn, numberAt, refuses, reached, taken}
-use Rattle.rules.specs.Step.{answers, localOf, grantedNamed, grantedCreate, granted, refused, requestStep, told, noticeTo, notified, reportStep, textStep, stored}
-use Rattle.rules.specs.Turn.{cantBytes, ruleAccess, createAccess, placeTests, requestPlace, messageTests, requestTurn, reportAccess, reportTurn, storeAccess, storeTurn, textAccess, textTurn, single}
+use Rattle.rules.specs.Step.{answers, localOf, grantedNamed, grantedCreate, granted, refused, requestStep, told, noticeTo, notified, reportStep, textStep, stored, packetStep, tickedState, tickStep}
+use Rattle.rules.specs.Turn.{cantBytes, ruleAccess, createAccess, placeTests, requestPlace, messageTests, requestTurn, reportAccess, reportTurn, storeAccess, storeTurn, textAccess, textTurn, packetAccess, packetTurn, tickAccess, tickTurn, single}
 use Rattle.rules.proofs.NumberLaws.{orElse, orElse-assoc, first-append}
 
 -- the number that is found at a place
@@ -243,3 +245,78 @@ store-number p a v s = go (ltb p 8)
     go : (t : Bool) → placeNumber (cond t (atProcess p (storeAccess a v)) (nowhere (alone []))) s ≡ 0
     go true = refl
     go false = refl
+
+-- ---- packets
+
+packet-tests : (a b c d t u v : Bool) (n : ℕ)
+    → orElse (cond a 1 (cond b 2 (cond c 3 (cond d 5 (cond (not t) 7 0))))) (orElse (cond (not u) 7 (cond v 8 0)) n)
+    ≡ cond a 1 (cond b 2 (cond c 3 (cond d 5 (cond (not (t && u)) 7 (cond v 8 n)))))
+packet-tests true b c d t u v n = refl
+packet-tests false true c d t u v n = refl
+packet-tests false false true d t u v n = refl
+packet-tests false false false true t u v n = refl
+packet-tests false false false false false u v n = refl
+packet-tests false false false false true false v n = refl
+packet-tests false false false false true true true n = refl
+packet-tests false false false false true true false n = refl
+
+module _ (door kind id : ℕ) (words buffer : List ℕ) (s : State) where
+  abbrev sent : Local
+  sent = localOf s door
+
+  abbrev packetTo : Access
+  packetTo = packetAccess kind id words
+
+  pub packet-number : turnNumber (packetTurn door kind id words buffer s) s ≡ packetNumber s door kind words buffer
+  unfolding turnNumber packetTurn placeNumber numberAt packetAccess firstFailing packetNumber public
+  packet-number =
+      packet-tests (noAckRoom (s .memory) buffer) (unsound s) (tooFew kind words) (not (knownType kind)) (ltb door 8) (sent .process .there)
+      (not (packetRowOf kind .right (public (sent .process)))) (firstFailing (packetInnerTests kind words (sent .process)))
+
+  packet-refused : eqb (packetNumber s door kind words buffer) 0 ≡ false
+      → packetStep door kind id words buffer s ≡ record { answer = refuses (packetNumber s door kind words buffer) [] (single buffer); after = s }
+  unfolding packetStep overlay
+  packet-refused e = rw e
+
+  packet-place : packetNumber s door kind words buffer ≡ numberAt packetTo sent
+      → packetStep door kind id words buffer s ≡ reached (atProcess door packetTo) (single buffer) s
+  unfolding packetStep reached packetAccess overlay
+  packet-place same = go (eqb (numberAt packetTo sent) 0) refl
+    where
+      go : (t : Bool) → eqb (numberAt packetTo sent) 0 ≡ t → packetStep door kind id words buffer s ≡ reached (atProcess door packetTo) (single buffer) s
+      go true e = rw (same, e)
+      go false e = packet-refused (rw same e) ∙ rw (same, e)
+
+  pub packet-turn : packetStep door kind id words buffer s ≡ taken (packetTurn door kind id words buffer s) (single buffer) s
+  unfolding taken turnNumber packetTurn placeNumber
+  packet-turn = go (eqb (firstFailing (turn .tests)) 0) refl
+    where
+      turn : Turn
+      turn = packetTurn door kind id words buffer s
+
+      number : packetNumber s door kind words buffer ≡ orElse (firstFailing (turn .tests)) (placeNumber (turn .place) s)
+      number = sym packet-number
+
+      go : (t : Bool) → eqb (firstFailing (turn .tests)) 0 ≡ t → packetStep door kind id words buffer s ≡ taken (packetTurn door kind id words buffer s) (single buffer) s
+      go true e = rw e (packet-place (rw e at number))
+      go false e = let same : packetNumber s door kind words buffer ≡ firstFailing (turn .tests) = rw e at number in rw e (rw same at (packet-refused (rw same e)))
+
+-- ---- ticks
+
+pub tick-turn : (door : ℕ) (s : State) → tickStep door s ≡ taken (tickTurn door s) (single []) s
+unfolding tickStep tickedState tickNumber taken tickTurn reached tickAccess numberAt firstFailing overlay
+tick-turn door s = go (unsound s) refl (ltb door 8) refl
+  where
+    go : (u : Bool) → unsound s ≡ u → (t : Bool) → ltb door 8 ≡ t → tickStep door s ≡ taken (tickTurn door s) (single []) s
+    go true i t e = rw i
+    go false i true e = rw (i, e)
+    go false i false e = rw (i, e)
+
+pub tick-number : (door : ℕ) (s : State) → turnNumber (tickTurn door s) s ≡ tickNumber s
+unfolding turnNumber tickTurn placeNumber numberAt tickAccess firstFailing tickNumber
+tick-number door s = go (unsound s) (ltb door 8)
+  where
+    go : (u t : Bool) → orElse (cond u 2 0) (placeNumber (cond t (atProcess door tickAccess) (nowhere (alone []))) s) ≡ cond u 2 0
+    go true t = refl
+    go false true = refl
+    go false false = refl

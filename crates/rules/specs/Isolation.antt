@@ -3,7 +3,7 @@ use mathlib.Core.Path.{_≡_}
 use mathlib.Core.Bool.{Bool, true, false, not, cond, _&&_, _||_}
 use mathlib.Core.List.{List, [], _∷_, _++_}
 use Prim.Native.Nat.{ℕ, _<_}
-use lib.ListN.{length, take, getD}
+use lib.ListN.{length, take, getD, set}
 use lib.Dec.{leb, ltb, eqb}
 use Rattle.format.specs.declared.header.Header.{Header}
 use Rattle.format.specs.declared.outcome.Outcome.{Outcome}
@@ -15,12 +15,13 @@ use Rattle.fields.specs.declared.write.Fields.{Fields}
 use Rattle.fields.specs.Letters.{CONTINUE, STEP, WRITE-CODE, WRITE-DATA, WRITE-REGISTER}
 use Rattle.fields.specs.Written.{written}
 use Rattle.fields.specs.Read.{lineOf}
-use Rattle.session.specs.Session.{textHost}
+use Rattle.session.specs.Session.{textHost, pupHost}
+use Rattle.packets.specs.Types.{STORE}
 use Rattle.process.specs.Sizes.{memoryBytes}
 use Rattle.rules.specs.Rule.{Public, public, names, creates, sizeAsked}
 use Rattle.rules.specs.Tests.{State, recordOf}
 use Rattle.rules.specs.Access.{Asker, nobody, by, insider}
-use Rattle.rules.specs.Step.{Answer, Call, request, report, store, textLine, step, localOf}
+use Rattle.rules.specs.Step.{Answer, Call, request, report, store, textLine, packet, tick, step, localOf}
 use Rattle.rules.specs.Ready.{Ready}
 use Rattle.rules.specs.Run.{TraceItem, run, final, leave}
 use Rattle.ops.specs.Codes.{DEBUG, DEPOSIT, DEPOSIT-VECTOR, DESTROY, END-DEBUG, END-WATCH, WATCH}
@@ -73,14 +74,23 @@ withoutWritten x =
 unfoldable pub withoutValue : List ℕ → List ℕ
 withoutValue text = cond (lineOf text .whole) (written (withoutWritten (lineOf text))) text
 
+-- ---- packets
+
+-- what 'a Store writes', its second data word, is 0
+unfoldable pub withoutStored : ℕ → List ℕ → List ℕ
+withoutStored kind words = cond (eqb kind STORE) (set words 1 0) words
+
 -- ---- calls
 
--- 'A request is his if its second byte, HOST, is his number.' Nobody asks a report or a store; 'each line as host 253's request'
+-- 'A request is his if its second byte, HOST, is his number.' Nobody asks a report, a store or a tick; 'each line as host 253's request', 'each
+-- packet as host 254's request .., whatever its second byte'
 unfoldable pub asker : Call → Asker
 asker (request m buffer) = by (hostOf m)
 asker (report p kind reason words buffer line) = nobody
 asker (store p x v) = nobody
 asker (textLine text buffer) = by textHost
+asker (packet door kind id words buffer) = by pupHost
+asker (tick door) = nobody
 
 -- the call names one of these processes, or is about it
 unfoldable pub subject : Processes → Call → Bool
@@ -88,13 +98,17 @@ subject P (request m buffer) = namesOne P m
 subject P (report p kind reason words buffer line) = P p
 subject P (store p x v) = P p
 subject P (textLine text buffer) = lineNamesOne P (lineOf text)
+subject P (packet door kind id words buffer) = P door
+subject P (tick door) = P door
 
--- 'reports .. and stores'
+-- 'reports .. and stores'; 'a tick' is no event but 'a call', and is never struck
 unfoldable pub event : Call → Bool
 event (request m buffer) = false
 event (report p kind reason words buffer line) = true
 event (store p x v) = true
 event (textLine text buffer) = false
+event (packet door kind id words buffer) = false
+event (tick door) = false
 
 -- a message up to ARG1: ARG2, which counts the bytes of the string, is zero, and there is no string
 abbrev pub withoutString : List ℕ → List ℕ
@@ -106,6 +120,8 @@ passedOver (request m buffer) = request (cond (deposits (cmdOf m)) (withoutStrin
 passedOver (report p kind reason words buffer line) = report p kind reason words buffer line
 passedOver (store p x v) = store p x v
 passedOver (textLine text buffer) = textLine (withoutValue text) buffer
+passedOver (packet door kind id words buffer) = packet door kind id (withoutStored kind words) buffer
+passedOver (tick door) = tick door
 
 -- the fields of a NOP
 abbrev pub nop : Header
@@ -117,6 +133,8 @@ fieldsOf (request m buffer) = headerOf m
 fieldsOf (report p kind reason words buffer line) = nop
 fieldsOf (store p x v) = nop
 fieldsOf (textLine text buffer) = nop
+fieldsOf (packet door kind id words buffer) = nop
+fieldsOf (tick door) = nop
 
 -- asked by one of these hosts
 unfoldable pub isOne : Hosts → Asker → Bool

@@ -2,6 +2,7 @@
 -- document 002's.
 pub mod Rule
 pub mod TextRule
+pub mod PacketRule
 pub mod Tests
 pub mod Window
 pub mod Access
@@ -20,3 +21,4 @@ pub mod Loops
 pub mod Owed
 pub mod Watch
 pub mod Status
+pub mod Waiting

@@ -8,9 +8,9 @@ use Rattle.process.specs.Sizes.{vectorWords}
 use Rattle.state.specs.Layout.{capacity}
 use Rattle.state.specs.Sound.{EightEntries, soundTest}
 use Rattle.rules.specs.Tests.{State, recordOf}
-use Rattle.rules.specs.Step.{Call, request, report, store, textLine}
+use Rattle.rules.specs.Step.{Call, request, report, store, textLine, packet, tick}
 
--- a sound state; records and entries have the sizes of the code's types, and with another memory every request, text line and
+-- a sound state; records and entries have the sizes of the code's types, and with another memory every request, text line, packet and
 -- report is refused with 1
 pub record Ready (s : State) : Type 0 where
   pub memory : length (s .memory) ≡ capacity
@@ -33,3 +33,5 @@ Typed (request m buffer) = Unit {0}
 Typed (report p kind reason words buffer line) = length words ≡ vectorWords
 Typed (store p a v) = Unit {0}
 Typed (textLine text buffer) = Unit {0}
+Typed (packet door kind id words buffer) = Unit {0}
+Typed (tick door) = Unit {0}

@@ -19,7 +19,7 @@ use Rattle.ops.specs.Codes.{CREATE, DEBUG, DESTROY, END-DEBUG}
 abbrev pub holder : State → ℕ → ℕ
 holder s p = publicOf s p .host
 
--- asked by a host that debugs or watches the process before the call or after it; nobody asks a report or a store
+-- asked by a host that debugs or watches the process before the call or after it; nobody asks a report, a store or a tick
 unfoldable pub Allowed : Asker → Public → Public → Type 0
 Allowed nobody before after = Unit {0}
 Allowed (by host) before after = (insider before host ≡ true) ⊎ (insider after host ≡ true)
@@ -32,8 +32,8 @@ Creates p c a = (fieldsOf c .cmd ≡ CREATE) × (getD (a .buffer) 5 0 ≡ p)
 abbrev pub Reaches : ℕ → Call → Answer → Type 0
 Reaches p c a = (subject (only p) c ≡ true) ⊎ Creates p c a
 
--- a request or a text line that names it, or the CREATE of it, of a host that debugs or watches it or does then; a report
--- about it; a store into it
+-- a request or a text line that names it, a packet to it, or the CREATE of it, of a host that debugs or watches it or does then; a report
+-- about it; a store into it; a tick at it
 abbrev pub MayChange : ℕ → State → Call → Type 0
 MayChange p s c = Reaches p c (step s c .answer) × Allowed (asker c) (publicOf s p) (publicOf (step s c .after) p)
 

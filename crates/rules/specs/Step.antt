@@ -12,14 +12,16 @@ use Rattle.format.specs.Outcome.{outcome}
 use Rattle.format.specs.Layout.{written, headerOf, stringOf}
 use Rattle.format.specs.Answer.{cantOf, createdOf, noticeOf}
 use Rattle.process.specs.Local.{Local, local}
-use Rattle.process.specs.Request.{created}
+use Rattle.process.specs.Request.{created, onRecord}
 use Rattle.process.specs.Report.{reported, recipientOf, answerOf}
+use Rattle.process.specs.Packet.{ticked}
 use Rattle.rules.specs.Rule.{ruleOf, names, creates, sizeAsked}
 use Rattle.state.specs.Records.{lowestAbsent}
 use Rattle.rules.specs.TextRule.{textRuleOf, failure, owedLine}
+use Rattle.rules.specs.PacketRule.{packetRowOf}
 use Rattle.fields.specs.declared.read.Line.{Line}
 use Rattle.fields.specs.Read.{lineOf}
-use Rattle.rules.specs.Tests.{State, recordOf, requestNumber, reportNumber, textNumber}
+use Rattle.rules.specs.Tests.{State, recordOf, requestNumber, reportNumber, textNumber, packetNumber, tickNumber}
 pub use Rattle.rules.specs.Window.{Answer, StepResult, localOf, plainAnswer}
 unfoldable pub use Rattle.rules.specs.Window.{put}
 
@@ -110,16 +112,43 @@ textStep text buffer s =
 unfoldable pub stored : ℕ → ℕ → ℕ → State → State
 stored p a v s = cond (ltb p 8) (put p (local (recordOf s p) (set (localOf s p .bytes) a v)) s) s
 
--- what stands in a list
+-- the data words of the acknowledgement of a granted packet, of the process after it: a Store's block shows 'the result of the store'
+abbrev pub ackWordsOf : ℕ → ℕ → List ℕ → Local → List ℕ
+ackWordsOf kind id words l = packetRowOf kind .ack words (packetRowOf kind .effect id words l)
+
+-- they are laid over the start of the buffer
+abbrev pub packetReply : ℕ → ℕ → List ℕ → List ℕ → Local → Answer
+packetReply kind id words buffer l = plainAnswer (outcome 0 (length (ackWordsOf kind id words l))) (overlay (ackWordsOf kind id words l) buffer)
+
+-- a packet to the process of the door: its type, its ID and its data words, with the buffer for those of its acknowledgement; 'Refusals, all silent'
+unfoldable pub packetStep : ℕ → ℕ → ℕ → List ℕ → List ℕ → State → StepResult
+packetStep door kind id words buffer s =
+    cond (eqb (packetNumber s door kind words buffer) 0)
+    (record { answer = packetReply kind id words buffer (localOf s door); after = put door (packetRowOf kind .effect id words (localOf s door)) s })
+    (answers (outcome (packetNumber s door kind words buffer) 0) buffer s)
+
+-- a tenth of a second later, at the process of the door; where that is no process, nothing
+unfoldable pub tickedState : ℕ → State → State
+tickedState door s = cond (ltb door 8) (put door (onRecord ticked (localOf s door)) s) s
+
+-- a tick of a tenth of a second: 'a tick only 2, else granted without output'
+unfoldable pub tickStep : ℕ → State → StepResult
+tickStep door s = answers (outcome (tickNumber s) 0) [] (cond (eqb (tickNumber s) 0) (tickedState door s) s)
+
+-- what stands in a list; a packet and a tick carry the process of the door, which the gateway reads from its state
 pub data Call : Type 0 where
   request : (message buffer : List ℕ) → Call
   report : (process kind reason : ℕ) (words buffer line : List ℕ) → Call
   store : (process address value : ℕ) → Call
   textLine : (text buffer : List ℕ) → Call
+  packet : (door kind id : ℕ) (words buffer : List ℕ) → Call
+  tick : (door : ℕ) → Call
 
--- one step; a store answers nobody
+-- one step; a store and a tick answer nobody
 unfoldable pub step : State → Call → StepResult
 step s (request m buffer) = requestStep m buffer s
 step s (report p kind reason words buffer line) = reportStep p kind reason words buffer line s
 step s (store p a v) = answers (outcome 0 0) [] (stored p a v s)
 step s (textLine text buffer) = textStep text buffer s
+step s (packet door kind id words buffer) = packetStep door kind id words buffer s
+step s (tick door) = tickStep door s

@@ -17,6 +17,9 @@ use Rattle.state.specs.Layout.{capacity, freeBytes}
 use Rattle.state.specs.Sound.{soundTest}
 use Rattle.rules.specs.Rule.{Rule, Public, public, ruleOf, names, creates, sizeAsked}
 use Rattle.rules.specs.TextRule.{textRuleOf, answerOwed}
+use Rattle.rules.specs.PacketRule.{packetRowOf}
+use Rattle.packets.specs.Types.{knownType, tooFew}
+use Rattle.packets.specs.Ack.{ackWords}
 use Rattle.format.specs.Sizes.{messageBytes}
 use Rattle.fields.specs.declared.read.Line.{Line}
 use Rattle.fields.specs.Read.{lineOf}
@@ -145,3 +148,41 @@ textTests s text buffer =
 -- the number of the first that fails
 unfoldable pub textNumber : State → List ℕ → List ℕ → ℕ
 textNumber s text buffer = firstFailing (textTests s text buffer)
+
+-- ---- packets and ticks of the Pup door (K1)
+
+-- 1 of a packet: '1 asks 35 output words, not 266 bytes'
+abbrev pub noAckRoom : List ℕ → List ℕ → Bool
+noAckRoom memory buffer = ltb (length buffer) ackWords || not (eqb (length memory) capacity)
+
+-- 8, by the public part alone
+abbrev pub packetOuterTests : ℕ → Public → List Test
+packetOuterTests kind u = test 8 (not (packetRowOf kind .right u)) ∷ []
+
+-- 9 and 10
+abbrev pub packetInnerTests : ℕ → List ℕ → Process → List Test
+packetInnerTests kind words p =
+    test 9 (not (packetRowOf kind .runs (p .run))) ∷ test 10 (not (packetRowOf kind .range words (p .size))) ∷ []
+
+-- 'Refusals, all silent: 1 ..; 2; 3 too few data words, 5 another type, 7 to 10 as for requests'
+abbrev pub packetTests : State → ℕ → ℕ → List ℕ → List ℕ → List Test
+packetTests s door kind words buffer =
+    test 1 (noAckRoom (s .memory) buffer)
+    ∷ test 2 (unsound s)
+    ∷ test 3 (tooFew kind words)
+    ∷ test 5 (not (knownType kind))
+    ∷ test 7 (absent s door)
+    ∷ packetOuterTests kind (public (recordOf s door))
+    ++ packetInnerTests kind words (recordOf s door)
+
+-- the number of the first that fails
+unfoldable pub packetNumber : State → ℕ → ℕ → List ℕ → List ℕ → ℕ
+packetNumber s door kind words buffer = firstFailing (packetTests s door kind words buffer)
+
+-- 'a tick only 2'
+abbrev pub tickTests : State → List Test
+tickTests s = test 2 (unsound s) ∷ []
+
+-- the number of the first that fails
+unfoldable pub tickNumber : State → ℕ
+tickNumber s = firstFailing (tickTests s)

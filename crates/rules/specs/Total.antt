@@ -10,8 +10,8 @@ use Rattle.lists.specs.Buffer.{overlay}
 use Rattle.format.specs.Outcome.{outcome, numberOf, Test}
 use Rattle.format.specs.Layout.{written, headerOf}
 use Rattle.format.specs.Answer.{cantOf}
-use Rattle.rules.specs.Tests.{State, requestTests, reportTests, textTests}
-use Rattle.rules.specs.Step.{Call, request, report, store, textLine, requestStep, reportStep, textStep, step}
+use Rattle.rules.specs.Tests.{State, requestTests, reportTests, textTests, packetTests, tickTests}
+use Rattle.rules.specs.Step.{Call, request, report, store, textLine, packet, tick, requestStep, reportStep, textStep, packetStep, step}
 use Rattle.rules.specs.Turn.{buffersOf}
 use Rattle.rules.specs.TextRule.{failure}
 use Rattle.fields.specs.Read.{lineOf}
@@ -24,6 +24,8 @@ testsOf s (request m buffer) = requestTests s m buffer
 testsOf s (report p kind reason words buffer line) = reportTests s p kind reason buffer line
 testsOf s (store p x v) = []
 testsOf s (textLine text buffer) = textTests s text buffer
+testsOf s (packet door kind id words buffer) = packetTests s door kind words buffer
+testsOf s (tick door) = tickTests s
 
 -- 'Numbers returned': those of each call
 unfoldable pub numbersOf : Call → List ℕ
@@ -31,6 +33,8 @@ numbersOf (request m buffer) = 0 ∷ 1 ∷ 2 ∷ 3 ∷ 4 ∷ 5 ∷ 6 ∷ 7 ∷ 8
 numbersOf (report p kind reason words buffer line) = 0 ∷ 1 ∷ 2 ∷ 14 ∷ 7 ∷ 9 ∷ []
 numbersOf (store p x v) = 0 ∷ []
 numbersOf (textLine text buffer) = 0 ∷ 1 ∷ 2 ∷ 6 ∷ 122 ∷ 103 ∷ 101 ∷ 116 ∷ 114 ∷ []
+numbersOf (packet door kind id words buffer) = 0 ∷ 1 ∷ 2 ∷ 3 ∷ 5 ∷ 7 ∷ 8 ∷ 9 ∷ 10 ∷ []
+numbersOf (tick door) = 0 ∷ 2 ∷ []
 
 -- the number is one of a list
 abbrev pub oneOf : List ℕ → ℕ → Bool
@@ -70,6 +74,9 @@ pub record Total : Type 0 where
   -- a refused text line writes nothing under 100, and from 100 on one line 'with the flag 0xffffffff': 'demand 1 counts this line as the CAN'T reply'
   pub line-silent : (s : State) (text buffer : List ℕ) (n : ℕ) → textStep text buffer s .answer .outcome ≡ outcome (suc n) 0
       → textStep text buffer s .answer .buffer ≡ cond (ltb (suc n) 100) buffer (overlay (failure (lineOf text) (suc n)) buffer)
+  -- a refused packet: 'Refusals, all silent'
+  pub packet-silent : (s : State) (door kind id : ℕ) (words buffer : List ℕ) (n : ℕ) → packetStep door kind id words buffer s .answer .outcome ≡ outcome (suc n) 0
+      → packetStep door kind id words buffer s .answer .buffer ≡ buffer
   -- 'buffer bytes past those written are never touched', of a request and of a report
   pub request-past : (s : State) (m buffer : List ℕ) (n : ℕ) → requestStep m buffer s .answer .outcome ≡ outcome 0 n
       → drop n (requestStep m buffer s .answer .buffer) ≡ drop n buffer

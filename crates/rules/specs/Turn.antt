@@ -12,16 +12,19 @@ use Rattle.format.specs.Answer.{cantOf, createdOf, noticeOf}
 use Rattle.format.specs.Refusal.{layoutTests}
 use Rattle.ops.specs.Table.{requestForm}
 use Rattle.process.specs.Local.{Local, local}
-use Rattle.process.specs.Request.{created}
+use Rattle.process.specs.Request.{created, onRecord}
 use Rattle.run_state.specs.RunState.{accepts}
 use Rattle.process.specs.Report.{reported, recipientOf, answerOf}
+use Rattle.process.specs.Packet.{ticked}
+use Rattle.packets.specs.Types.{knownType, tooFew}
 use Rattle.state.specs.Records.{lowestAbsent}
 use Rattle.rules.specs.Rule.{Rule, ruleOf, names, creates, sizeAsked}
 use Rattle.rules.specs.TextRule.{textRuleOf, failure, owedLine}
-use Rattle.rules.specs.Tests.{State, noRoom, noReportRoom, noLineRoom, unsound, outerTests, innerTests, textOuterTests, textInnerTests, noPlace, badReport}
+use Rattle.rules.specs.PacketRule.{packetRowOf}
+use Rattle.rules.specs.Tests.{State, noRoom, noReportRoom, noLineRoom, noAckRoom, unsound, outerTests, innerTests, textOuterTests, textInnerTests, packetOuterTests, packetInnerTests, noPlace, badReport}
 use Rattle.rules.specs.Window.{Buffers}
 use Rattle.rules.specs.Access.{Access, alone, Place, nowhere, atProcess, Turn}
-use Rattle.rules.specs.Step.{told, Call, request, report, store, textLine}
+use Rattle.rules.specs.Step.{told, ackWordsOf, Call, request, report, store, textLine, packet, tick}
 use Rattle.fields.specs.declared.read.Line.{Line}
 use Rattle.fields.specs.Read.{lineOf}
 
@@ -150,6 +153,49 @@ textTurn text buffer s = record {
   place = atProcess (lineOf text .pid) (textAccess (lineOf text));
 }
 
+-- ---- packets and ticks
+
+-- a packet at the process of the door, by the row of its type
+unfoldable pub packetAccess : ℕ → ℕ → List ℕ → Access
+packetAccess kind id words = record {
+  outer = λ u. test 7 (not (u .there)) ∷ packetOuterTests kind u;
+  inner = λ l. packetInnerTests kind words (l .process);
+  reply = λ l. alone (ackWordsOf kind id words l);
+  refusal = λ l number. [];
+  effect = packetRowOf kind .effect id words;
+}
+
+-- a packet
+unfoldable pub packetTurn : ℕ → ℕ → ℕ → List ℕ → List ℕ → State → Turn
+packetTurn door kind id words buffer s = record {
+  tests = test 1 (noAckRoom (s .memory) buffer)
+      ∷ test 2 (unsound s)
+      ∷ test 3 (tooFew kind words)
+      ∷ test 5 (not (knownType kind))
+      ∷ test 7 (not (ltb door 8))
+      ∷ [];
+  refusal = λ number. [];
+  place = atProcess door (packetAccess kind id words);
+}
+
+-- a tick at the process of the door
+unfoldable pub tickAccess : Access
+tickAccess = record {
+  outer = λ u. [];
+  inner = λ l. [];
+  reply = λ l. alone [];
+  refusal = λ l number. [];
+  effect = onRecord ticked;
+}
+
+-- a tick
+unfoldable pub tickTurn : ℕ → State → Turn
+tickTurn door s = record {
+  tests = test 2 (unsound s) ∷ [];
+  refusal = λ number. [];
+  place = cond (ltb door 8) (atProcess door tickAccess) (nowhere (alone []));
+}
+
 -- ---- any call
 
 -- each call in its parts
@@ -158,6 +204,8 @@ turnOf s (request m buffer) = requestTurn m buffer s
 turnOf s (report p kind reason words buffer line) = reportTurn p kind reason words buffer line s
 turnOf s (store p a v) = storeTurn p a v
 turnOf s (textLine text buffer) = textTurn text buffer s
+turnOf s (packet door kind id words buffer) = packetTurn door kind id words buffer s
+turnOf s (tick door) = tickTurn door s
 
 -- a buffer of its own, and no line buffer
 abbrev pub single : List ℕ → Buffers
@@ -169,3 +217,5 @@ buffersOf (request m buffer) = single buffer
 buffersOf (report p kind reason words buffer line) = record { own = buffer; line = line }
 buffersOf (store p a v) = single []
 buffersOf (textLine text buffer) = single buffer
+buffersOf (packet door kind id words buffer) = single buffer
+buffersOf (tick door) = single []

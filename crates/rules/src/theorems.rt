@@ -8,6 +8,7 @@ ghost use Rattle.rules.specs.Loops.{Loops};
 ghost use Rattle.rules.specs.Owed.{OwedAnswers};
 ghost use Rattle.rules.specs.Watch.{Watching};
 ghost use Rattle.rules.specs.Status.{HowManySet};
+ghost use Rattle.rules.specs.Waiting.{Waiting};
 ghost use Rattle.rules.specs.Together.{Isolation};
 
 // Every call is answered by the number of the first test that fails, or granted where none does; a refusal changes nothing; a sound state
@@ -16,8 +17,8 @@ pub fn total()
     ensures { λ _. ⌜ Total ⌝ }
 {}
 
-// A process changes only by a request or a text line of a host that debugs or watches it before the call or after it, by a report or by a store; a
-// right begins only where nobody has one, and ends only by its holder.
+// A process changes only by a request, a text line or a packet of a host that debugs or watches it before the call or after it, by a report, by a store
+// or by a tick at it; a right begins only where nobody has one, and ends only by its holder.
 pub fn rights()
     ensures { λ _. ⌜ Rights ⌝ }
 {}
@@ -62,4 +63,10 @@ pub fn watching()
 // debugs the process or watches it, and changes nothing.
 pub fn how_many_set()
     ensures { λ _. ⌜ HowManySet ⌝ }
+{}
+
+// A Go that waits: after a granted one the process runs at the hundredth tick and no sooner if only Gos of that ID come and nothing else changes the
+// process; or on the GoReply of the next ID. Any other granted packet abandons it, and so do END DEBUG and DESTROY.
+pub fn waiting()
+    ensures { λ _. ⌜ Waiting ⌝ }
 {}

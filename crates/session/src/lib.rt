@@ -1,9 +1,15 @@
-// What belongs to a debugging session of a process, and ends with it: the answer that is owed to the host of the text lines, and the watcher.
+// What belongs to a debugging session of a process, and ends with it: the answer that is owed to the host of the text lines, the watcher, and the
+// Go that waits.
+use packets::next_id;
 ghost use mathlib.Core.Path.{_≡_};
-ghost use Rattle.session.specs.Session.{owedNumber, isOwedNumber, owedOf, owedLetter, owes, noSession, withOwed, withWatcher, owedSound, watcherSound, sessionSound};
+ghost use Prim.Native.Nat.{_<_};
+ghost use Rattle.session.specs.Session.{owedNumber, isOwedNumber, owedOf, owedLetter, owes, noGo, newGo, tickedGo, waitsFor, answersGo, isLastTick, noSession, withOwed, withWatcher, withGo, owedSound, watcherSound, goSound, sessionSound};
 
 // The host that the text lines come from.
 pub const TEXT_HOST: u8 = 253;
+
+// The host that the packets come from.
+pub const PUP_HOST: u8 = 254;
 
 // The highest number of an owed answer.
 pub const LAST_OWED_NUMBER: u8 = 2;
@@ -15,11 +21,19 @@ pub enum Owed {
     Step,
 }
 
+// A Go that waits for its GoReply, with the ticks since the first of its ID came; or none.
+pub struct Go {
+    pub waits: bool,
+    pub ticks: u8,
+    pub id: u32,
+}
+
 // What belongs to the debugging session of a process.
 pub struct Session {
     pub owed: Owed,
     // The host that watches; 0 is nobody.
     pub watcher: u8,
+    pub go: Go,
 }
 
 impl Owed {
@@ -70,6 +84,66 @@ pub fn owed_of(n: u8) -> Owed
     Owed::Nothing
 }
 
+impl Go {
+    // None waits.
+    pub fn none() -> Go
+        ensures { λ r. ⌜ r ≡ noGo ⌝ }
+    {
+        Go {
+            waits: false,
+            ticks: 0,
+            id: 0,
+        }
+    }
+
+    // One of this ID that has just come.
+    pub fn new(id: u32) -> Go
+        ensures { λ r. ⌜ r ≡ newGo id ⌝ }
+    {
+        Go {
+            waits: true,
+            ticks: 0,
+            id: id,
+        }
+    }
+
+    // The same, a tick later.
+    pub fn ticked(mut self) -> Go
+        requires { ⌜ self .ticks < 255 ⌝ }
+        ensures { λ r. ⌜ r ≡ tickedGo self ⌝ }
+    {
+        self.ticks = self.ticks + 1;
+        self
+    }
+
+    // Whether a Go of this ID waits.
+    pub fn waits_for(self, id: u32) -> bool
+        ensures { λ r. ⌜ r ≡ waitsFor id self ⌝ }
+    {
+        if !self.waits {
+            return false;
+        }
+        self.id == id
+    }
+
+    // Whether a GoReply of this ID answers it.
+    pub fn is_answered_by(self, id: u32) -> bool
+        ensures { λ r. ⌜ r ≡ answersGo id self ⌝ }
+    {
+        if !self.waits {
+            return false;
+        }
+        next_id(self.id) == id
+    }
+
+    // Whether the next tick is the hundredth.
+    pub fn is_last_tick(self) -> bool
+        ensures { λ r. ⌜ r ≡ isLastTick self ⌝ }
+    {
+        self.ticks == 99
+    }
+}
+
 impl Session {
     // What a process has that nobody debugs.
     pub fn none() -> Session
@@ -78,6 +152,7 @@ impl Session {
         Session {
             owed: Owed::Nothing,
             watcher: 0,
+            go: Go::none(),
         }
     }
 
@@ -85,9 +160,11 @@ impl Session {
     pub fn with_owed(self, owed: Owed) -> Session
         ensures { λ r. ⌜ r ≡ withOwed owed self ⌝ }
     {
+        let go = self.go;
         Session {
             owed: owed,
             watcher: self.watcher,
+            go: go,
         }
     }
 
@@ -97,6 +174,28 @@ impl Session {
     {
         self.watcher = watcher;
         self
+    }
+
+    // With another Go.
+    pub fn with_go(mut self, go: Go) -> Session
+        ensures { λ r. ⌜ r ≡ withGo go self ⌝ }
+    {
+        self.go = go;
+        self
+    }
+
+    // Whether no Go waits, or the host of the packets debugs the process and under a hundred ticks are counted.
+    fn go_sound(self, host: u8) -> bool
+        ensures { λ r. ⌜ r ≡ goSound host self ⌝ }
+    {
+        let go = self.go;
+        if !go.waits {
+            return true;
+        }
+        if host != PUP_HOST {
+            return false;
+        }
+        go.ticks <= 99
     }
 
     // Whether nothing is owed, or the host of the text lines debugs the process.
@@ -130,6 +229,9 @@ impl Session {
         if !self.owed_sound(host) {
             return false;
         }
-        self.watcher_sound(host)
+        if !self.watcher_sound(host) {
+            return false;
+        }
+        self.go_sound(host)
     }
 }

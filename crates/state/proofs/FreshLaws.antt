@@ -85,8 +85,8 @@ size-right n e =
 
 fresh-sound : (t : Bool) (n : ℕ) → not t || validSize n ≡ true → Sound (freshProcess t n)
 unfolding freshProcess fresh cleared validSize
-fresh-sound true n e = sound-free (fresh true 0 Running n) (size-right n e) refl refl refl refl (λ i. refl)
-fresh-sound false n e = sound-free (fresh false 0 Running memoryBytes) (size-right memoryBytes refl) refl refl refl refl (λ i. refl)
+fresh-sound true n e = sound-free (fresh true 0 Running n) (size-right n e) refl refl refl refl refl (λ i. refl)
+fresh-sound false n e = sound-free (fresh false 0 Running memoryBytes) (size-right memoryBytes refl) refl refl refl refl refl (λ i. refl)
 
 pub length-freshProcesses : (ts : List Bool) (ns : List ℕ) → length (freshProcesses ts ns) ≡ length ts
 unfolding freshProcesses

@@ -15,7 +15,7 @@ use Rattle.lists.specs.Flag.{flag}
 use Rattle.lists.specs.Word.{low, high}
 use Rattle.lists.proofs.Bool.{same-truth}
 use Rattle.lists.proofs.Elements.{take-elements}
-use Rattle.state_bytes.specs.Number.{u32Le, u64Le, u64LeBytes, flagOf}
+use Rattle.state_bytes.specs.Number.{u32Le, u32LeBytes, u64Le, u64LeBytes, flagOf}
 use Rattle.state_bytes.specs.Entry.{flagsFormed}
 
 -- ---- flags
@@ -36,6 +36,29 @@ flag-forth (suc (suc x)) e = absurd (omega (arith, leb-true (suc (suc x)) 1 e))
 -- a list of this length, by its elements
 pub by-elements : (n : ℕ) (m : List ℕ) → length m ≡ n → m ≡ elements (λ (i : ℕ). getD m i 0) n
 by-elements n m e = sym (take-all n m (omega (arith, e))) ∙ take-elements n m (omega (arith, e))
+
+-- ---- four bytes as a number
+
+-- a number is made of its own four bytes
+pub u32-back : (w : ℕ) → u32Le (u32LeBytes w) ≡ w
+u32-back w = omega arith
+
+-- the bytes of the number that stands at an index
+module _ (at : ℕ) (m : List ℕ) (b : Bytes m) where
+  from-four : u32Le (drop at m) ≡ getD m (at + 0) 0 + getD m (at + 1) 0 * 256 + getD m (at + 2) 0 * 65536 + getD m (at + 3) 0 * 16777216
+  from-four = rw (getD-drop at m 0 0, getD-drop at m 1 0, getD-drop at m 2 0, getD-drop at m 3 0)
+
+  pub four-0 : u32Le (drop at m) % 256 ≡ getD m (at + 0) 0
+  four-0 = rw from-four (omega (arith, b (at + 0)))
+
+  pub four-1 : u32Le (drop at m) / 256 % 256 ≡ getD m (at + 1) 0
+  four-1 = rw from-four (omega (arith, b (at + 0), b (at + 1)))
+
+  pub four-2 : u32Le (drop at m) / 65536 % 256 ≡ getD m (at + 2) 0
+  four-2 = rw from-four (omega (arith, b (at + 0), b (at + 1), b (at + 2)))
+
+  pub four-3 : u32Le (drop at m) / 16777216 ≡ getD m (at + 3) 0
+  four-3 = rw from-four (omega (arith, b (at + 0), b (at + 1), b (at + 2)))
 
 -- ---- eight bytes as a number
 

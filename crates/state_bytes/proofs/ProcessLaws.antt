@@ -1,10 +1,10 @@
 -- Laws of the bytes of a process. Assumes nothing.
 use mathlib.Core.Path.{_≡_, refl, sym, ap, _∙_}
 use mathlib.Core.Bool.{Bool, true, false, _&&_, _||_}
-use mathlib.Core.List.{List, [], _∷_, _++_, append-assoc}
-use Prim.Native.Nat.{ℕ, zero, suc, _+_, _*_}
+use mathlib.Core.List.{List, _++_, append-assoc}
+use Prim.Native.Nat.{ℕ, zero, suc, _+_}
 use native.Mathlib.Omega.{arith}
-use borrow.Author.Tests.{eqb-true, leb-true, lt-leb, ne-eqb}
+use borrow.Author.Tests.{eqb-true, lt-leb, ne-eqb}
 use lib.ListN.{length, take, drop, getD, length-append, length-drop, take-append-drop}
 use lib.Seq.{take-at, drop-at, length-take-le, drop-drop}
 use lib.Dec.{eqb, leb}
@@ -16,10 +16,8 @@ use Rattle.lists.specs.Word.{lowFirst, vectorOf}
 use Rattle.lists.proofs.Bool.{&&-left, &&-right, &&-pairs}
 use Rattle.lists.proofs.Elements.{take-elements}
 use Rattle.lists.proofs.Word.{word-high-low, high-word, low-word, length-lowFirst}
-use Rattle.run_state.specs.declared.Run.{Run}
-use Rattle.run_state.specs.declared.Run.the-variants.{Running, Stepping, Stopped, AtBreak, Ended}
 use Rattle.process.specs.declared.record.Process.{Process}
-use Rattle.run_state.specs.RunState.{isRunNumber, runNumber, runOf}
+use Rattle.run_state.specs.RunState.{isRunNumber}
 use Rattle.run_state.proofs.RunLaws.{run-back, run-formed, run-forth}
 use Rattle.session.specs.Session.{isOwedNumber, sessionSound}
 use Rattle.session.proofs.SessionLaws.{owed-back, owed-formed, owed-forth}
@@ -34,10 +32,10 @@ use Rattle.state_bytes.specs.Entry.{entryBytes, entryOf, entryFormed, en
 use Rattle.state_bytes.specs.Number.{flagOf}
 use Rattle.state_bytes.specs.Process.{headBytes, sizeOf, processBytes, processOf, headFormed, processFormed, headSound, processPlain, processSound}
 use Rattle.state_bytes.specs.Session.{sessionOf, sessionFormed, sessionFits}
-use Rattle.state_bytes.specs.Widths.{entryCount, entryWidth, thereAt, hostAt, runAt, sizeAt, numberAt, owedAt, headWidth, vectorAt, vectorWidth, entriesAt, entriesWidth, processWidth}
+use Rattle.state_bytes.specs.Widths.{entryCount, entryWidth, thereAt, hostAt, runAt, sizeAt, numberAt, owedAt, waitsAt, idAt, headWidth, vectorAt, vectorWidth, entriesAt, entriesWidth, processWidth}
 use Rattle.state_bytes.proofs.ChunkLaws.{bytes-take, bytes-drop, length-joined, chunks-joined, every-joined, joined-chunks, chunks-same, every-weaker}
 use Rattle.state_bytes.proofs.EntryLaws.{&&-true, &&-false, &&-assoc, length-entryBytes, entry-back, entry-formed, entry-forth, entryZero, zero-bits, flags-bits, zero-free, zero-formed}
-use Rattle.state_bytes.proofs.NumberLaws.{flag-back, flag-formed, flag-forth, by-elements}
+use Rattle.state_bytes.proofs.NumberLaws.{flag-back, flag-formed, flag-forth, by-elements, u32-back, four-0, four-1, four-2, four-3}
 
 -- ---- lengths
 
@@ -86,11 +84,11 @@ module _ (p : Process) (nine : length (p .vector) ≡ 9) (eight : length (p .bre
   pub process-back : processOf (processBytes p) ≡ p
   unfolding processOf processBytes
   process-back =
-      rw (flag-back (p .there), run-back (p .run), word-high-low (p .size), owed-back (p .session .owed), take-at (lowFirst (p .vector)) (joined entryBytes (p .breaks)) vectorWidth words-long, vector-back (p .vector) nine, entries-after, entries-back)
+      rw (flag-back (p .there), run-back (p .run), word-high-low (p .size), owed-back (p .session .owed), flag-back (p .session .go .waits), u32-back (p .session .go .id), take-at (lowFirst (p .vector)) (joined entryBytes (p .breaks)) vectorWidth words-long, vector-back (p .vector) nine, entries-after, entries-back)
 
   pub process-formed : processFormed (processBytes p) ≡ true
   unfolding processFormed headFormed processBytes
-  process-formed = rw (flag-formed (p .there), run-formed (p .run), owed-formed (p .session .owed), entries-after) entries-formed
+  process-formed = rw (flag-formed (p .there), run-formed (p .run), owed-formed (p .session .owed), flag-formed (p .session .go .waits), entries-after) entries-formed
 
 pub process-forth : (m : List ℕ) → length m ≡ processWidth → Bytes m → processFormed m ≡ true → processBytes (processOf m) ≡ m
 unfolding processBytes processOf processFormed headFormed
@@ -98,9 +96,11 @@ process-forth m size b e =
     let there = leb (getD m thereAt 0) 1 in
     let run = isRunNumber (getD m runAt 0) in
     let owed = isOwedNumber (getD m owedAt 0) in
-    let head = &&-left (there && (run && owed)) _ e in
-    let rest = &&-right there (run && owed) head in
-    let entries = &&-right (there && (run && owed)) (everyChunk entryWidth entryFormed entryCount (drop entriesAt m)) e in
+    let waits = leb (getD m waitsAt 0) 1 in
+    let head = &&-left (there && (run && (owed && waits))) _ e in
+    let rest = &&-right there (run && (owed && waits)) head in
+    let session = &&-right run (owed && waits) rest in
+    let entries = &&-right (there && (run && (owed && waits))) (everyChunk entryWidth entryFormed entryCount (drop entriesAt m)) e in
     let after : length (drop vectorAt m) ≡ vectorWidth + entriesWidth = simp length-drop (omega (arith, size)) in
     let long : length (take vectorWidth (drop vectorAt m)) ≡ vectorWidth = length-take-le vectorWidth (drop vectorAt m) (omega (arith, after)) in
     let last : length (drop entriesAt m) ≡ entriesWidth = simp length-drop (omega (arith, size)) in
@@ -109,7 +109,12 @@ process-forth m size b e =
     rw (
       flag-forth (getD m thereAt 0) (&&-left there _ head),
       run-forth (getD m runAt 0) (&&-left run _ rest),
-      owed-forth (getD m owedAt 0) (&&-right run owed rest),
+      owed-forth (getD m owedAt 0) (&&-left owed _ session),
+      flag-forth (getD m waitsAt 0) (&&-right owed waits session),
+      four-0 idAt m b,
+      four-1 idAt m b,
+      four-2 idAt m b,
+      four-3 idAt m b,
       low-word (getD m (sizeAt + 1) 0) (getD m sizeAt 0) (b sizeAt),
       high-word (getD m (sizeAt + 1) 0) (getD m sizeAt 0) (b sizeAt),
       vector-forth (take vectorWidth (drop vectorAt m)) long (bytes-take vectorWidth (drop vectorAt m) (bytes-drop vectorAt m b)),

@@ -6,8 +6,8 @@ use Prim.Native.Nat.{ℕ, _+_, _-_, _*_, _≤_, _<_}
 use native.Mathlib.Numerals.{add-one}
 use native.Mathlib.Omega.{arith}
 use borrow.Author.Tests.{lt-ltb, le-ltb, leb-true}
-use lib.ListN.{length, take, drop, getD, set, length-append, length-drop, take-append-drop}
-use lib.Seq.{drop-at, length-take-le, take-append-add, drop-append-add, getD-append-add, getD-take, getD-drop, drop-drop, sets-eq}
+use lib.ListN.{length, take, drop, getD, set, length-drop, take-append-drop}
+use lib.Seq.{drop-at, length-take-le, take-append-le, drop-append-le, take-append-add, drop-append-add, getD-append-add, getD-take, getD-drop, drop-drop, sets-eq}
 use lib.Dec.{leb}
 use Rattle.lists.specs.Buffer.{Bytes, overlay}
 use Rattle.lists.specs.Elements.{elements}
@@ -17,6 +17,7 @@ use Rattle.lists.specs.Word.{high, low, word}
 use Rattle.lists.proofs.Bool.{&&-right}
 use Rattle.lists.proofs.Buffer.{length-overlay, overlay-all}
 use Rattle.lists.proofs.Elements.{length-elements, elements-step, set-elements}
+use Rattle.lists.proofs.Part.{length-replaced}
 use Rattle.lists.proofs.Sum.{total-front-at}
 use Rattle.lists.proofs.Word.{word-high-low, high-word, low-word}
 use Rattle.state.specs.Records.{Records, processAt, startOf}
@@ -28,7 +29,7 @@ use Rattle.state_bytes.specs.Number.{u16Le, u16LeBytes}
 use Rattle.state_bytes.specs.Process.{processOf}
 use Rattle.state_bytes.specs.State.{startsBytes, startsOf, stateOf, withStartBytes, withStartsBytes}
 use Rattle.state_bytes.specs.Widths.{processCount, processWidth, startWidth, startsAt, startsWidth, stateWidth}
-use Rattle.state_bytes.proofs.ChunkLaws.{bytes-drop, length-chunks, getD-chunks, chunks-front, chunks-joined, joined-chunks, every-any, length-joined, joined-set}
+use Rattle.state_bytes.proofs.ChunkLaws.{bytes-take, bytes-drop, length-chunks, getD-chunks, chunks-front, chunks-joined, joined-chunks, every-any, length-joined, joined-set}
 use Rattle.state_bytes.proofs.NumberLaws.{by-elements}
 
 -- ---- there and back
@@ -37,10 +38,13 @@ pub length-startsBytes : (starts : List ℕ) → length starts ≡ processCount 
 unfolding startsBytes
 length-startsBytes starts eight = length-joined u16LeBytes startWidth starts 0 (λ k h. refl) ∙ omega (arith, eight)
 
-pub starts-back : (starts : List ℕ) → length starts ≡ processCount → startsOf (startsBytes starts) ≡ starts
+-- whatever follows them
+pub starts-back : (starts after : List ℕ) → length starts ≡ processCount → startsOf (startsBytes starts ++ after) ≡ starts
 unfolding startsOf startsBytes
-starts-back starts eight =
-    ap (λ (n : ℕ). chunks startWidth u16Le n (joined u16LeBytes starts)) (sym eight)
+starts-back starts after eight =
+    let long : length (joined u16LeBytes starts) ≡ startsWidth = length-joined u16LeBytes startWidth starts 0 (λ k h. refl) ∙ omega (arith, eight) in
+    chunks-front startWidth u16Le processCount (joined u16LeBytes starts) after (omega (arith, long))
+    ∙ ap (λ (n : ℕ). chunks startWidth u16Le n (joined u16LeBytes starts)) (sym eight)
     ∙ chunks-joined startWidth u16Le u16LeBytes starts 0 (λ k h. refl) (λ k h. word-high-low (getD starts k 0))
 
 -- any two bytes are a start's
@@ -50,9 +54,16 @@ any c = true
 start-forth : (c : List ℕ) → length c ≡ startWidth → Bytes c → any c ≡ true → u16LeBytes (u16Le c) ≡ c
 start-forth c two b e = rw (low-word (getD c 1 0) (getD c 0 0) (b 0), high-word (getD c 1 0) (getD c 0 0) (b 0)) (sym (by-elements 2 c two))
 
-pub starts-forth : (m : List ℕ) → length m ≡ startsWidth → Bytes m → startsBytes (startsOf m) ≡ m
+pub starts-forth : (m : List ℕ) → startsWidth ≤ length m → Bytes m → startsBytes (startsOf m) ≡ take startsWidth m
 unfolding startsOf startsBytes
-starts-forth m long b = joined-chunks startWidth u16Le u16LeBytes any start-forth processCount m long b (every-any startWidth any (λ c. refl) processCount m)
+starts-forth m fits b =
+    let front = take startsWidth m in
+    let long : length front ≡ startsWidth = length-take-le startsWidth m fits in
+    let same : chunks startWidth u16Le processCount m ≡ chunks startWidth u16Le processCount front =
+    ap (chunks startWidth u16Le processCount) (sym (take-append-drop startsWidth m))
+    ∙ chunks-front startWidth u16Le processCount front (drop startsWidth m) (omega (arith, long)) in
+    ap (joined u16LeBytes) same
+    ∙ joined-chunks startWidth u16Le u16LeBytes any start-forth processCount front long (bytes-take startsWidth m b) (every-any startWidth any (λ c. refl) processCount front)
 
 -- ---- one start
 
@@ -84,41 +95,55 @@ module _ (m : List ℕ) (p at : ℕ) (h : p < processCount) (place : at ≡ star
 
 -- ---- all starts
 
+-- others in place of a part of the second of three lists
+in-the-middle : (a b c s : List ℕ) (k n : ℕ) → k + n ≤ length b
+    → take (length a + k) (a ++ (b ++ c)) ++ (s ++ drop n (drop (length a + k) (a ++ (b ++ c)))) ≡ a ++ ((take k b ++ (s ++ drop n (drop k b))) ++ c)
+in-the-middle a b c s k n h =
+    let rest : n ≤ length (drop k b) = simp length-drop (omega arith) in
+    rw (
+      take-append-add a (b ++ c) k,
+      drop-append-add a (b ++ c) k,
+      take-append-le k b c (omega arith),
+      drop-append-le k b c (omega arith),
+      drop-append-le n (drop k b) c rest,
+    )
+    (simp append-assoc)
+
 module _ (starts : List ℕ) (eight : length starts ≡ processCount) (m : List ℕ) (long : length m ≡ stateWidth) where
   front : length (take startsAt m) ≡ startsAt
   front = length-take-le startsAt m (omega (arith, long))
 
   pub length-with-starts : length (withStartsBytes starts m) ≡ stateWidth
   unfolding withStartsBytes
-  length-with-starts = length-append (take startsAt m) (startsBytes starts) ∙ omega (arith, front, length-startsBytes starts eight)
+  length-with-starts = length-replaced startsAt startsWidth m (omega (arith, long)) (startsBytes starts) (length-startsBytes starts eight) ∙ long
 
   -- the processes are read as before, and these starts
   pub read-with-starts : stateOf (withStartsBytes starts m) ≡ record { processes = stateOf m .processes; starts = starts }
   unfolding stateOf withStartsBytes
   read-with-starts =
-      let processes : chunks processWidth processOf processCount (take startsAt m ++ startsBytes starts) ≡ chunks processWidth processOf processCount m =
-      chunks-front processWidth processOf processCount (take startsAt m) (startsBytes starts) (omega (arith, front))
+      let after = startsBytes starts ++ drop startsWidth (drop startsAt m) in
+      let processes : chunks processWidth processOf processCount (take startsAt m ++ after) ≡ chunks processWidth processOf processCount m =
+      chunks-front processWidth processOf processCount (take startsAt m) after (omega (arith, front))
       ∙ sym (chunks-front processWidth processOf processCount (take startsAt m) (drop startsAt m) (omega (arith, front)))
       ∙ ap (chunks processWidth processOf processCount) (take-append-drop startsAt m) in
-      rw (processes, drop-at (take startsAt m) (startsBytes starts) startsAt front, starts-back starts eight)
+      rw (processes, drop-at (take startsAt m) after startsAt front, starts-back starts (drop startsWidth (drop startsAt m)) eight)
 
   -- another in place of one
   pub put-with-starts : (p start : ℕ) → p < processCount → withStartBytes p start (withStartsBytes starts m) ≡ withStartsBytes (set starts p start) m
   unfolding withStartBytes withStartsBytes startsBytes
   put-with-starts p start h =
       let place : startsAt + startWidth * p ≡ length (take startsAt m) + startWidth * p = omega (arith, front) in
-      rw (
-        place,
-        take-append-add (take startsAt m) (joined u16LeBytes starts) (startWidth * p),
-        drop-append-add (take startsAt m) (joined u16LeBytes starts) (startWidth * p),
-        joined-set u16LeBytes startWidth (λ x. refl) starts p start (omega (arith, h, eight)),
-      )
-      (append-assoc (take startsAt m) (take (startWidth * p) (joined u16LeBytes starts)) (u16LeBytes start ++ drop startWidth (drop (startWidth * p) (joined u16LeBytes starts))))
+      let words = joined u16LeBytes starts in
+      let size : length words ≡ startsWidth = length-joined u16LeBytes startWidth starts 0 (λ k i. refl) ∙ omega (arith, eight) in
+      rw (place, joined-set u16LeBytes startWidth (λ x. refl) starts p start (omega (arith, h, eight)))
+      (in-the-middle (take startsAt m) words (drop startsWidth (drop startsAt m)) (u16LeBytes start) (startWidth * p) startWidth (omega (arith, size)))
 
 -- the bytes of a state with its own starts
 pub same-starts : (m : List ℕ) → Bytes m → length m ≡ stateWidth → withStartsBytes (stateOf m .starts) m ≡ m
 unfolding withStartsBytes stateOf
-same-starts m b long = rw (starts-forth (drop startsAt m) (simp length-drop (omega (arith, long))) (bytes-drop startsAt m b)) (take-append-drop startsAt m)
+same-starts m b long =
+    rw (starts-forth (drop startsAt m) (simp length-drop (omega (arith, long))) (bytes-drop startsAt m b), take-append-drop startsWidth (drop startsAt m))
+    (take-append-drop startsAt m)
 
 -- ---- a turn of the loops that write one start after the other
 

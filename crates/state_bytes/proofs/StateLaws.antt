@@ -1,7 +1,7 @@
 -- Laws of the bytes of a state. Assumes nothing.
 use mathlib.Core.Path.{_≡_, refl, sym, ap, _∙_}
 use mathlib.Core.Bool.{Bool, true, false, not, _&&_}
-use mathlib.Core.List.{List, _++_, append-assoc}
+use mathlib.Core.List.{List, [], _∷_, _++_, append-assoc}
 use Prim.Native.Nat.{ℕ, suc, _+_, _-_, _*_, _/_, _%_, _≤_, _<_}
 use native.Mathlib.Omega.{arith}
 use borrow.Author.Tests.{eqb-true, eq-eqb, ne-eqb}
@@ -26,13 +26,15 @@ use Rattle.state.specs.Records.{Records, nobody, processAt, withProcess, withSt
 use Rattle.state.specs.Layout.{extentAt, laidOut}
 use Rattle.state.specs.Fresh.{freshProcesses, freshStarts, freshStart}
 use Rattle.state.specs.Sound.{recordsSound, soundTest}
+use Rattle.state.proofs.FreshLaws.{length-freshStarts}
 use Rattle.state_bytes.specs.Chunk.{chunks, everyChunk}
 use Rattle.state_bytes.specs.Number.{flagOf}
 use Rattle.state_bytes.specs.Process.{processBytes, processOf, processFormed, processSound}
-use Rattle.state_bytes.specs.State.{startsBytes, stateBytes, withProcessBytes, withStartBytes, withStartsBytes, stateOf, stateFormed, stateSound, SoundBefore}
+use Rattle.state_bytes.specs.State.{startsBytes, stateBytes, withProcessBytes, withStartBytes, withStartsBytes, stateOf, doorOf, stateFormed, stateSound, SoundBefore}
 use Rattle.state_bytes.specs.Theorems.{Sized, Inverse}
-use Rattle.state_bytes.specs.Widths.{thereAt, processCount, processWidth, startsAt, stateWidth}
+use Rattle.state_bytes.specs.Widths.{thereAt, processCount, processWidth, startsAt, startsWidth, doorAt, stateWidth}
 use Rattle.state_bytes.proofs.ChunkLaws.{bytes-take, length-joined, length-chunks, getD-chunks, chunks-front, chunks-joined, every-front, every-joined, joined-chunks, joined-with, every-read, every-both, every-snoc}
+use Rattle.state_bytes.proofs.DoorLaws.{door-last, door-back, door-put}
 use Rattle.state_bytes.proofs.EntryLaws.{&&-assoc}
 use Rattle.state_bytes.proofs.ProcessLaws.{length-processBytes, process-back, process-formed, process-forth}
 use Rattle.state_bytes.proofs.StartLaws.{length-startsBytes, starts-back, eight-starts, same-starts, put-with-starts}
@@ -135,31 +137,38 @@ sound-next at m s h e =
 
 -- ---- there and back
 
-module _ (g : Records) (s : Sized g) where
+module _ (door : ℕ) (g : Records) (s : Sized g) where
   wide : (k : ℕ) → k < length (g .processes) → length (processBytes (getD (g .processes) k nobody)) ≡ processWidth
   wide k h = let i : k < processCount = omega (arith, s .processes) in length-processBytes _ (length-lowFirst _ ∙ omega (arith, s .vectors k i)) (s .entries k i)
 
   records-long : length (joined processBytes (g .processes)) ≡ startsAt
   records-long = length-joined processBytes processWidth (g .processes) nobody wide ∙ omega (arith, s .processes)
 
-  state-back : stateOf (stateBytes g) ≡ g
+  state-back : stateOf (stateBytes door g) ≡ g
   unfolding stateOf stateBytes
   state-back =
       let records = joined processBytes (g .processes) in
-      let processes : chunks processWidth processOf processCount (records ++ startsBytes (g .starts)) ≡ g .processes =
-      chunks-front processWidth processOf processCount records (startsBytes (g .starts)) (omega (arith, records-long))
+      let after = startsBytes (g .starts) ++ (door ∷ []) in
+      let processes : chunks processWidth processOf processCount (records ++ after) ≡ g .processes =
+      chunks-front processWidth processOf processCount records after (omega (arith, records-long))
       ∙ ap (λ (n : ℕ). chunks processWidth processOf n records) (sym (s .processes))
       ∙ chunks-joined processWidth processOf processBytes (g .processes) nobody wide
       (λ k h. process-back _ (s .vectors k (omega (arith, s .processes))) (s .entries k (omega (arith, s .processes)))) in
-      rw (processes, drop-at records (startsBytes (g .starts)) startsAt records-long, starts-back (g .starts) (s .starts))
+      rw (processes, drop-at records after startsAt records-long, starts-back (g .starts) (door ∷ []) (s .starts))
 
-  state-formed : stateFormed (stateBytes g) ≡ true
+  state-door : doorOf (stateBytes door g) ≡ door
+  unfolding stateBytes
+  state-door = door-back (joined processBytes (g .processes)) (startsBytes (g .starts)) door records-long (length-startsBytes (g .starts) (s .starts))
+
+  state-formed : stateFormed (stateBytes door g) ≡ true
   unfolding stateFormed stateBytes
   state-formed =
       let records = joined processBytes (g .processes) in
-      let long : length (records ++ startsBytes (g .starts)) ≡ stateWidth = length-append records (startsBytes (g .starts)) ∙ omega (arith, records-long, length-startsBytes (g .starts) (s .starts)) in
-      &&-both (eqb (length (records ++ startsBytes (g .starts))) stateWidth) _ (eq-eqb _ stateWidth long)
-      (every-front processWidth processFormed processCount records (startsBytes (g .starts)) (omega (arith, records-long))
+      let after = startsBytes (g .starts) ++ (door ∷ []) in
+      let rest : length after ≡ length (startsBytes (g .starts)) + 1 = length-append (startsBytes (g .starts)) (door ∷ []) in
+      let long : length (records ++ after) ≡ stateWidth = length-append records after ∙ omega (arith, records-long, rest, length-startsBytes (g .starts) (s .starts)) in
+      &&-both (eqb (length (records ++ after)) stateWidth) _ (eq-eqb _ stateWidth long)
+      (every-front processWidth processFormed processCount records after (omega (arith, records-long))
       ∙ ap (λ (n : ℕ). everyChunk processWidth processFormed n records) (sym (s .processes))
       ∙ every-joined processWidth processOf processBytes processFormed (g .processes) nobody wide
       (λ k h. process-formed _ (s .vectors k (omega (arith, s .processes))) (s .entries k (omega (arith, s .processes)))))
@@ -199,18 +208,24 @@ module _ (m : List ℕ) (b : Bytes m) (e : stateFormed m ≡ true) where
       ap (chunks processWidth processOf processCount) (sym (take-append-drop startsAt m))
       ∙ chunks-front processWidth processOf processCount records (drop startsAt m) (omega (arith, front))
 
+  -- the door is what follows the starts
+  door-follows : (starts : List ℕ) → records ++ (startsBytes starts ++ (doorOf m ∷ [])) ≡ withStartsBytes starts m
+  unfolding withStartsBytes
+  door-follows starts = rw (door-last m long)
+
   -- other starts
-  pub state-starts : (starts : List ℕ) → stateBytes (record { processes = stateOf m .processes; starts = starts }) ≡ withStartsBytes starts m
-  unfolding stateBytes stateOf withStartsBytes
+  pub state-starts : (starts : List ℕ) → stateBytes (doorOf m) (record { processes = stateOf m .processes; starts = starts }) ≡ withStartsBytes starts m
+  unfolding stateBytes stateOf
   state-starts starts =
-      ap (λ (l : List ℕ). l ++ startsBytes starts)
+      ap (λ (l : List ℕ). l ++ (startsBytes starts ++ (doorOf m ∷ [])))
       (ap (joined processBytes) same-processes
       ∙ joined-chunks processWidth processOf processBytes processFormed process-forth processCount records front (bytes-take startsAt m b) each)
+      ∙ door-follows starts
 
-  state-forth : stateBytes (stateOf m) ≡ m
+  state-forth : stateBytes (doorOf m) (stateOf m) ≡ m
   state-forth = state-starts (stateOf m .starts) ∙ same-starts m b long
 
-  state-start : (p start : ℕ) → p < processCount → stateBytes (withStart p start (stateOf m)) ≡ withStartBytes p start m
+  state-start : (p start : ℕ) → p < processCount → stateBytes (doorOf m) (withStart p start (stateOf m)) ≡ withStartBytes p start m
   state-start p start h =
       state-starts (set (stateOf m .starts) p start)
       ∙ sym (put-with-starts (stateOf m .starts) (eight-starts m) m long p start h)
@@ -222,33 +237,40 @@ module _ (m : List ℕ) (b : Bytes m) (e : stateFormed m ≡ true) where
 
   -- another record of process p, and other starts: the starts are written first
   pub state-both : (starts : List ℕ) (p : ℕ) (q : Process) → p < processCount
-      → stateBytes (record { processes = set (stateOf m .processes) p q; starts = starts }) ≡ withProcessBytes p q (withStartsBytes starts m)
-  unfolding stateBytes stateOf withStartsBytes
+      → stateBytes (doorOf m) (record { processes = set (stateOf m .processes) p q; starts = starts }) ≡ withProcessBytes p q (withStartsBytes starts m)
+  unfolding stateBytes stateOf
   state-both starts p q h =
-      ap (λ (l : List ℕ). l ++ startsBytes starts)
+      let after = startsBytes starts ++ (doorOf m ∷ []) in
+      ap (λ (l : List ℕ). l ++ after)
       (ap (λ (l : List Process). joined processBytes (set l p q)) same-processes ∙ with-records p q h)
-      ∙ sym (with-before p q records (startsBytes starts) h front)
+      ∙ sym (with-before p q records after h front)
+      ∙ ap (withProcessBytes p q) (door-follows starts)
 
-  state-with : (p : ℕ) (q : Process) → p < processCount → stateBytes (withProcess p q (stateOf m)) ≡ withProcessBytes p q m
+  state-with : (p : ℕ) (q : Process) → p < processCount → stateBytes (doorOf m) (withProcess p q (stateOf m)) ≡ withProcessBytes p q m
   state-with p q h = state-both (stateOf m .starts) p q h ∙ ap (withProcessBytes p q) (same-starts m b long)
 
   -- a new record of process p, and its start: the start is written first
-  pub state-new : (start p : ℕ) (q : Process) → p < processCount → stateBytes (withStart p start (withProcess p q (stateOf m))) ≡ withProcessBytes p q (withStartBytes p start m)
+  pub state-new : (start p : ℕ) (q : Process) → p < processCount → stateBytes (doorOf m) (withStart p start (withProcess p q (stateOf m))) ≡ withProcessBytes p q (withStartBytes p start m)
   state-new start p q h =
       state-both (set (stateOf m .starts) p start) p q h
       ∙ ap (withProcessBytes p q) (sym (put-with-starts (stateOf m .starts) (eight-starts m) m long p start h) ∙ ap (withStartBytes p start) (same-starts m b long))
 
--- the records and then the starts, written at a fresh start
-pub fresh-bytes : (ts : List Bool) (ns m now : List ℕ) {last : List ℕ} → length (joined processBytes (freshProcesses ts ns)) ≡ startsAt
-    → now ≡ overlay (joined processBytes (freshProcesses ts ns)) m → last ≡ withStartsBytes (freshStarts 0 ts ns) now → last ≡ stateBytes (freshStart ts ns)
+-- the records, then the starts, then the door, written at a fresh start
+pub fresh-bytes : (ts : List Bool) (ns m now last : List ℕ) (door : ℕ) → length ts ≡ processCount → length now ≡ stateWidth
+    → length (joined processBytes (freshProcesses ts ns)) ≡ startsAt → now ≡ overlay (joined processBytes (freshProcesses ts ns)) m
+    → last ≡ withStartsBytes (freshStarts 0 ts ns) now → set last doorAt door ≡ stateBytes door (freshStart ts ns)
 unfolding withStartsBytes stateBytes freshStart overlay
-fresh-bytes ts ns m now size e l =
+fresh-bytes ts ns m now last door eight long size e l =
     let records = joined processBytes (freshProcesses ts ns) in
-    l ∙ rw (e, take-at records (drop (length records) m) startsAt size)
+    let starts = freshStarts 0 ts ns in
+    let front : take startsAt now ≡ records = ap (take startsAt) e ∙ take-at records (drop (length records) m) startsAt size in
+    let wide : length (startsBytes starts) ≡ startsWidth = length-startsBytes starts (length-freshStarts 0 ts ns ∙ eight) in
+    rw (l, front, door-last now long) (door-put records (startsBytes starts) door size wide (doorOf now))
 
 pub inverse : Inverse
 inverse = record {
   written-is-read = state-back;
+  door-is-read = state-door;
   written-is-formed = state-formed;
   read-is-written = state-forth;
   put-is-with = state-with;

@@ -18,6 +18,10 @@ u16LeBytes w = low w ∷ high w ∷ []
 abbrev pub u32Le : List ℕ → ℕ
 u32Le m = getD m 0 0 + getD m 1 0 * 256 + getD m 2 0 * 65536 + getD m 3 0 * 16777216
 
+-- a number as four bytes
+abbrev pub u32LeBytes : ℕ → List ℕ
+u32LeBytes w = w % 256 ∷ w / 256 % 256 ∷ w / 65536 % 256 ∷ w / 16777216 ∷ []
+
 -- eight bytes as a number
 abbrev pub u64Le : List ℕ → ℕ
 u64Le m = u32Le m + u32Le (drop 4 m) * 4294967296

@@ -45,9 +45,21 @@ owedAt = 6
 abbrev pub watcherAt : ℕ
 watcherAt = 7
 
--- these seven
+-- whether a Go waits
+abbrev pub waitsAt : ℕ
+waitsAt = 8
+
+-- its ticks
+abbrev pub ticksAt : ℕ
+ticksAt = 9
+
+-- its ID, four bytes, low byte first
+abbrev pub idAt : ℕ
+idAt = 10
+
+-- these ten
 abbrev pub headWidth : ℕ
-headWidth = 8
+headWidth = 14
 
 -- ---- a process
 
@@ -85,6 +97,10 @@ startsAt = processWidth * processCount
 abbrev pub startsWidth : ℕ
 startsWidth = startWidth * processCount
 
--- processes and starts
+-- the process of the Pup door, one byte, lies after the starts
+abbrev pub doorAt : ℕ
+doorAt = startsAt + startsWidth
+
+-- processes, starts and door
 abbrev pub stateWidth : ℕ
-stateWidth = startsAt + startsWidth
+stateWidth = doorAt + 1

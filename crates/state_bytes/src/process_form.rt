@@ -1,19 +1,25 @@
 // The bytes of a process: its head, the nine words, the eight entries.
 use crate::entry::put_entries;
 use crate::entry::read_entries;
+use crate::number::put_u32_le;
+use crate::number::u32_le;
 use crate::widths::ENTRIES_AT;
 use crate::widths::HOST_AT;
+use crate::widths::ID_AT;
 use crate::widths::NUMBER_AT;
 use crate::widths::OWED_AT;
 use crate::widths::RUN_AT;
 use crate::widths::SIZE_AT;
 use crate::widths::THERE_AT;
+use crate::widths::TICKS_AT;
 use crate::widths::VECTOR_AT;
+use crate::widths::WAITS_AT;
 use crate::widths::WATCHER_AT;
 use process::Process;
 use process::valid_size;
 use run_state::is_run_number;
 use run_state::run_of;
+use session::Go;
 use session::LAST_OWED_NUMBER;
 use session::Session;
 use session::owed_of;
@@ -29,7 +35,7 @@ ghost use Rattle.lists.specs.Buffer.{overlay};
 ghost use Rattle.lists.specs.Word.{lowFirst, vectorOf};
 ghost use Rattle.process.specs.Local.{extent};
 ghost use Rattle.state_bytes.specs.Process.{headBytes, sizeOf, processBytes, processOf, headSound};
-ghost use Rattle.state_bytes.specs.Session.{sessionOf, sessionFits};
+ghost use Rattle.state_bytes.specs.Session.{goOf, sessionOf, sessionFits};
 ghost use Rattle.state_bytes.specs.Widths.{headWidth, vectorWidth, processWidth};
 
 // The nine words.
@@ -58,15 +64,30 @@ fn read_size(bytes: &[u8]) -> u16
     word_of(bytes[SIZE_AT + 1], bytes[SIZE_AT])
 }
 
+// The Go in the head.
+fn read_go(bytes: &[u8]) -> Go
+    requires { ⌜ headWidth ≤ length (now bytes) ⌝ }
+    ensures { λ r. ⌜ r ≡ goOf (now (bytes .entry)) ⌝ }
+{
+    let id = u32_le(&bytes[ID_AT..]);
+    Go {
+        waits: bytes[WAITS_AT] % 2 == 1,
+        ticks: bytes[TICKS_AT],
+        id: id,
+    }
+}
+
 // The session in the head.
 fn read_session(bytes: &[u8]) -> Session
     requires { ⌜ headWidth ≤ length (now bytes) ⌝ }
     ensures { λ r. ⌜ r ≡ sessionOf (now (bytes .entry)) ⌝ }
 {
     let owed = owed_of(bytes[OWED_AT]);
+    let go = read_go(bytes);
     Session {
         owed: owed,
         watcher: bytes[WATCHER_AT],
+        go: go,
     }
 }
 
@@ -111,6 +132,7 @@ fn put_head(p: Process, bytes: &mut [u8])
     let run = p.run;
     let session = p.session;
     let owed = session.owed;
+    let go = session.go;
     bytes[THERE_AT] = flag(p.there);
     bytes[HOST_AT] = p.host;
     bytes[RUN_AT] = run.number();
@@ -119,6 +141,9 @@ fn put_head(p: Process, bytes: &mut [u8])
     bytes[NUMBER_AT] = p.number;
     bytes[OWED_AT] = owed.number();
     bytes[WATCHER_AT] = session.watcher;
+    bytes[WAITS_AT] = flag(go.waits);
+    bytes[TICKS_AT] = go.ticks;
+    put_u32_le(go.id, &mut bytes[ID_AT..]);
 }
 
 // Writes the nine words.
@@ -149,10 +174,13 @@ fn session_fits(bytes: &[u8]) -> bool
     requires { ⌜ headWidth ≤ length (now bytes) ⌝ }
     ensures { λ r. ⌜ r ≡ sessionFits (now (bytes .entry)) ⌝ }
 {
-    if bytes[OWED_AT] == 0 && bytes[WATCHER_AT] == 0 {
+    if bytes[OWED_AT] == 0 && bytes[WATCHER_AT] == 0 && bytes[WAITS_AT] == 0 {
         return true;
     }
     if bytes[OWED_AT] > LAST_OWED_NUMBER {
+        return false;
+    }
+    if bytes[WAITS_AT] > 1 {
         return false;
     }
     read_session(bytes).sound(bytes[HOST_AT])

@@ -1,4 +1,4 @@
-// Where each process begins in memory: the eight words at the end of the bytes of a state.
+// Where each process begins in memory: the eight words after the processes in the bytes of a state.
 use crate::place::is_there;
 use crate::place::read_extent_at;
 use crate::widths::PROCESS_COUNT;

@@ -1,6 +1,7 @@
 // The bytes of a whole state.
 use crate::process_form::put_process;
 use crate::starts::put_start;
+use crate::widths::DOOR_AT;
 use crate::widths::PROCESS_BYTES;
 use crate::widths::PROCESS_COUNT;
 use process::Process;
@@ -63,12 +64,13 @@ fn put_fresh_starts(there: [bool; 8], sizes: [u16; 8], state: &mut [u8])
     }
 }
 
-// Writes the state at a fresh start with the given processes there, each with its size.
-pub fn put_fresh_start(there: [bool; 8], sizes: [u16; 8], state: &mut [u8])
+// Writes the state at a fresh start with the given processes there, each with its size, and the process of the Pup door.
+pub fn put_fresh_start(there: [bool; 8], sizes: [u16; 8], door: u8, state: &mut [u8])
     requires { ⌜ sizesRight there sizes ≡ true ⌝ }
     requires { ⌜ length (now state) ≡ stateWidth ⌝ }
-    ensures { λ _. ⌜ now (state .exit) ≡ stateBytes (freshStart there sizes) ⌝ }
+    ensures { λ _. ⌜ now (state .exit) ≡ stateBytes door (freshStart there sizes) ⌝ }
 {
     put_fresh_processes(there, sizes, state);
     put_fresh_starts(there, sizes, state);
+    state[DOOR_AT] = door;
 }

@@ -22,7 +22,13 @@ pub(crate) const OWED_AT: usize = 6;
 
 pub(crate) const WATCHER_AT: usize = 7;
 
-pub(crate) const HEAD_BYTES: usize = 8;
+pub(crate) const WAITS_AT: usize = 8;
+
+pub(crate) const TICKS_AT: usize = 9;
+
+pub(crate) const ID_AT: usize = 10;
+
+pub(crate) const HEAD_BYTES: usize = 14;
 
 // A process.
 pub(crate) const VECTOR_AT: usize = HEAD_BYTES;
@@ -40,7 +46,9 @@ pub(crate) const START_BYTES: usize = 2;
 
 pub(crate) const STARTS_AT: usize = PROCESS_BYTES * PROCESS_COUNT;
 
-pub const STATE_BYTES: usize = STARTS_AT + START_BYTES * PROCESS_COUNT;
+pub(crate) const DOOR_AT: usize = STARTS_AT + START_BYTES * PROCESS_COUNT;
+
+pub const STATE_BYTES: usize = DOOR_AT + 1;
 
 // The index of the first byte of each process's record, as its low and its high byte. Byte p of a table is found by an addition alone; an element of two
 // bytes or more would be found by p times its size.

@@ -2,16 +2,21 @@
 
 use super::*;
 
-/// A gateway: a state, its memory, one reply buffer and one line buffer.
+/// A gateway: a state, its memory, a reply buffer, a line buffer and the words of an
+/// acknowledgement.
 pub struct Gateway {
     pub state: State,
     pub memory: Vec<u8>,
     pub output: Vec<u8>,
     pub line: Vec<u8>,
+    pub ack: Vec<u16>,
 }
 
 /// A byte that no case writes, to see which bytes are touched.
 pub const UNTOUCHED: u8 = 0xa5;
+
+/// A word that no case writes.
+pub const UNTOUCHED_WORD: u16 = 0xa5a5;
 
 /// Sizes of processes as large as there are: four of them have room.
 pub const FULL: [u16; PROCESSES] = [LARGEST; PROCESSES];
@@ -28,11 +33,16 @@ impl Gateway {
     }
 
     pub fn with_sizes(there: u8, sizes: &[u16; PROCESSES]) -> Gateway {
+        Gateway::with_door(there, sizes, NO_DOOR)
+    }
+
+    pub fn with_door(there: u8, sizes: &[u16; PROCESSES], door: u8) -> Gateway {
         Gateway {
-            state: fresh_start(there, sizes).unwrap(),
+            state: fresh_start(there, sizes, door).unwrap(),
             memory: vec![0; MEMORY],
             output: vec![UNTOUCHED; LONGEST],
             line: vec![UNTOUCHED; LONGEST_LINE],
+            ack: vec![UNTOUCHED_WORD; ACK_WORDS + 1],
         }
     }
 
@@ -78,6 +88,27 @@ impl Gateway {
     pub fn raw(&mut self, text: &[u8]) -> i64 {
         self.line.fill(UNTOUCHED);
         line(&mut self.state, &mut self.memory, text, &mut self.line)
+    }
+
+    /// A packet at the Pup door.
+    pub fn packet(&mut self, kind: impl Into<u64>, id: impl Into<u64>, words: &[u16]) -> i64 {
+        self.ack.fill(UNTOUCHED_WORD);
+        let (state, memory, ack) = (&mut self.state, &mut self.memory, &mut self.ack);
+        packet(state, memory, kind.into(), id.into(), words, ack)
+    }
+
+    /// The words of the acknowledgement, and a test that none past them is touched.
+    pub fn acked(&self, count: usize) -> &[u16] {
+        assert!(self.ack[count..].iter().all(|&word| word == UNTOUCHED_WORD));
+        &self.ack[..count]
+    }
+
+    /// So many ticks, all granted.
+    #[track_caller]
+    pub fn ticks(&mut self, count: usize) {
+        for _ in 0..count {
+            assert_eq!(tick(&mut self.state), 0);
+        }
     }
 
     /// The line that was written, without its newline, and a test that no byte past it is

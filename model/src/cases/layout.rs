@@ -40,6 +40,7 @@ fn seen(g: &Gateway, p: u8) -> Vec<u8> {
         memory: g.memory.clone(),
         output: vec![UNTOUCHED; LONGEST],
         line: vec![UNTOUCHED; LONGEST_LINE],
+        ack: Vec::new(),
     };
     let Process { host, size, .. } = g.state.processes[usize::from(p)];
     let mut bytes = Vec::new();
@@ -55,32 +56,32 @@ fn seen(g: &Gateway, p: u8) -> Vec<u8> {
 
 #[test]
 fn k9_a_fresh_start_lays_them_in_number_order() {
-    let state = fresh_start(0b1010_1101, &[2, 9, 1536, 4094, 9, 4096, 9, 4]).unwrap();
+    let state = fresh_start(0b1010_1101, &[2, 9, 1536, 4094, 9, 4096, 9, 4], NO_DOOR).unwrap();
     let begins = state.processes.map(|process| process.begin);
     assert_eq!(begins, [0, 0, 2, 1538, 0, 5632, 0, 9728]);
     assert!(sound(&state));
     assert_eq!((used_bytes(&state), free_bytes(&state)), (9732, 6652));
     let bytes = encode(&state);
-    assert_eq!(bytes[BEGINS_AT..], [0, 0, 0, 0, 2, 0, 2, 6, 0, 0, 0, 22, 0, 0, 0, 38]);
+    assert_eq!(bytes[BEGINS_AT..DOOR_AT], [0, 0, 0, 0, 2, 0, 2, 6, 0, 0, 0, 22, 0, 0, 0, 38]);
 }
 
 #[test]
 fn k9_a_fresh_start_of_16384_and_of_more() {
-    assert!(fresh_start(255, &EIGHT).is_ok());
-    assert!(fresh_start(0b1111, &FULL).is_ok());
-    assert!(fresh_start(255, &[4096, 4096, 4096, 4088, 2, 2, 2, 2]).is_ok());
+    assert!(fresh_start(255, &EIGHT, NO_DOOR).is_ok());
+    assert!(fresh_start(0b1111, &FULL, NO_DOOR).is_ok());
+    assert!(fresh_start(255, &[4096, 4096, 4096, 4088, 2, 2, 2, 2], NO_DOOR).is_ok());
     let over = [4096, 4096, 4096, 4090, 2, 2, 2, 2];
-    assert_eq!(fresh_start(255, &over), Err(NOT_SOUND));
-    assert_eq!(fresh_start(255, &FULL), Err(NOT_SOUND));
-    assert_eq!(fresh_start(0b1_1111, &FULL), Err(NOT_SOUND));
+    assert_eq!(fresh_start(255, &over, NO_DOOR), Err(NOT_SOUND));
+    assert_eq!(fresh_start(255, &FULL, NO_DOOR), Err(NOT_SOUND));
+    assert_eq!(fresh_start(0b1_1111, &FULL, NO_DOOR), Err(NOT_SOUND));
     // Those that are not there take no bytes.
-    assert!(fresh_start(0b0111_1111, &over).is_ok());
+    assert!(fresh_start(0b0111_1111, &over, NO_DOOR).is_ok());
     let mut state = [9; STATE_BYTES];
-    assert_eq!(fresh_start_bytes(255, &over, &mut state), -2);
-    assert_eq!(fresh_start_bytes(256 + 255, &over, &mut state), -2);
-    assert_eq!(fresh_start_bytes(255, &over, &mut state[1..]), -1);
-    assert_eq!(fresh_start_bytes(255, &over[1..], &mut state), -1);
-    assert_eq!(fresh_start_bytes(255, &over, &mut [9; 696]), -1);
+    assert_eq!(fresh_start_bytes(255, &over, 255, &mut state), -2);
+    assert_eq!(fresh_start_bytes(256 + 255, &over, 255, &mut state), -2);
+    assert_eq!(fresh_start_bytes(255, &over, 255, &mut state[1..]), -1);
+    assert_eq!(fresh_start_bytes(255, &over[1..], 255, &mut state), -1);
+    assert_eq!(fresh_start_bytes(255, &over, 255, &mut [9; 696]), -1);
     assert_eq!(state, [9; STATE_BYTES]);
 }
 
@@ -294,7 +295,7 @@ fn k9_a_row_of_blocks() {
 
 #[test]
 fn k9_sound_includes_the_layout() {
-    let state = fresh_start(0b1011, &[100, 200, 9, 300, 9, 9, 9, 9]).unwrap();
+    let state = fresh_start(0b1011, &[100, 200, 9, 300, 9, 9, 9, 9], NO_DOOR).unwrap();
     let with = |begins: [u16; 3]| {
         let mut state = state.clone();
         for (p, begin) in [0, 1, 3].into_iter().zip(begins) {
@@ -327,14 +328,14 @@ fn k9_sound_includes_the_layout() {
 
 #[test]
 fn k9_sound_up_to_the_end_of_memory() {
-    let mut state = fresh_start(255, &EIGHT).unwrap();
+    let mut state = fresh_start(255, &EIGHT, NO_DOOR).unwrap();
     assert!(sound(&state));
     state.processes[7].size = 2050;
     assert!(!sound(&state));
     state.processes[7].size = 2046;
     assert!(sound(&state));
     // Without gaps, but past the end: four of 4,096 and one of 2.
-    let mut state = fresh_start(0b1111, &FULL).unwrap();
+    let mut state = fresh_start(0b1111, &FULL, NO_DOOR).unwrap();
     state.processes[4] = Process { there: true, size: 2, begin: 16_384, ..CLEARED };
     assert!(!sound(&state));
     state.processes[4].there = false;

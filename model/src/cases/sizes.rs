@@ -69,7 +69,7 @@ fn k2_a_cleared_record_gives_4096() {
 
 #[test]
 fn k2_sound_covers_the_size_of_every_record() {
-    let state = fresh_start(1, &FULL).unwrap();
+    let state = fresh_start(1, &FULL, NO_DOOR).unwrap();
     for p in [0, 7] {
         for (size, right) in [(2, true), (4, true), (1536, true), (4094, true), (4096, true)]
             .into_iter()
@@ -100,18 +100,18 @@ fn k2_a_fresh_start_with_bad_sizes() {
     };
     for bad in [0, 1, 3, 1537, 4095, 4097, 4098, 65535] {
         let mut state = [9; STATE_BYTES];
-        assert_eq!(fresh_start_bytes(0b100, &sizes(2, bad), &mut state), -2);
+        assert_eq!(fresh_start_bytes(0b100, &sizes(2, bad), 255, &mut state), -2);
         // "The lowest-numbered test that fails gives the answer"
-        assert_eq!(fresh_start_bytes(0b1_0000_0100, &sizes(2, bad), &mut state), -2);
-        assert_eq!(fresh_start_bytes(0b100, &sizes(2, bad), &mut state[1..]), -1);
-        assert_eq!(fresh_start_bytes(0b100, &sizes(2, bad)[1..], &mut state), -1);
-        assert_eq!(fresh_start_bytes(0b1_0000_0000, &sizes(2, bad), &mut state), -7);
+        assert_eq!(fresh_start_bytes(0b1_0000_0100, &sizes(2, bad), 255, &mut state), -2);
+        assert_eq!(fresh_start_bytes(0b100, &sizes(2, bad), 255, &mut state[1..]), -1);
+        assert_eq!(fresh_start_bytes(0b100, &sizes(2, bad)[1..], 255, &mut state), -1);
+        assert_eq!(fresh_start_bytes(0b1_0000_0000, &sizes(2, bad), 255, &mut state), -7);
         assert_eq!(state, [9; STATE_BYTES]);
         // A process that is not there then has a cleared record.
-        assert_eq!(fresh_start_bytes(0b11, &sizes(2, bad), &mut state), 0);
-        assert_eq!(state, encode(&fresh_start(0b11, &FULL).unwrap()));
+        assert_eq!(fresh_start_bytes(0b11, &sizes(2, bad), 255, &mut state), 0);
+        assert_eq!(state, encode(&fresh_start(0b11, &FULL, NO_DOOR).unwrap()));
     }
     let mut state = [9; STATE_BYTES];
-    assert_eq!(fresh_start_bytes(0, &[], &mut state), -1);
-    assert_eq!(fresh_start_bytes(256, &[2; 9], &mut state), -1);
+    assert_eq!(fresh_start_bytes(0, &[], 255, &mut state), -1);
+    assert_eq!(fresh_start_bytes(256, &[2; 9], 255, &mut state), -1);
 }

@@ -165,7 +165,7 @@ fn k6_sound_states() {
     for p in 0..PROCESSES {
         for number in 0..=255 {
             let mut bytes = right;
-            bytes[90 * p + 5] = number;
+            bytes[96 * p + 5] = number;
             let state = decode(&bytes).unwrap();
             assert_eq!(state.processes[p].set, number);
             assert_eq!(encode(&state), bytes);

@@ -330,14 +330,14 @@ fn k5_the_byte_form() {
     assert_eq!(g.report(2, BPT, 0, 512), 28);
     assert_eq!(to(&mut g, OWNER, SINGLE_STEP), 10);
     let mut bytes = encode(&g.state);
-    assert_eq!(bytes[2 * 90..][..8], [1, 5, 1, 0, 16, 1, 0, 6]);
-    assert_eq!(bytes[2 * 90 + 26..][..8], [1, 6, 0, 2, 0, 0, 0, 0]);
+    assert_eq!(bytes[2 * 96..][..8], [1, 5, 1, 0, 16, 1, 0, 6]);
+    assert_eq!(bytes[2 * 96 + 32..][..8], [1, 6, 0, 2, 0, 0, 0, 0]);
     assert_eq!(decode(&bytes), Some(g.state.clone()));
     // neither lifted nor not, in a breakpoint and in a free entry; a free one stays as it is
     for lifted in 0..=255 {
         for entry in [0, 1] {
             let mut bytes = bytes;
-            bytes[2 * 90 + 26 + 8 * entry] = lifted;
+            bytes[2 * 96 + 32 + 8 * entry] = lifted;
             let state = decode(&bytes);
             assert_eq!(state.is_some(), lifted < 2);
             assert!(state.is_none_or(|state| encode(&state) == bytes && sound(&state)));
@@ -345,8 +345,8 @@ fn k5_the_byte_form() {
     }
     // whoever set it; 0 makes it free, and what else it holds stays
     for setter in 0..=255 {
-        bytes[2 * 90 + 26 + 1] = setter;
-        bytes[2 * 90 + 5] = u8::from(setter != 0);
+        bytes[2 * 96 + 32 + 1] = setter;
+        bytes[2 * 96 + 5] = u8::from(setter != 0);
         let state = decode(&bytes).unwrap();
         let used = state.processes[2].breakpoints[0].used();
         assert_eq!((sound(&state), used), ([0, 5, 6].contains(&setter), setter != 0));

@@ -8,7 +8,7 @@ use Rattle.calls.proofs.listing.goes_on.Statement.{statement}
 use Rattle.calls.proofs.listing.goes_on.Tie as tie
 
 returns : tie.Need-returns
-returns c = let a = c .before .args in sym (zero-ends (a .size) (a .c) (c .if1 .taken))
+returns c = let a = c .before .args in sym (zero-ends (a .most) (a .n) (a .c) (c .if1 .taken))
 
 is-digit-requires : tie.Need-is-digit-requires
 is-digit-requires c κs = search needs
@@ -16,7 +16,7 @@ is-digit-requires c κs = search needs
 returns-2 : tie.Need-returns-2
 returns-2 c =
     let a = c .before .before .before .args in
-    sym (other-ends (a .size) (a .c) (sym (c .before .is-digit .ensures) ∙ not-true _ (c .if2 .taken)))
+    sym (other-ends (a .most) (a .n) (a .c) (sym (c .before .is-digit .ensures) ∙ not-true _ (c .if2 .taken)))
 
 mul-result : tie.Need-mul-result
 mul-result c = search needs
@@ -33,7 +33,7 @@ add-result c = search needs
 returns-3 : tie.Need-returns-3
 returns-3 c =
     let a = c .before .before .before .args in
-    sym (digit-goes (a .size) (a .c) (omega arith) (sym (c .before .is-digit .ensures) ∙ not-false _ (c .if2 .left)))
+    sym (digit-goes (a .most) (a .n) (a .c) (omega arith) (sym (c .before .is-digit .ensures) ∙ not-false _ (c .if2 .left)))
 
 pub goes-on-spec : {M : Type 1} → statement M
 goes-on-spec =

@@ -1,4 +1,4 @@
--- `display::record::put_record` meets its contract: head, words, entries, size, watcher, number of breakpoints, owed answer. Assumes nothing.
+-- `display::record::put_record` meets its contract: head, words, entries, size, watcher, number of breakpoints, owed answer, Go. Assumes nothing.
 use mathlib.Core.Path.{_≡_, _∙_}
 use mathlib.Core.List.{_++_}
 use Prim.Native.Nat.{_≤_}
@@ -6,7 +6,7 @@ use native.Mathlib.Omega.{arith}
 use lib.ListN.{length}
 use Rattle.lists.specs.Joined.{joined}
 use Rattle.lines.proofs.PutLaws.{put-then}
-use Rattle.display.specs.Line.{wordText, entryText, headText, named, sizeName, watcherName, setName, owedText, recordText}
+use Rattle.display.specs.Line.{wordText, entryText, headText, named, sizeName, watcherName, setName, owedText, goText, recordText}
 use borrow.Author.Needs.{needs}
 use Rattle.display.proofs.record.put_record.Statement.{statement}
 use Rattle.display.proofs.record.put_record.Tie as tie
@@ -16,7 +16,7 @@ abbrev head : tie.After-put-named2 → tie.After-put-head
 head v = v .before .before .before .before .before .before .before .before .before .before .before .before .before .before .before .before .before .before .before
 
 abbrev start : tie.After-put-named2 → tie.Start
-start v = head v .before .before .before .before .before .before
+start v = head v .before .before .before .before .before .before .before
 
 -- once the watcher is put: how far, and the buffer is as long as it was
 watcher-put : (v : tie.After-put-named2) → (v .put-named2 .result ≤ 384) × (length (v .put-named2 .last .1 .1 .1 .0) ≡ length (start v .args .out .now))
@@ -31,6 +31,18 @@ watcher-put v =
           ∙ e .put-entries .kept .1 .1 .0
           ∙ w .put-words .kept .1 .1 .0
           ∙ h .put-head .kept .1 .1 .1 .0,
+    )
+
+-- and once the owed answer is
+abbrev watcher : tie.After-put-owed → tie.After-put-named2
+watcher o = o .before .before .before .before .before .before .before .before .before .before
+
+owed-put : (o : tie.After-put-owed) → (o .put-owed .result ≤ 401) × (length (o .put-owed .last .1 .1 .0) ≡ length (start (watcher o) .args .out .now))
+owed-put o =
+    let s = o .before .before .before .before in
+    let v = watcher o in (
+      omega (arith, watcher-put v .0, s .put-named3 .ensures .1, o .put-owed .ensures .1),
+      o .put-owed .kept .1 .1 .0 ∙ s .put-named3 .kept .1 .1 .1 .0 ∙ watcher-put v .1,
     )
 
 put-head-requires : tie.Need-put-head-requires
@@ -74,19 +86,22 @@ put-owed-requires c κs =
     let v = s .before .before .before .before .before .before in
     omega (arith, watcher-put v .0, watcher-put v .1, start v .pre, s .put-named3 .kept .1 .1 .1 .0, s .put-named3 .ensures .1)
 
+put-go-requires : tie.Need-put-go-requires
+put-go-requires c κs = let o = c .before .before .before in omega (arith, owed-put o .0, owed-put o .1, start (watcher o) .pre)
+
 same-length : tie.Need-same-length
 same-length c =
-    let o = c .before .before in
-    let s = o .before .before .before .before in
-    let v = s .before .before .before .before .before .before in
-    o .put-owed .kept .1 .1 .0 ∙ s .put-named3 .kept .1 .1 .1 .0 ∙ watcher-put v .1
+    let g = c .before .before in
+    let o = g .before .before .before .before in
+    g .put-go .kept .1 .1 .0 ∙ owed-put o .1
 
 returns : tie.Need-returns
 unfolding recordText
 returns c =
-    let o = c .before .before in
+    let g = c .before .before in
+    let o = g .before .before .before .before in
     let s = o .before .before .before .before in
-    let v = s .before .before .before .before .before .before in
+    let v = watcher o in
     let n = v .before .before .before .before .before .before in
     let e = n .before .before .before .before .before in
     let w = e .before .before .before .before in
@@ -99,6 +114,7 @@ returns c =
     let out5 = v .put-named2 .last .1 .1 .1 .0 in
     let out6 = s .put-named3 .last .1 .1 .1 .0 in
     let out7 = o .put-owed .last .1 .1 .0 in
+    let out8 = g .put-go .last .1 .1 .0 in
     let t1 = headText (a .p .there) (a .p .host) (a .p .run) in
     let p2 = put-then 0 (h .put-head .result) (w .put-words .result) t1 (joined wordText (a .p .vector)) (a .out .now) out1 out2 (h .put-head .ensures .0) (w .put-words .ensures .0) in
     let t2 = t1 ++ joined wordText (a .p .vector) in
@@ -109,9 +125,11 @@ returns c =
     let p5 = put-then 0 (n .put-named .result) (v .put-named2 .result) t4 (named watcherName (a .p .session .watcher)) (a .out .now) out4 out5 p4 (v .put-named2 .ensures .0) in
     let t5 = t4 ++ named watcherName (a .p .session .watcher) in
     let p6 = put-then 0 (v .put-named2 .result) (s .put-named3 .result) t5 (named setName (a .p .number)) (a .out .now) out5 out6 p5 (s .put-named3 .ensures .0) in
-    let t6 = t5 ++ named setName (a .p .number) in (
-      put-then 0 (s .put-named3 .result) (o .put-owed .result) t6 (owedText (a .p .session .owed)) (a .out .now) out6 out7 p6 (o .put-owed .ensures .0),
-      omega (arith, watcher-put v .0, s .put-named3 .ensures .1, o .put-owed .ensures .1),
+    let t6 = t5 ++ named setName (a .p .number) in
+    let p7 = put-then 0 (s .put-named3 .result) (o .put-owed .result) t6 (owedText (a .p .session .owed)) (a .out .now) out6 out7 p6 (o .put-owed .ensures .0) in
+    let t7 = t6 ++ owedText (a .p .session .owed) in (
+      put-then 0 (o .put-owed .result) (g .put-go .result) t7 (goText (a .p .session .go)) (a .out .now) out7 out8 p7 (g .put-go .ensures .0),
+      omega (arith, owed-put o .0, g .put-go .ensures .1),
     )
 
 pub put-record-spec : {M : Type 1} → statement M
@@ -130,5 +148,6 @@ put-record-spec =
     cast-put-named-2
     put-named-requires-3
     put-owed-requires
+    put-go-requires
     same-length
     returns)

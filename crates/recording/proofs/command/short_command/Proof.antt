@@ -65,9 +65,29 @@ returns-6 : tie.Need-returns-6
 unfolding shortCommand
 returns-6 c = rw (sym (c .before .before .before .before .before .before .before .before .before .before .before .before .before .before .before .before .begins .ensures) ∙ c .before .before .before .before .before .before .before .before .before .before .before .before .before .before .before .if1 .left, sym (c .before .before .before .before .before .before .before .before .before .before .before .before .before .begins2 .ensures) ∙ c .before .before .before .before .before .before .before .before .before .before .before .before .if2 .left, sym (c .before .before .before .before .before .before .before .before .before .before .begins3 .ensures) ∙ c .before .before .before .before .before .before .before .before .before .if3 .left, sym (c .before .before .before .before .before .before .before .begins4 .ensures) ∙ c .before .before .before .before .before .before .if4 .left, sym (c .before .before .before .before .begins5 .ensures) ∙ c .before .before .before .if5 .left, sym (c .before .begins6 .ensures) ∙ c .if6 .taken)
 
+slice-aggregate-begins-7 : tie.Need-slice-aggregate-begins-7
+slice-aggregate-begins-7 c = search needs
+
+begins-requires-7 : tie.Need-begins-requires-7
+begins-requires-7 c κs = search needs
+
 returns-7 : tie.Need-returns-7
 unfolding shortCommand
-returns-7 c = rw (sym (c .before .before .before .before .before .before .before .before .before .before .before .before .before .before .before .before .begins .ensures) ∙ c .before .before .before .before .before .before .before .before .before .before .before .before .before .before .before .if1 .left, sym (c .before .before .before .before .before .before .before .before .before .before .before .before .before .begins2 .ensures) ∙ c .before .before .before .before .before .before .before .before .before .before .before .before .if2 .left, sym (c .before .before .before .before .before .before .before .before .before .before .begins3 .ensures) ∙ c .before .before .before .before .before .before .before .before .before .if3 .left, sym (c .before .before .before .before .before .before .before .begins4 .ensures) ∙ c .before .before .before .before .before .before .if4 .left, sym (c .before .before .before .before .begins5 .ensures) ∙ c .before .before .before .if5 .left, sym (c .before .begins6 .ensures) ∙ c .if6 .left)
+returns-7 c = rw (sym (c .before .before .before .before .before .before .before .before .before .before .before .before .before .before .before .before .before .before .before .begins .ensures) ∙ c .before .before .before .before .before .before .before .before .before .before .before .before .before .before .before .before .before .before .if1 .left, sym (c .before .before .before .before .before .before .before .before .before .before .before .before .before .before .before .before .begins2 .ensures) ∙ c .before .before .before .before .before .before .before .before .before .before .before .before .before .before .before .if2 .left, sym (c .before .before .before .before .before .before .before .before .before .before .before .before .before .begins3 .ensures) ∙ c .before .before .before .before .before .before .before .before .before .before .before .before .if3 .left, sym (c .before .before .before .before .before .before .before .before .before .before .begins4 .ensures) ∙ c .before .before .before .before .before .before .before .before .before .if4 .left, sym (c .before .before .before .before .before .before .before .begins5 .ensures) ∙ c .before .before .before .before .before .before .if5 .left, sym (c .before .before .before .before .begins6 .ensures) ∙ c .before .before .before .if6 .left, sym (c .before .begins7 .ensures) ∙ c .if7 .taken)
+
+slice-aggregate-begins-8 : tie.Need-slice-aggregate-begins-8
+slice-aggregate-begins-8 c = search needs
+
+begins-requires-8 : tie.Need-begins-requires-8
+begins-requires-8 c κs = search needs
+
+returns-8 : tie.Need-returns-8
+unfolding shortCommand
+returns-8 c = rw (sym (c .before .before .before .before .before .before .before .before .before .before .before .before .before .before .before .before .before .before .before .before .before .before .begins .ensures) ∙ c .before .before .before .before .before .before .before .before .before .before .before .before .before .before .before .before .before .before .before .before .before .if1 .left, sym (c .before .before .before .before .before .before .before .before .before .before .before .before .before .before .before .before .before .before .before .begins2 .ensures) ∙ c .before .before .before .before .before .before .before .before .before .before .before .before .before .before .before .before .before .before .if2 .left, sym (c .before .before .before .before .before .before .before .before .before .before .before .before .before .before .before .before .begins3 .ensures) ∙ c .before .before .before .before .before .before .before .before .before .before .before .before .before .before .before .if3 .left, sym (c .before .before .before .before .before .before .before .before .before .before .before .before .before .begins4 .ensures) ∙ c .before .before .before .before .before .before .before .before .before .before .before .before .if4 .left, sym (c .before .before .before .before .before .before .before .before .before .before .begins5 .ensures) ∙ c .before .before .before .before .before .before .before .before .before .if5 .left, sym (c .before .before .before .before .before .before .before .begins6 .ensures) ∙ c .before .before .before .before .before .before .if6 .left, sym (c .before .before .before .before .begins7 .ensures) ∙ c .before .before .before .if7 .left, sym (c .before .begins8 .ensures) ∙ c .if8 .taken)
+
+returns-9 : tie.Need-returns-9
+unfolding shortCommand
+returns-9 c = rw (sym (c .before .before .before .before .before .before .before .before .before .before .before .before .before .before .before .before .before .before .before .before .before .before .begins .ensures) ∙ c .before .before .before .before .before .before .before .before .before .before .before .before .before .before .before .before .before .before .before .before .before .if1 .left, sym (c .before .before .before .before .before .before .before .before .before .before .before .before .before .before .before .before .before .before .before .begins2 .ensures) ∙ c .before .before .before .before .before .before .before .before .before .before .before .before .before .before .before .before .before .before .if2 .left, sym (c .before .before .before .before .before .before .before .before .before .before .before .before .before .before .before .before .begins3 .ensures) ∙ c .before .before .before .before .before .before .before .before .before .before .before .before .before .before .before .if3 .left, sym (c .before .before .before .before .before .before .before .before .before .before .before .before .before .begins4 .ensures) ∙ c .before .before .before .before .before .before .before .before .before .before .before .before .if4 .left, sym (c .before .before .before .before .before .before .before .before .before .before .begins5 .ensures) ∙ c .before .before .before .before .before .before .before .before .before .if5 .left, sym (c .before .before .before .before .before .before .before .begins6 .ensures) ∙ c .before .before .before .before .before .before .if6 .left, sym (c .before .before .before .before .begins7 .ensures) ∙ c .before .before .before .if7 .left, sym (c .before .begins8 .ensures) ∙ c .if8 .left)
 
 pub short-command-spec : {M : Type 1} → statement M
-short-command-spec = tie.close (tie.spec slice-aggregate-begins begins-requires returns slice-aggregate-begins-2 begins-requires-2 returns-2 slice-aggregate-begins-3 begins-requires-3 returns-3 slice-aggregate-begins-4 begins-requires-4 returns-4 slice-aggregate-begins-5 begins-requires-5 returns-5 slice-aggregate-begins-6 begins-requires-6 returns-6 returns-7)
+short-command-spec = tie.close (tie.spec slice-aggregate-begins begins-requires returns slice-aggregate-begins-2 begins-requires-2 returns-2 slice-aggregate-begins-3 begins-requires-3 returns-3 slice-aggregate-begins-4 begins-requires-4 returns-4 slice-aggregate-begins-5 begins-requires-5 returns-5 slice-aggregate-begins-6 begins-requires-6 returns-6 slice-aggregate-begins-7 begins-requires-7 returns-7 slice-aggregate-begins-8 begins-requires-8 returns-8 returns-9)

@@ -69,6 +69,18 @@ answer-process-requires c κs = search needs
 enum-told-8 : tie.Need-enum-told-8
 enum-told-8 c = search needs
 
+answer-packet-requires : tie.Need-answer-packet-requires
+answer-packet-requires c κs = search needs
+
+enum-told-9 : tie.Need-enum-told-9
+enum-told-9 c = search needs
+
+answer-tick-requires : tie.Need-answer-tick-requires
+answer-tick-requires c κs = search needs
+
+enum-told-10 : tie.Need-enum-told-10
+enum-told-10 c = search needs
+
 sub-answer-text : tie.Need-sub-answer-text
 sub-answer-text c = search needs
 
@@ -81,8 +93,8 @@ part-answer-text-end c = search needs
 answer-text-requires : tie.Need-answer-text-requires
 answer-text-requires c κs = search needs
 
-enum-told-9 : tie.Need-enum-told-9
-enum-told-9 c = search needs
+enum-told-11 : tie.Need-enum-told-11
+enum-told-11 c = search needs
 
 sub-answer-raw : tie.Need-sub-answer-raw
 sub-answer-raw c = search needs
@@ -96,8 +108,8 @@ part-answer-raw-end c = search needs
 answer-raw-requires : tie.Need-answer-raw-requires
 answer-raw-requires c κs = search needs
 
-enum-told-10 : tie.Need-enum-told-10
-enum-told-10 c = search needs
+enum-told-12 : tie.Need-enum-told-12
+enum-told-12 c = search needs
 
 answer-unknown-requires : tie.Need-answer-unknown-requires
 answer-unknown-requires c κs = search needs
@@ -156,21 +168,35 @@ same-length-8 c = search needs
 
 returns-8 : tie.Need-returns-8
 unfolding commandEffect
-returns-8 c = rw (c .before .before .before .before .before .before .before .enum-told8 .given .1) (rw (rest-of-line 5 _ (c .before .before .before .before .before .before .before .before .before .before .before .before .before .before .args .line .now) (c .before .before .before .before .before .before .before .before .before .before .at-most2 .ensures .0)) at (c .before .before .answer-text .ensures))
+returns-8 c = rw (c .before .before .before .before .before .before .enum-told8 .given .1) (c .before .before .answer-packet .ensures)
 
 same-length-9 : tie.Need-same-length-9
 same-length-9 c = search needs
 
 returns-9 : tie.Need-returns-9
 unfolding commandEffect
-returns-9 c = rw (c .before .before .before .before .before .before .before .enum-told9 .given .1) (rw (rest-of-line 4 _ (c .before .before .before .before .before .before .before .before .before .before .before .before .before .before .args .line .now) (c .before .before .before .before .before .before .before .before .before .at-most3 .ensures .0)) at (c .before .before .answer-raw .ensures))
+returns-9 c = rw (c .before .before .before .before .before .before .before .enum-told9 .given .1) (c .before .before .answer-tick .ensures)
 
 same-length-10 : tie.Need-same-length-10
 same-length-10 c = search needs
 
 returns-10 : tie.Need-returns-10
 unfolding commandEffect
-returns-10 c = rw (c .before .before .before .before .before .before .before .before .enum-told10 .given .1) (c .before .before .answer-unknown .ensures)
+returns-10 c = rw (c .before .before .before .before .before .before .before .enum-told10 .given .1) (rw (rest-of-line 5 _ (c .before .before .before .before .before .before .before .before .before .before .before .before .before .before .args .line .now) (c .before .before .before .before .before .before .before .before .before .before .at-most2 .ensures .0)) at (c .before .before .answer-text .ensures))
+
+same-length-11 : tie.Need-same-length-11
+same-length-11 c = search needs
+
+returns-11 : tie.Need-returns-11
+unfolding commandEffect
+returns-11 c = rw (c .before .before .before .before .before .before .before .enum-told11 .given .1) (rw (rest-of-line 4 _ (c .before .before .before .before .before .before .before .before .before .before .before .before .before .before .args .line .now) (c .before .before .before .before .before .before .before .before .before .at-most3 .ensures .0)) at (c .before .before .answer-raw .ensures))
+
+same-length-12 : tie.Need-same-length-12
+same-length-12 c = search needs
+
+returns-12 : tie.Need-returns-12
+unfolding commandEffect
+returns-12 c = rw (c .before .before .before .before .before .before .before .before .enum-told12 .given .1) (c .before .before .answer-unknown .ensures)
 
 pub answer-command-spec : {M : Type 1} → statement M
 answer-command-spec =
@@ -197,16 +223,20 @@ answer-command-spec =
     enum-told-7
     answer-process-requires
     enum-told-8
+    answer-packet-requires
+    enum-told-9
+    answer-tick-requires
+    enum-told-10
     sub-answer-text
     part-answer-text-start
     part-answer-text-end
     answer-text-requires
-    enum-told-9
+    enum-told-11
     sub-answer-raw
     part-answer-raw-start
     part-answer-raw-end
     answer-raw-requires
-    enum-told-10
+    enum-told-12
     answer-unknown-requires
     same-length
     returns
@@ -227,4 +257,8 @@ answer-command-spec =
     same-length-9
     returns-9
     same-length-10
-    returns-10)
+    returns-10
+    same-length-11
+    returns-11
+    same-length-12
+    returns-12)

@@ -29,14 +29,14 @@ returns : tie.Need-returns
 unfolding nextIn
 returns c = let n = c .before .before in let e : isDigit 55 (n .before .args .c) ≡ true = sym (n .is-digit .ensures) ∙ c .before .if1 .taken in rw e (c .named .ensures)
 
-at-requires : tie.Need-at-requires
-at-requires c κs = search needs
+only-requires : tie.Need-only-requires
+only-requires c κs = search needs
 
 returns-2 : tie.Need-returns-2
 unfolding nextIn
-returns-2 c = let n = c .before .before in let e : isDigit 55 (n .before .args .c) ≡ false = sym (n .is-digit .ensures) ∙ c .before .if1 .left in rw e (c .at .ensures)
+returns-2 c = let n = c .before .before in let e : isDigit 55 (n .before .args .c) ≡ false = sym (n .is-digit .ensures) ∙ c .before .if1 .left in rw e (c .only .ensures)
 
 pub after-blank-spec : {M : Type 1} → statement M
 after-blank-spec =
     tie.close
-    (tie.spec is-digit-requires sub-named cast-named named-requires returns at-requires returns-2)
+    (tie.spec is-digit-requires sub-named cast-named named-requires returns only-requires returns-2)

@@ -4,14 +4,14 @@ use mathlib.Core.Bool.{true, false}
 use Prim.Native.Nat.{_+_, _-_, _*_, _≤_}
 use native.Mathlib.Omega.{arith}
 use borrow.Author.Needs.{needs}
-use Rattle.calls.specs.Listing.{goesOn, sizeOf, nextIn}
+use Rattle.calls.specs.Listing.{goesOn, mostSize, sizeOf, nextIn}
 use Rattle.calls.proofs.ListingLaws.{goes-range}
 use Rattle.calls.proofs.listing.Listing.after_digit.Statement.{statement}
 use Rattle.calls.proofs.listing.Listing.after_digit.Tie as tie
 
 -- the size goes on with a digit, and is not over 65,535
 range : (t : tie.Then1) → let a = t .before .before .before .args in (48 ≤ a .c) × (10 * sizeOf (a .self) + (a .c - 48) ≤ 65535)
-range t = let a = t .before .before .before .args in goes-range (sizeOf (a .self)) (a .c) (sym (t .before .goes-on .ensures) ∙ t .if1 .taken)
+range t = let a = t .before .before .before .args in goes-range mostSize (sizeOf (a .self)) (a .c) (sym (t .before .goes-on .ensures) ∙ t .if1 .taken)
 
 mul-size : tie.Need-mul-size
 mul-size c = search needs
@@ -42,19 +42,19 @@ unfolding nextIn
 returns c =
     let n = c .before .before in
     let a = n .before .before .args in
-    let e : goesOn (sizeOf (a .self)) (a .c) ≡ true = sym (n .goes-on .ensures) ∙ c .before .if1 .taken in
+    let e : goesOn mostSize (sizeOf (a .self)) (a .c) ≡ true = sym (n .goes-on .ensures) ∙ c .before .if1 .taken in
     rw e (c .sized .ensures)
 
-ends-item-requires : tie.Need-ends-item-requires
-ends-item-requires c κs = search needs
+only-requires : tie.Need-only-requires
+only-requires c κs = search needs
 
 returns-2 : tie.Need-returns-2
 unfolding nextIn
 returns-2 c =
     let n = c .before .before in
     let a = n .before .before .args in
-    let e : goesOn (sizeOf (a .self)) (a .c) ≡ false = sym (n .goes-on .ensures) ∙ c .before .if1 .left in
-    rw e (c .ends-item .ensures)
+    let e : goesOn mostSize (sizeOf (a .self)) (a .c) ≡ false = sym (n .goes-on .ensures) ∙ c .before .if1 .left in
+    rw e (c .only .ensures)
 
 pub after-digit-spec : {M : Type 1} → statement M
 after-digit-spec =
@@ -69,5 +69,5 @@ after-digit-spec =
     add-sized
     sized-requires
     returns
-    ends-item-requires
+    only-requires
     returns-2)

@@ -12,12 +12,12 @@ returns : tie.Need-returns
 unfolding nextIn
 returns c = rw (eq-eqb _ _ (c .before .if1 .taken)) (c .at .ensures)
 
-ends-item-requires : tie.Need-ends-item-requires
-ends-item-requires c κs = search needs
+only-requires : tie.Need-only-requires
+only-requires c κs = search needs
 
 returns-2 : tie.Need-returns-2
 unfolding nextIn
-returns-2 c = rw (ne-eqb _ _ (c .before .if1 .left)) (c .ends-item .ensures)
+returns-2 c = rw (ne-eqb _ _ (c .before .if1 .left)) (c .only .ensures)
 
 pub after-process-spec : {M : Type 1} → statement M
-after-process-spec = tie.close (tie.spec at-requires returns ends-item-requires returns-2)
+after-process-spec = tie.close (tie.spec at-requires returns only-requires returns-2)

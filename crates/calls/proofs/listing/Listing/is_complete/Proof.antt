@@ -23,6 +23,21 @@ enum-told-5 c = search needs
 enum-told-6 : tie.Need-enum-told-6
 enum-told-6 c = search needs
 
+enum-told-7 : tie.Need-enum-told-7
+enum-told-7 c = search needs
+
+enum-told-8 : tie.Need-enum-told-8
+enum-told-8 c = search needs
+
+enum-told-9 : tie.Need-enum-told-9
+enum-told-9 c = search needs
+
+enum-told-10 : tie.Need-enum-told-10
+enum-told-10 c = search needs
+
+enum-told-11 : tie.Need-enum-told-11
+enum-told-11 c = search needs
+
 returns : tie.Need-returns
 unfolding complete
 returns c = sym (ap complete (c .enum-told .given .1))
@@ -47,6 +62,26 @@ returns-6 : tie.Need-returns-6
 unfolding complete
 returns-6 c = sym (ap complete (c .enum-told6 .given .1))
 
+returns-7 : tie.Need-returns-7
+unfolding complete
+returns-7 c = sym (ap complete (c .enum-told7 .given .1))
+
+returns-8 : tie.Need-returns-8
+unfolding complete
+returns-8 c = sym (ap complete (c .enum-told8 .given .1))
+
+returns-9 : tie.Need-returns-9
+unfolding complete
+returns-9 c = sym (ap complete (c .enum-told9 .given .1))
+
+returns-10 : tie.Need-returns-10
+unfolding complete
+returns-10 c = sym (ap complete (c .enum-told10 .given .1))
+
+returns-11 : tie.Need-returns-11
+unfolding complete
+returns-11 c = sym (ap complete (c .enum-told11 .given .1))
+
 pub is-complete-spec : {M : Type 1} → statement M
 is-complete-spec =
     tie.close
@@ -57,9 +92,19 @@ is-complete-spec =
     enum-told-4
     enum-told-5
     enum-told-6
+    enum-told-7
+    enum-told-8
+    enum-told-9
+    enum-told-10
+    enum-told-11
     returns
     returns-2
     returns-3
     returns-4
     returns-5
-    returns-6)
+    returns-6
+    returns-7
+    returns-8
+    returns-9
+    returns-10
+    returns-11)

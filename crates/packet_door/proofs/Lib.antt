@@ -1,0 +1,4 @@
+-- Laws that the proofs of several functions cite.
+pub mod RowLaws
+pub mod PacketLaws
+pub mod AckLaws
