@@ -1,4 +1,4 @@
-/* A gateway in C over the stub, and the desk that asks it: host 5 debugs process 2, which has 1,536 bytes, and host 6 is refused. Process 0,
+/* A gateway in C over the stub, and the desk that asks it: host 5 debugs process 2, which has 1,536 bytes, and host 6 is refused and told why. Process 0,
  * which lies below it in memory, is destroyed, so that process 2 moves; others are created until there is no room. Then process 2 passes a
  * breakpoint, which is planted again after one instruction, and stops at it the next time. Last, after another fresh start, a grower's console
  * asks for process 2 by Pup packets. */
@@ -49,6 +49,13 @@ static void show_starts(const char *what) {
 /* A fresh start with these sizes, and without a Pup door; those of processes that are not to be there are passed over. */
 static void start(const char *what, uint64_t there, const uint16_t *sizes, size_t count) {
     show(what, palustrode_fresh_start(there, sizes, count, PALUSTRODE_NO_DOOR, state, sizeof state), 0);
+}
+
+/* Why a message would be refused: the number, and its two facts. */
+static void why(const char *what, const uint8_t *message, size_t length) {
+    uint64_t facts[PALUSTRODE_FACTS];
+    int64_t r = palustrode_why(state, sizeof state, message, length, facts, PALUSTRODE_FACTS);
+    printf("%-28s %4lld  %llu %llu\n", what, (long long)r, (unsigned long long)facts[0], (unsigned long long)facts[1]);
 }
 
 /* Returns the length of the answer to send: a CAN'T has no string. */
@@ -182,6 +189,8 @@ int main(void) {
     static const uint64_t both = 1 << 0 | 1 << 2;
     static const uint8_t debug5[] = {0, 5, 255, 0, PALUSTRODE_DEBUG, 2, 0, 0, 0, 0};
     static const uint8_t debug6[] = {0, 6, 255, 0, PALUSTRODE_DEBUG, 2, 0, 0, 0, 0};
+    static const uint8_t watch6[] = {0, 6, 255, 0, PALUSTRODE_WATCH, 2, 0, 0, 0, 0};
+    static const uint8_t past5[] = {0, 5, 255, 0, PALUSTRODE_EXAMINE, 2, (SIZE - 6) / 256, (SIZE - 6) % 256, 0, 16};
     static const uint8_t word[] = {18, 52};
     static const uint8_t end[] = {0, 5, 255, 0, PALUSTRODE_END_DEBUG, 2, 0, 0, 0, 0};
 
@@ -195,6 +204,9 @@ int main(void) {
     show_starts("they begin in memory");
     ask("host 5 debugs process 2", debug5, sizeof debug5);
     ask("host 6 asks for it", debug6, sizeof debug6);
+    why("  why? host 5 debugs it", debug6, sizeof debug6);
+    why("  how about a watch?", watch6, sizeof watch6);
+    why("host 5: 16 bytes at 1530", past5, sizeof past5);
     desk("the desk deposits 18, 52", PALUSTRODE_DEPOSIT, 256, sizeof word, word, sizeof word);
     desk("breakpoint there, count 1", PALUSTRODE_BREAK, 256, 1, word, 0);
     show_word("memory holds", 256);

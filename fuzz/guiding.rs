@@ -2,13 +2,17 @@
 
 use crate::layout::out_of_order;
 use crate::reading::word;
-use crate::sides::Call;
+use crate::sides::{Call, Side};
+use crate::why::facts;
 use model::*;
 
 /// The library is not instrumented. The fuzzer also counts as new what it answers to which call in which condition of the process.
 /// After the calls come CREATE and DESTROY once more, in the layout that they find, STATUS by what it tells, then the letters of lines, and lines with
-/// none, the types of packets, another type and a tick, and these six once more by the Go that they find.
-const CALLS: usize = GOES + PACKETS_AND_TICKS;
+/// none, the types of packets, another type and a tick, and these six once more by the Go that they find, asking why, and what is told then or before a
+/// request.
+const CALLS: usize = REASONS + 1;
+const REASONS: usize = WHYS + 1;
+const WHYS: usize = GOES + PACKETS_AND_TICKS;
 const GOES: usize = PACKETS + PACKETS_AND_TICKS;
 const PACKETS: usize = LINES + LETTERS.len() + 1;
 const PACKETS_AND_TICKS: usize = 6;
@@ -42,7 +46,9 @@ fn condition(state: &[u8], p: u8) -> usize {
 /// The condition of the process that a call names.
 pub fn condition_for(call: &Call, state: &[u8]) -> usize {
     match call {
-        Call::Request { message } => condition(state, message.get(5).copied().unwrap_or(0)),
+        Call::Request { message } | Call::Why { message } => {
+            condition(state, message.get(5).copied().unwrap_or(0))
+        }
         Call::Report { process, .. } => condition(state, *process as u8),
         Call::Line { text } => condition(state, read_line(text).map_or(0, |line| line.pid as u8)),
         Call::Packet { .. } | Call::Tick => {
@@ -116,7 +122,33 @@ pub fn found_by(call: &Call, state: &[u8]) -> Option<(usize, usize)> {
     }
 }
 
-pub fn note(call: &Call, found: usize, found_too: Option<(usize, usize)>, answer: i64) {
+/// What was told to one who asked why, or before a request: which fact, or of which order of size it is.
+pub fn told_by(call: &Call, side: &Side, answer: i64) -> Option<(usize, usize)> {
+    let (Call::Request { message } | Call::Why { message }) = call else { return None };
+    if answer == -WRONG_BUFFER {
+        return None;
+    }
+    let [first, second] = facts(side);
+    let order = |n: u64| match n {
+        0..=2 => n as usize,
+        3..=255 => 3,
+        256..=65_535 => 4,
+        _ => 5,
+    };
+    let found = match -answer {
+        OUTSIDE => 6 * first as usize % 18 + order(second),
+        WRONG_LENGTH => order(first),
+        NO_RIGHT | WATCHED | THE_OTHERS => {
+            usize::from(first == 0) + 2 * usize::from(first == u64::from(message[1]))
+        }
+        WRONG_RUN | NINTH => first as usize % 9,
+        _ => 0,
+    };
+    Some((REASONS, found))
+}
+
+/// Counts an answer in the condition of the process, and in what else was found.
+pub fn note(call: &Call, found: usize, others: [Option<(usize, usize)>; 2], answer: i64) {
     let what = match call {
         Call::Request { message: m } if m.len() >= HEAD => usize::from(m[4]).min(17),
         Call::Request { .. } => 18,
@@ -126,6 +158,7 @@ pub fn note(call: &Call, found: usize, found_too: Option<(usize, usize)>, answer
         Call::FreshStart { .. } => 25,
         Call::Line { text } => LINES + letter_of(text),
         Call::Packet { .. } | Call::Tick => PACKETS + kind_of(call).unwrap_or(0),
+        Call::Why { .. } => WHYS,
     };
     let answered = match answer {
         // of a report, with a line
@@ -138,7 +171,7 @@ pub fn note(call: &Call, found: usize, found_too: Option<(usize, usize)>, answer
         // of a line: 101, 103, 114, 116, 122
         _ => 8 + (-answer - 100) as usize / 3,
     };
-    for (what, found) in [Some((what, found)), found_too].into_iter().flatten() {
+    for (what, found) in others.into_iter().flatten().chain([(what, found)]) {
         let index = (what * ANSWERS + answered) * CONDITIONS + found;
         unsafe { SEEN[index] = 1 };
     }

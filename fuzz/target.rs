@@ -1,5 +1,6 @@
 //! What the fuzzer runs: its bytes are read as a list of calls, the proved library and the model make each of them, and the program aborts
-//! at the first difference of result, state, memory, message, words or output buffer, or of the bytes around one of them.
+//! at the first difference of result, state, memory, message, words or output buffer, or of the bytes around one of them. Before each request
+//! both are asked why they would refuse it.
 //!
 //! The first byte says which processes are there, the second how large each of them is, the third where the Pup door is; in the desk's calls, and
 //! where bit 7 of a report or packet asks for it, numbers are wider than their fields. Then come records of eight bytes; the low three bits of the
@@ -14,7 +15,8 @@
 //!     5       a store by the machine into a process's own bytes, or, with bit 4, a call of the desk's end
 //!     6       damage: bytes of the state are changed for the next call, a Go and its ticks among them, and the numbers of breakpoints made true
 //!             again, or not; or, with bit 4, where its processes lie
-//!     7       lengths: the next call is lent other lengths
+//!     7       lengths: the next call is lent other lengths; or, with bit 4, why the request of such a record would be refused is asked, and so many
+//!             facts are lent
 //!
 //! A call after damage or lengths is made on copies; damage is kept where bit 6 asks for it and the state is still sound. Bit 7 takes all
 //! fields as they come; otherwise they are brought into the range where calls are granted. Bit 3 brings processes and addresses close
@@ -25,10 +27,14 @@
 
 #[path = "../model/compare/answers.rs"]
 mod answers;
+#[path = "../model/compare/describe.rs"]
+mod describe;
 mod guiding;
 #[allow(dead_code)] // what is wrong with a layout is not asked here
 #[path = "../model/compare/layout.rs"]
 mod layout;
+#[path = "../model/compare/lent.rs"]
+mod lent;
 #[path = "../model/compare/library.rs"]
 mod library;
 #[path = "../model/compare/passing.rs"]
@@ -45,8 +51,10 @@ mod stack;
 mod status;
 #[path = "../model/compare/watching.rs"]
 mod watching;
+#[path = "../model/compare/why.rs"]
+mod why;
 
-use guiding::{condition_for, found_by, note};
+use guiding::{condition_for, found_by, note, told_by};
 use layout::{lay_out, order};
 use model::*;
 use reading::{desk_from, line_from, packet_from, report_from, request_from, word, Records};
@@ -65,7 +73,10 @@ fn compare(call: &Call, pair: &mut Pair) {
     let found = condition_for(call, pair.model.state.bytes());
     let found_too = found_by(call, pair.model.state.bytes());
     match pair.call(call) {
-        Ok(answer) => note(call, found, found_too, answer),
+        Ok(answer) => {
+            let told = told_by(call, &pair.model, answer);
+            note(call, found, [found_too, told], answer)
+        }
         Err(text) => stop(&text),
     }
 }
@@ -230,6 +241,28 @@ fn make(pair: &mut Pair, mut call: Call, spoiled: Spoiled) {
     }
 }
 
+/// How many facts are lent: mostly two.
+fn facts_from(by: u8) -> usize {
+    match by {
+        0..=191 => FACTS,
+        _ => usize::from(by % 8),
+    }
+}
+
+/// Asks why the request of a record would be refused, and leaves all as it was.
+fn ask_why(pair: &Pair, r: [u8; 8], spoiled: Spoiled) {
+    // bit 4, which says that it is asked, makes no string longer
+    let mut asked = r;
+    asked[0] &= !16;
+    let Call::Request { message } = request_from(asked, &records(pair)) else { return };
+    let mut copy = pair.clone();
+    copy.change(|side| {
+        spoiled.change(side);
+        side.facts = side.facts.resized(8 * facts_from(r[7]));
+    });
+    compare(&Call::Why { message }, &mut copy);
+}
+
 /// A desk's call, with room for what it writes.
 fn desk(pair: &Pair, call: Call) {
     let mut copy = pair.clone();
@@ -250,6 +283,14 @@ fn store(pair: &mut Pair, r: [u8; 8]) {
     pair.change(|side| side.memory.change()[at] = r[4]);
 }
 
+/// The line of a record, or, with bit 4, of the bytes that follow it.
+fn next_line(r: [u8; 8], list: &mut Records, pair: &Pair) -> Call {
+    if r[0] & 16 == 0 {
+        return line_from(r, &records(pair));
+    }
+    Call::Line { text: list.take(usize::from(r[1]) % 64).to_vec() }
+}
+
 fn run(data: &[u8]) {
     let Some((&[there, by, door], rest)) = data.split_first_chunk() else { return };
     let mut pair = started(there, sizes_from(by), door_from(door));
@@ -258,12 +299,7 @@ fn run(data: &[u8]) {
     while let Some(r) = list.next() {
         match r[0] & 7 {
             2 => {
-                let text =
-                    if r[0] & 16 != 0 { Some(list.take(usize::from(r[1]) % 64)) } else { None };
-                let call = match text {
-                    Some(text) => Call::Line { text: text.to_vec() },
-                    None => line_from(r, &records(&pair)),
-                };
+                let call = next_line(r, &mut list, &pair);
                 make(&mut pair, call, std::mem::take(&mut spoiled));
             }
             0 | 1 => {
@@ -290,6 +326,7 @@ fn run(data: &[u8]) {
             5 if r[0] & 16 != 0 => desk(&pair, desk_from(r)),
             5 => store(&mut pair, r),
             6 => spoiled.damage_from(r),
+            7 if r[0] & 16 != 0 => ask_why(&pair, r, std::mem::take(&mut spoiled)),
             _ => spoiled.lengths = Some([r[1], r[2], r[3], r[5], r[4]]),
         }
     }

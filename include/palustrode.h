@@ -46,8 +46,8 @@
 #define PALUSTRODE_GO_REPLY 131
 #define PALUSTRODE_ACK 132
 
-/* The stack that a call needs, in bytes, what it calls included: 1,536 were measured on x86-64 (docs/EMBEDDING.md says how). */
-#define PALUSTRODE_STACK_BYTES 1600
+/* The stack that a call needs, in bytes, what it calls included: 1,680 were measured on x86-64 (docs/EMBEDDING.md says how). */
+#define PALUSTRODE_STACK_BYTES 1760
 
 /* The op codes of requests, in CMD. A CAN'T has PALUSTRODE_CANT added. */
 #define PALUSTRODE_NOP 0
@@ -100,6 +100,14 @@
 #define PALUSTRODE_ENDED 4
 #define PALUSTRODE_PASSING 5
 
+/* Which limit palustrode_why says is passed: the end of the process, or of the vector; the 256 bytes of an EXAMINE; the last address of a BREAK. */
+#define PALUSTRODE_LIMIT_END 0
+#define PALUSTRODE_LIMIT_COUNT 1
+#define PALUSTRODE_LIMIT_LAST 2
+
+/* The numbers that palustrode_why hands over beside the number of the test. */
+#define PALUSTRODE_FACTS 2
+
 /* The fields of an answer that was read, by their places among the five. */
 #define PALUSTRODE_FIELDS 5
 #define PALUSTRODE_HOST 0
@@ -117,8 +125,8 @@ extern "C" {
  * room for is refused, with the number named below; only the process of the Pup door may be any at a fresh start.
  *
  * What a caller must see to, since no call can test it:
- * - each pointer is valid for the number that follows it: of bytes, and for the sizes, the five fields, the words of a packet and those of its
- *   acknowledgement of 16-bit words. Nothing is promised of NULL, even with a length of 0;
+ * - each pointer is valid for the number that follows it: of bytes, for the sizes, the five fields, the words of a packet and those of its
+ *   acknowledgement of 16-bit words, and for the facts of 64-bit numbers. Nothing is promised of NULL, even with a length of 0;
  * - the buffers lent in one call do not overlap, least of all the reply and the message, or the acknowledgement and the words of the packet;
  * - one call at a time on a state and on its memory: no second thread, and no interrupt that calls while a call is under way. The clock's is none
  *   either: it notes the tick, and palustrode_tick is called when no other call is under way;
@@ -127,8 +135,8 @@ extern "C" {
  * - PALUSTRODE_STACK_BYTES of stack are left at a call;
  * - the first call on a state is a fresh start, or the state is one that such calls left: any other sound state is taken for what it says.
  *
- * Buffers of bytes may lie at any address; sizes, fields and the words of a packet and of its acknowledgement are aligned as uint16_t is, and are
- * numbers as the processor keeps them: which byte of a word the network sends first is the caller's to know. No call keeps a pointer, allocates or
+ * Buffers of bytes may lie at any address; sizes, fields and the words of a packet and of its acknowledgement are aligned as uint16_t is, facts as
+ * uint64_t, and are numbers as the processor keeps them: which byte of a word the network sends first is the caller's to know. No call keeps a pointer, allocates or
  * uses other memory than the stack and what it is lent, so calls on different states with different memories may be made at the same time. */
 
 /* A fresh start: process p is there where bit p of `there` is set, running, with no host and with sizes[p] bytes, and the others are not; their
@@ -190,6 +198,21 @@ int64_t palustrode_packet(uint8_t *state, size_t state_length, uint8_t *memory, 
 /* A tenth of a second has passed. Call it ten times a second, whether a Go waits or not. At the hundredth tick of a Go the process runs, unless it
  * does already or has ended: then the Go just ends. So look at the run state after it. 0, or -2; no buffer is needed. */
 int64_t palustrode_tick(uint8_t *state, size_t state_length);
+
+/* Why was I refused? For a tool at the gateway: says what palustrode_request would come to for this message, memory and reply buffer being right, and
+ * changes nothing. Anybody may ask, about a message of any sender. 0 where it would be granted, or minus the number of the first test that fails, the
+ * very one that palustrode_request returns; and two facts, 0 where there is none:
+ * -  -3: the length of the message;
+ * -  -8: the host that debugs the process, 0 for nobody, of WATCH and END WATCH too;
+ * -  -9: its run state;
+ * - -10: which limit is passed, the first of PALUSTRODE_LIMIT_END, _COUNT and _LAST, and by how many bytes; 0 where the address of a BREAK is only odd;
+ * - -11: 8 where all eight breakpoints are set, else 4: the process is watched, and the asker has four or more;
+ * - -15: the host that watches the process;
+ * - -16: the host that set the breakpoint;
+ * every other number has none. What it says may go to the host in the second byte of the message: of a process that this host neither debugs nor
+ * watches it tells only who does. -1, with nothing written, where not two facts are lent. No memory is needed. */
+int64_t palustrode_why(const uint8_t *state, size_t state_length, const uint8_t *message, size_t message_length, uint64_t *facts,
+                       size_t facts_count);
 
 /* The desk writes a request with these fields and this string: its length, or -1 (under 266 bytes of room), -3 (a string over 256 bytes),
  * -4 (a host that is not 1 to 255), -5 (no op code) or -6 (an unused field is not 0, a PID over 255, an argument over 65,535, a CREATE with a

@@ -1,8 +1,8 @@
 //! Makes the calls that `perf/run` measures.
 //!
 //!     driver rows              the rows: name, tab, what it does
-//!     driver check ROW TURNS   the row on all sides: answers, state, memory, output, line and acknowledgement are the same, and the answers
-//!                              those expected
+//!     driver check ROW TURNS   the row on all sides: answers, state, memory, output, line, acknowledgement and facts are the same, and the
+//!                              answers those expected
 //!     driver stack SIDE ROW    the deepest stack of the row's calls, in bytes
 //!     driver SIDE ROW TURNS    the row on one side, and nothing printed
 //!
@@ -12,8 +12,8 @@
 
 use library::*;
 use model::{
-    State, ACK_WORDS, BEGINS_AT, FIELDS, GO_ID_AT, GO_TICKS_AT, GO_WAITS_AT, LONGEST, LONGEST_LINE,
-    MEMORY, OWED_AT, PROCESSES, RECORD_BYTES, STATE_BYTES, VECTOR, VECTOR_AT,
+    State, ACK_WORDS, BEGINS_AT, FACTS, FIELDS, GO_ID_AT, GO_TICKS_AT, GO_WAITS_AT, LONGEST,
+    LONGEST_LINE, MEMORY, OWED_AT, PROCESSES, RECORD_BYTES, STATE_BYTES, VECTOR, VECTOR_AT,
 };
 use rows::{rows, to, Row, Start, Step, DOOR};
 use std::arch::asm;
@@ -34,21 +34,23 @@ struct Gate<S> {
     line: Vec<u8>,
     fields: [u16; FIELDS],
     ack: [u16; ACK_WORDS],
+    facts: [u64; FACTS],
 }
 
 impl<S> Gate<S> {
     fn new(state: S) -> Self {
         let memory = (0..MEMORY).map(|i| (i % 251) as u8).collect();
         let (output, line) = (vec![0; LONGEST], vec![0; LONGEST_LINE]);
-        Gate { state, memory, output, line, fields: [0; FIELDS], ack: [0; ACK_WORDS] }
+        let (fields, ack, facts) = ([0; FIELDS], [0; ACK_WORDS], [0; FACTS]);
+        Gate { state, memory, output, line, fields, ack, facts }
     }
 }
 
-type Seen<'a> = (Vec<u8>, &'a [u8], &'a [u8], &'a [u8], &'a [u16]);
+type Seen<'a> = (Vec<u8>, &'a [u8], &'a [u8], &'a [u8], &'a [u16], &'a [u64]);
 
 trait Side {
     fn make(&mut self, step: &Step) -> i64;
-    /// State bytes, memory, output, line and acknowledgement.
+    /// State bytes, memory, output, line, acknowledgement and facts.
     fn seen(&self) -> Seen<'_>;
 
     fn start(&mut self, row: &Row) {
@@ -101,34 +103,27 @@ fn set_back(state: &mut [u8; STATE_BYTES], step: &Step) {
     }
 }
 
+impl Gate<[u8; STATE_BYTES]> {
+    /// A report to the library, with the reason 0.
+    fn report(&mut self, pid: u8, kind: u8, words: &[u8; VECTOR]) -> i64 {
+        let (s, m) = (self.state.as_mut_ptr(), self.memory.as_mut_ptr());
+        let (o, l) = (self.output.as_mut_ptr(), self.line.as_mut_ptr());
+        let (p, k, w) = (pid.into(), kind.into(), words.as_ptr());
+        let (s_len, room) = (STATE_BYTES, LONGEST_LINE);
+        unsafe { palustrode_report(s, s_len, m, MEMORY, p, k, 0, w, VECTOR, o, LONGEST, l, room) }
+    }
+}
+
 impl Side for Library {
     fn make(&mut self, step: &Step) -> i64 {
-        let Gate { state, memory, output, line, fields, ack } = &mut self.0;
+        let Gate { state, memory, output, line, fields, ack, facts } = &mut self.0;
         let (s, m, o) = (state.as_mut_ptr(), memory.as_mut_ptr(), output.as_mut_ptr());
         let l = line.as_mut_ptr();
         match step {
             Step::Request(a) => unsafe {
                 palustrode_request(s, STATE_BYTES, m, MEMORY, a.as_ptr(), a.len(), o, LONGEST)
             },
-            Step::Report { pid, kind, bytes: w, .. } => unsafe {
-                let w = w.as_ptr();
-                let (p, k) = ((*pid).into(), (*kind).into());
-                palustrode_report(
-                    s,
-                    STATE_BYTES,
-                    m,
-                    MEMORY,
-                    p,
-                    k,
-                    0,
-                    w,
-                    VECTOR,
-                    o,
-                    LONGEST,
-                    l,
-                    LONGEST_LINE,
-                )
-            },
+            Step::Report { pid, kind, bytes, .. } => self.0.report(*pid, *kind, bytes),
             Step::Line(a) => unsafe {
                 palustrode_line(s, STATE_BYTES, m, MEMORY, a.as_ptr(), a.len(), l, LONGEST_LINE)
             },
@@ -138,6 +133,9 @@ impl Side for Library {
                 palustrode_packet(s, STATE_BYTES, m, MEMORY, kind, id, w, count, a, ACK_WORDS)
             },
             Step::Tick => unsafe { palustrode_tick(s, STATE_BYTES) },
+            Step::Why(a) => unsafe {
+                palustrode_why(s, STATE_BYTES, a.as_ptr(), a.len(), facts.as_mut_ptr(), FACTS)
+            },
             Step::Write([host, cmd, pid, arg1, arg2], string) => unsafe {
                 let (string, length) = (string.as_ptr(), string.len());
                 palustrode_write_request(
@@ -155,8 +153,8 @@ impl Side for Library {
     }
 
     fn seen(&self) -> Seen<'_> {
-        let Gate { state, memory, output, line, ack, .. } = &self.0;
-        (state.to_vec(), memory, output, line, ack)
+        let Gate { state, memory, output, line, ack, facts, .. } = &self.0;
+        (state.to_vec(), memory, output, line, ack, facts)
     }
 }
 
@@ -173,7 +171,7 @@ fn by_desk(step: &Step, output: &mut [u8], fields: &mut [u16]) -> i64 {
 
 impl Side for Bytes {
     fn make(&mut self, step: &Step) -> i64 {
-        let Gate { state, memory, output, line, fields, ack } = &mut self.0;
+        let Gate { state, memory, output, line, fields, ack, facts } = &mut self.0;
         match step {
             Step::Request(message) => model::request_bytes(state, memory, message, output),
             Step::Report { pid, kind, bytes, .. } => {
@@ -186,6 +184,7 @@ impl Side for Bytes {
                 model::packet_bytes(state, memory, kind, id, words, ack)
             }
             Step::Tick => model::tick_bytes(state),
+            Step::Why(message) => model::why_bytes(state, message, facts),
             Step::Write(..) | Step::Read(..) => by_desk(step, output, fields),
             Step::Put { .. } | Step::PutGo(..) | Step::Back { .. } => {
                 set_back(state, step);
@@ -195,14 +194,14 @@ impl Side for Bytes {
     }
 
     fn seen(&self) -> Seen<'_> {
-        let Gate { state, memory, output, line, ack, .. } = &self.0;
-        (state.to_vec(), memory, output, line, ack)
+        let Gate { state, memory, output, line, ack, facts, .. } = &self.0;
+        (state.to_vec(), memory, output, line, ack, facts)
     }
 }
 
 impl Side for Typed {
     fn make(&mut self, step: &Step) -> i64 {
-        let Gate { state, memory, output, line, fields, ack } = &mut self.0;
+        let Gate { state, memory, output, line, fields, ack, facts } = &mut self.0;
         match step {
             Step::Request(message) => model::request(state, memory, message, output),
             Step::Report { pid, kind, words, .. } => {
@@ -215,6 +214,11 @@ impl Side for Typed {
                 model::packet(state, memory, kind, id, words, ack)
             }
             Step::Tick => model::tick(state),
+            Step::Why(message) => {
+                let reason = model::why(state, message);
+                *facts = reason.facts();
+                -reason.number()
+            }
             Step::Write(..) | Step::Read(..) => by_desk(step, output, fields),
             Step::Put { pid, run, owed } => {
                 let process = &mut state.processes[usize::from(*pid)];
@@ -238,15 +242,17 @@ impl Side for Typed {
     }
 
     fn seen(&self) -> Seen<'_> {
-        let Gate { state, memory, output, line, ack, .. } = &self.0;
-        (model::encode(state).to_vec(), memory, output, line, ack)
+        let Gate { state, memory, output, line, ack, facts, .. } = &self.0;
+        (model::encode(state).to_vec(), memory, output, line, ack, facts)
     }
 }
 
 impl Side for Empty {
     fn make(&mut self, step: &Step) -> i64 {
         match step {
-            Step::Request(text) | Step::Line(text) => black_box(text.len()) as i64,
+            Step::Request(text) | Step::Line(text) | Step::Why(text) => {
+                black_box(text.len()) as i64
+            }
             Step::Report { kind, .. } => i64::from(black_box(*kind)),
             Step::Write(_, string) => black_box(string.len()) as i64,
             Step::Read(message) => black_box(message.len()) as i64,
@@ -260,8 +266,8 @@ impl Side for Empty {
     }
 
     fn seen(&self) -> Seen<'_> {
-        let Gate { state, memory, output, line, ack, .. } = &self.0;
-        (state.to_vec(), memory, output, line, ack)
+        let Gate { state, memory, output, line, ack, facts, .. } = &self.0;
+        (state.to_vec(), memory, output, line, ack, facts)
     }
 }
 

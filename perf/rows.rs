@@ -38,6 +38,8 @@ pub enum Step {
     /// A packet of a console: type, ID, and data words.
     Packet(u8, u32, Vec<u16>),
     Tick,
+    /// Asks why a request would be refused.
+    Why(Vec<u8>),
     /// The desk writes a request with these fields and this string.
     Write([u64; FIELDS], Vec<u8>),
     /// The desk reads an answer.
@@ -102,6 +104,12 @@ fn text(text: &str) -> Step {
 
 fn row(name: &str, what: &str, before: Vec<Step>, turn: Vec<Step>, answers: i64) -> Row {
     Row { name: name.to_string(), what: what.to_string(), start: SEVEN, before, turn, answers }
+}
+
+/// Asks why, in place of a request.
+fn why(step: Step) -> Vec<Step> {
+    let Step::Request(message) = step else { unreachable!() };
+    vec![Step::Why(message)]
 }
 
 /// Sets a process of a row back to what it was at the start.
@@ -191,7 +199,7 @@ pub fn rows() -> Vec<Row> {
     let ended = vec![to(END_DEBUG, 0, 0)];
     rows.push(row("session", "a debugging session of 11 calls", ended, session, 8 * 10 + 3 * 28));
     rows.extend(lines());
-    rows.extend(packets());
+    rows.extend(packets().into_iter().chain(whys()));
     rows
 }
 
@@ -265,5 +273,19 @@ fn packets() -> [Row; 10] {
             vec![send(FETCH, &[word])],
             -8,
         ),
+    ]
+}
+
+/// Why a request is refused, or granted.
+fn whys() -> [Row; 4] {
+    use model::{BREAK, EXAMINE, NOP, UNBREAK, WATCH};
+    let planted = (0..8).map(|k| to(BREAK, AT + 32 * k, 0)).collect();
+    let his = vec![ask(WATCHER, WATCH, P, 0, 0, 0), ask(WATCHER, BREAK, P, AT, 0, 0)];
+    let stranger = ask(STRANGER, EXAMINE, P, AT, 16, 0);
+    [
+        row("why", "why, granted (NOP)", vec![], why(ask(OWNER, NOP, 0, 0, 0, 0)), 0),
+        row("why-8", "why, a stranger's EXAMINE of 16", vec![], why(stranger), -8),
+        row("why-11", "why, BREAK with 8 planted, refused 11", planted, why(to(BREAK, 2, 0)), -11),
+        row("why-16", "why, 16", his, why(to(UNBREAK, AT, 0)), -16),
     ]
 }

@@ -57,6 +57,14 @@ extern "C" {
         ack: *mut u16,
         ack_count: usize,
     ) -> i64;
+    pub fn palustrode_why(
+        state: *const u8,
+        state_len: usize,
+        message: *const u8,
+        message_len: usize,
+        facts: *mut u64,
+        facts_count: usize,
+    ) -> i64;
     pub fn palustrode_tick(state: *mut u8, state_len: usize) -> i64;
     pub fn palustrode_write_request(
         host: u64,

@@ -41,6 +41,11 @@ pub enum Made<'a> {
     Tick {
         state: &'a mut [u8],
     },
+    Why {
+        state: &'a mut [u8],
+        message: &'a mut [u8],
+        facts: &'a mut [u64],
+    },
     Write {
         fields: [u64; FIELDS],
         string: &'a [u8],
@@ -70,6 +75,7 @@ impl Made<'_> {
                 packet_bytes(state, memory, *kind, *id, words, ack)
             }
             Made::Tick { state } => tick_bytes(state),
+            Made::Why { state, message, facts } => why_bytes(state, message, facts),
             Made::Write { fields: [host, cmd, pid, arg1, arg2], string, request } => {
                 write_request(*host, *cmd, *pid, *arg1, *arg2, string, request)
             }
@@ -94,7 +100,7 @@ impl Made<'_> {
         }
     }
 
-    /// The bytes of the state.
+    /// The bytes of the state that a call may change.
     pub fn state(&mut self) -> Option<&mut [u8]> {
         match self {
             Made::Start { state, .. }

@@ -5,8 +5,9 @@
 //! damage to the state and as many again with it, of each half as many more at the Pup
 //! door; a seed (1 if not given); and
 //! the word `each`, with which every call of the lists is printed before it is made
-//! (should the library not come back from one). The same seed always gives the same
-//! calls. The program ends with 1 at the first difference, and with 1 if a kind
+//! (should the library not come back from one). Before each request both are asked why
+//! they would refuse it, and the request has to get the number that they told. The same
+//! seed always gives the same calls. The program ends with 1 at the first difference, and with 1 if a kind
 //! of answer that the paper makes possible, or one of the passages or values that
 //! are counted, was never met; otherwise with 0.
 //!
@@ -27,8 +28,10 @@ mod damage;
 mod damage_packets;
 mod damage_places;
 mod damage_watches;
+mod describe;
 mod desk;
 mod layout;
+mod lent;
 mod library;
 mod line_table;
 #[cfg(feature = "standin")]
@@ -54,6 +57,8 @@ mod pup;
 #[cfg(feature = "standin")]
 mod pupped;
 mod random;
+mod reason_rows;
+mod reasons;
 mod reports;
 mod run;
 mod sides;
@@ -71,7 +76,10 @@ mod sweeps_packets;
 mod sweeps_runs;
 mod sweeps_status;
 mod sweeps_watches;
+mod sweeps_why;
 mod table;
+#[cfg(feature = "standin")]
+mod told_why;
 mod values;
 mod values_layout;
 mod values_lines;
@@ -83,12 +91,16 @@ mod values_watches;
 mod watched;
 mod watchers;
 mod watching;
+mod why;
+mod whys;
 #[cfg(feature = "standin")]
 mod wrong;
 #[cfg(feature = "standin")]
 mod wrong_abandon;
 #[cfg(feature = "standin")]
 mod wrong_answers;
+#[cfg(feature = "standin")]
+mod wrong_asking;
 #[cfg(feature = "standin")]
 mod wrong_blocks;
 #[cfg(feature = "standin")]
@@ -103,6 +115,8 @@ mod wrong_go_sound;
 mod wrong_going;
 #[cfg(feature = "standin")]
 mod wrong_layout;
+#[cfg(feature = "standin")]
+mod wrong_limits;
 #[cfg(feature = "standin")]
 mod wrong_lines;
 #[cfg(feature = "standin")]
@@ -122,6 +136,8 @@ mod wrong_status;
 #[cfg(feature = "standin")]
 mod wrong_status_desk;
 #[cfg(feature = "standin")]
+mod wrong_tests;
+#[cfg(feature = "standin")]
 mod wrong_text;
 #[cfg(feature = "standin")]
 mod wrong_ticks;
@@ -130,6 +146,8 @@ mod wrong_told;
 #[cfg(feature = "standin")]
 mod wrong_watches;
 #[cfg(feature = "standin")]
+mod wrong_why;
+#[cfg(feature = "standin")]
 mod wrong_words;
 
 use run::Comparison;
@@ -137,7 +155,7 @@ use std::process::ExitCode;
 
 /// The stack that include/palustrode.h says a call needs. The model in the library's
 /// place may need any.
-const STACK: usize = if cfg!(feature = "standin") { usize::MAX } else { 1600 };
+const STACK: usize = if cfg!(feature = "standin") { usize::MAX } else { 1760 };
 
 fn main() -> ExitCode {
     let mut arguments = std::env::args().skip(1);
@@ -163,7 +181,9 @@ fn main() -> ExitCode {
         return ExitCode::from(1);
     }
     let wrong = comparison.print();
-    println!("\n{} calls, seed {seed}: no difference", comparison.calls);
+    let Comparison { calls, asked, .. } = comparison;
+    println!("\n{calls} calls, seed {seed}: no difference");
+    println!("before each request, and {asked} times besides, both were asked why");
     let deepest = stack::deepest();
     println!("the deepest stack of a call: {deepest} bytes");
     if deepest > STACK {

@@ -10,7 +10,9 @@
 
 use crate::calls::{make_call, make_request, some_output, used_address};
 use crate::damage::{damage_state, STATE_LENGTHS};
+use crate::describe::describe;
 use crate::desk::make_desk_call;
+use crate::lent::{Lent, GUARD};
 use crate::line_table::LineTable;
 use crate::lines::some_line_buffer;
 use crate::moods::{Mood, MOODS, PUP_MOODS};
@@ -18,7 +20,8 @@ use crate::packet_table::PacketTable;
 use crate::packets::some_ack;
 use crate::passages::{self, open, Open, Passages};
 use crate::random::Random;
-use crate::sides::{describe, is_sound, Call, Lent, Pair, Side, GUARD};
+use crate::reasons::Reasons;
+use crate::sides::{is_sound, Call, Pair, Side};
 use crate::states::some_sound_state;
 use crate::sweeps::Sweep;
 use crate::table::{DeskTable, Table};
@@ -54,12 +57,18 @@ pub struct Comparison {
     pub random: Random,
     pub pair: Pair,
     pub calls: u64,
+    /// Which requests are asked about and not made. It has numbers of its own, so that
+    /// the calls of a list are the same with it and without.
+    pub asker: Random,
+    /// How often it was asked why.
+    pub asked: u64,
     print_each: bool,
     /// Whether the list goes on from a damaged state.
     pub damaged: bool,
     met: [Met; 2],
     desk: DeskTable,
     values: Values,
+    pub reasons: Reasons,
 }
 
 impl Comparison {
@@ -68,11 +77,14 @@ impl Comparison {
             random: Random(seed),
             pair: Pair::new(Side::new(&[0; STATE_BYTES], &[0; MEMORY], &[0; LONGEST])),
             calls: 0,
+            asker: Random(!seed),
+            asked: 0,
             print_each,
             damaged: false,
             met: [false, true].map(Met::new),
             desk: DeskTable::new(),
             values: Values::new(),
+            reasons: Reasons::new(),
         }
     }
 
@@ -84,10 +96,11 @@ impl Comparison {
             self.lists(limit, with_damage, &MOODS)?;
             self.lists(limit / 2, with_damage, &PUP_MOODS)?;
         }
-        let (calls, desk) = (&mut self.calls, &mut self.desk);
-        Sweep::all(&mut |call, _, answer| {
+        let (calls, desk, reasons) = (&mut self.calls, &mut self.desk, &mut self.reasons);
+        Sweep::all(&mut |call, side, answer| {
             *calls += 1;
             desk.count(call, answer);
+            reasons.count_swept(call, side, answer);
         })
     }
 
@@ -119,6 +132,9 @@ impl Comparison {
                 6..=13 if with_damage => self.call_on_damage(mood)?,
                 _ => self.call(mood)?,
             }
+            if self.calls % 8 == 0 {
+                self.ask_why(mood, with_damage)?;
+            }
         }
         Ok(())
     }
@@ -133,11 +149,11 @@ impl Comparison {
         self.pair.change(|side| side.state = Lent::new(state, offset));
     }
 
-    fn state_bytes(&self) -> &[u8] {
+    pub fn state_bytes(&self) -> &[u8] {
         self.pair.model.state.bytes()
     }
 
-    fn state(&self) -> State {
+    pub fn state(&self) -> State {
         decode(self.state_bytes()).expect("between calls the state is sound")
     }
 
@@ -297,17 +313,23 @@ impl Comparison {
         self.pair.change(|side| side.ack = Lent::new(&ack, offset));
     }
 
-    /// Makes the call on both sides and counts what was met.
-    pub fn compare(&mut self, call: &Call, open: Option<&Open>) -> Result<(), String> {
+    /// Prints a call before it is made, if each is to be printed.
+    pub fn show(&self, call: &Call) {
         if self.print_each {
             println!("{} {}", self.calls, describe(call, &self.pair.model));
         }
+    }
+
+    /// Makes the call on both sides and counts what was met.
+    pub fn compare(&mut self, call: &Call, open: Option<&Open>) -> Result<(), String> {
+        self.show(call);
         let odd = usize::from(!call.of_words());
         let offset = self.offset() & (!1 | odd);
         self.pair.change(|side| side.input = Lent::new(&[], offset));
         let answer = self.pair.call(call)?;
         self.desk.count(call, answer);
         self.values.count(call, &self.pair.model, answer);
+        self.reasons.count(call, &self.pair.model, answer, self.damaged);
         let met = self.met();
         met.table.count(call, answer);
         met.lines.count(call, answer);
@@ -337,6 +359,7 @@ impl Comparison {
         println!("{:>8} {:>8}  store into the first or last byte of a process", edge[0], edge[1]);
         self.desk.print();
         self.values.print();
+        self.reasons.print();
         let mut wrong = passages::wrong(&fresh.passages, &damaged.passages);
         if fresh.stores == 0 || damaged.stores == 0 {
             wrong.push("store into a planted word".to_string());
@@ -347,6 +370,6 @@ impl Comparison {
         let tables = [fresh.table.wrong(), damaged.table.wrong(), self.desk.wrong()].concat();
         let lines = [fresh.lines.wrong(), damaged.lines.wrong()].concat();
         let packets = [fresh.packets.wrong(), damaged.packets.wrong()].concat();
-        [tables, lines, packets, self.values.wrong(), wrong].concat()
+        [tables, lines, packets, self.values.wrong(), self.reasons.wrong(), wrong].concat()
     }
 }

@@ -2,19 +2,23 @@
 //! the comparison of all that they leave. The fuzzer uses this too.
 
 use crate::answers::{broken_line, line_written};
+use crate::describe::describe;
 use crate::layout::{accepted_fault, broken_layout};
+use crate::lent::{Lent, GUARD};
 use crate::library::*;
 use crate::passing::broken_passing;
 use crate::pup::broken_pup;
 use crate::stack::on_painted;
 use crate::status::{broken_numbers, broken_status};
 use crate::watching::broken_watch;
+use crate::why::{broken_promise, broken_why};
 use model::*;
 use std::borrow::Cow;
 
 pub enum Call {
     FreshStart { there: u64, sizes: Vec<u16>, door: u64 },
     Request { message: Vec<u8> },
+    Why { message: Vec<u8> },
     Report { process: u64, kind: u64, reason: u64, words: Vec<u8> },
     Line { text: Vec<u8> },
     Packet { kind: u64, id: u64, words: Vec<u16> },
@@ -32,7 +36,9 @@ impl Call {
                 words.iter().flat_map(|word| word.to_ne_bytes()).collect()
             }
             Call::Tick => Cow::default(),
-            Call::Request { message } | Call::Read { message } => message.into(),
+            Call::Request { message } | Call::Why { message } | Call::Read { message } => {
+                message.into()
+            }
             Call::Report { words, .. } => words.into(),
             Call::Line { text } => text.into(),
             Call::Write { string, .. } => string.into(),
@@ -52,64 +58,11 @@ impl Call {
 
 // ---------------------------------------------------------------- buffers
 
-/// Bytes in front of and behind each lent buffer, which no call may touch; and how
-/// a buffer's memory is aligned.
-pub const GUARD: usize = 64;
-
-#[derive(Clone, Copy, PartialEq)]
-#[repr(C, align(64))]
-struct Block([u8; GUARD]);
-
-/// A lent buffer between its guard bytes, at any offset from an aligned address.
-#[derive(Clone, PartialEq)]
-pub struct Lent {
-    blocks: Vec<Block>,
-    offset: usize,
-    length: usize,
-}
-
-impl Lent {
-    pub fn new(bytes: &[u8], offset: usize) -> Lent {
-        let blocks = (GUARD + offset + bytes.len() + GUARD).div_ceil(GUARD);
-        let blocks = vec![Block([0x5a; GUARD]); blocks];
-        let mut lent = Lent { blocks, offset: offset % GUARD, length: bytes.len() };
-        lent.change().copy_from_slice(bytes);
-        lent
-    }
-
-    /// All its bytes, those around it included.
-    fn all(&self) -> &[u8] {
-        let first = self.blocks.as_ptr().cast();
-        unsafe { std::slice::from_raw_parts(first, GUARD * self.blocks.len()) }
-    }
-
-    pub fn bytes(&self) -> &[u8] {
-        &self.all()[GUARD + self.offset..][..self.length]
-    }
-
-    pub fn change(&mut self) -> &mut [u8] {
-        let first = self.blocks.as_mut_ptr().cast();
-        let all = unsafe { std::slice::from_raw_parts_mut(first, GUARD * self.blocks.len()) };
-        &mut all[GUARD + self.offset..][..self.length]
-    }
-
-    pub fn offset(&self) -> usize {
-        self.offset
-    }
-
-    /// A copy with another length.
-    pub fn resized(&self, length: usize) -> Lent {
-        let mut bytes = self.bytes().to_vec();
-        bytes.resize(length, 0);
-        Lent::new(&bytes, self.offset)
-    }
-}
-
 /// The buffers lent to one of the two; `input` is the message, the words, the text, the
 /// string or the sizes, `output` the reply, the notice or the request, or the fields that
-/// are read, two bytes each, `line` the line that is answered, and `ack` the words of an
-/// acknowledgement, two bytes each.
-#[derive(Clone)]
+/// are read, two bytes each, `line` the line that is answered, `ack` the words of an
+/// acknowledgement, two bytes each, and `facts` those of a refusal, eight bytes each.
+#[derive(Default)]
 pub struct Side {
     pub state: Lent,
     pub memory: Lent,
@@ -117,23 +70,44 @@ pub struct Side {
     pub output: Lent,
     pub line: Lent,
     pub ack: Lent,
+    pub facts: Lent,
+}
+
+impl Clone for Side {
+    fn clone(&self) -> Side {
+        let mut side = Side::default();
+        side.clone_from(self);
+        side
+    }
+
+    fn clone_from(&mut self, from: &Side) {
+        self.state.clone_from(&from.state);
+        self.memory.clone_from(&from.memory);
+        self.input.clone_from(&from.input);
+        self.output.clone_from(&from.output);
+        self.line.clone_from(&from.line);
+        self.ack.clone_from(&from.ack);
+        self.facts.clone_from(&from.facts);
+    }
 }
 
 impl Side {
     pub fn new(state: &[u8], memory: &[u8], output: &[u8]) -> Side {
         let (line, ack) = ([0xee; LONGEST_LINE], [0xee; 2 * ACK_WORDS]);
-        let [state, memory, input, output, line, ack] =
-            [state, memory, &[], output, &line, &ack].map(|bytes| Lent::new(bytes, 0));
-        Side { state, memory, input, output, line, ack }
+        let [state, memory, input, output, line, ack, facts] =
+            [state, memory, &[], output, &line, &ack, &[0xee; 8 * FACTS]]
+                .map(|bytes| Lent::new(bytes, 0));
+        Side { state, memory, input, output, line, ack, facts }
     }
 
-    fn by_model(&mut self, call: &Call) -> i64 {
+    pub fn by_model(&mut self, call: &Call) -> i64 {
         let (s, m, i, o) =
             (self.state.change(), self.memory.change(), self.input.bytes(), self.output.change());
         let l = self.line.change();
         match *call {
             Call::FreshStart { there, door, .. } => fresh_start_bytes(there, &words_of(i), door, s),
             Call::Request { .. } => request_bytes(s, m, i, o),
+            Call::Why { .. } => why_bytes(s, i, self.facts.numbers()),
             Call::Report { process, kind, reason, .. } => {
                 report_bytes(s, m, process, kind, reason, i, o, l)
             }
@@ -158,7 +132,7 @@ impl Side {
     }
 
     /// The call, on the painted stack.
-    fn by_library(&mut self, call: &Call) -> i64 {
+    pub fn by_library(&mut self, call: &Call) -> i64 {
         let mut answer = 0;
         on_painted(&mut || answer = self.by_library_here(call));
         answer
@@ -180,6 +154,10 @@ impl Side {
             },
             Call::Request { .. } => unsafe {
                 palustrode_request(s, s_len, m, m_len, i, i_len, o, o_len)
+            },
+            Call::Why { .. } => unsafe {
+                let facts = self.facts.numbers();
+                palustrode_why(s, s_len, i, i_len, facts.as_mut_ptr(), facts.len())
             },
             Call::Report { process: p, kind: k, reason: r, .. } => unsafe {
                 palustrode_report(s, s_len, m, m_len, p, k, r, i, i_len, o, o_len, l, l_len)
@@ -216,15 +194,28 @@ fn put_words(bytes: &mut [u8], words: &[u16]) {
 // ---------------------------------------------------------------- the model and the library
 
 /// The two sides. They are alike before a call and have to be alike after it.
-#[derive(Clone)]
 pub struct Pair {
     pub model: Side,
     pub library: Side,
+    /// What the model was lent in the call before.
+    before: Side,
+}
+
+impl Clone for Pair {
+    fn clone(&self) -> Pair {
+        let (model, library) = (self.model.clone(), self.library.clone());
+        Pair { model, library, before: Side::default() }
+    }
+
+    fn clone_from(&mut self, from: &Pair) {
+        self.model.clone_from(&from.model);
+        self.library.clone_from(&from.library);
+    }
 }
 
 impl Pair {
     pub fn new(side: Side) -> Pair {
-        Pair { library: side.clone(), model: side }
+        Pair { library: side.clone(), model: side, before: Side::default() }
     }
 
     /// Changes both sides alike.
@@ -235,37 +226,61 @@ impl Pair {
 
     /// The message, the words, the text, the string or the sizes, where the one before was.
     fn lend_input(&mut self, bytes: &[u8]) {
-        self.change(|side| side.input = Lent::new(bytes, side.input.offset()));
+        self.change(|side| side.input.lend(bytes));
     }
 
     /// Makes a call on both sides and compares the results and all bytes of all
-    /// buffers, those around them included: the answer, or what is wrong.
+    /// buffers, those around them included: the answer, or what is wrong. Before a
+    /// request is made both are asked why they would refuse it.
     pub fn call(&mut self, call: &Call) -> Result<i64, String> {
         self.lend_input(&call.input());
-        let before = self.model.clone();
+        let mut before = std::mem::take(&mut self.before);
+        before.clone_from(&self.model);
+        let answer = self.compared(call, &before);
+        let answer = answer.map_err(|text| format!("{}\n{text}", describe(call, &before)));
+        self.before = before;
+        answer
+    }
+
+    fn compared(&mut self, call: &Call, before: &Side) -> Result<i64, String> {
+        let told = match call {
+            Call::Request { .. } => Some(self.ask_why(before)?),
+            _ => None,
+        };
         let answers = [self.model.by_model(call), self.library.by_library(call)];
-        let wrong = self
-            .difference(answers)
-            .or_else(|| broken_rule(call, answers[0], &before, &self.model).map(str::to_string));
-        match wrong {
+        let broken = || match call {
+            Call::Why { .. } => broken_why(answers[0], before, &self.model),
+            _ => broken_rule(call, answers[0], before, &self.model)
+                .or_else(|| broken_promise(told, answers[0])),
+        };
+        match self.difference(answers).or_else(|| broken().map(str::to_string)) {
             None => Ok(answers[0]),
-            Some(text) => Err(format!("{}\n{text}", describe(call, &before))),
+            Some(text) => Err(text),
         }
     }
 
-    fn difference(&self, [a, b]: [i64; 2]) -> Option<String> {
+    fn difference(&self, answers: [i64; 2]) -> Option<String> {
         let (model, library) = (&self.model, &self.library);
         let place = |at: usize| at.to_string();
         let owner = |at: usize| owner(model.state.bytes(), at);
+        let byte = first_difference("memory", owner, &model.memory, &library.memory)
+            .or_else(|| first_difference("output", place, &model.output, &library.output))
+            .or_else(|| first_difference("line", place, &model.line, &library.line))
+            .or_else(|| first_difference("acknowledgement", place, &model.ack, &library.ack));
+        self.difference_told(answers, byte)
+    }
+
+    /// The same of what is lent to one who asks why, and such a byte, if there is one.
+    pub fn difference_told(&self, [a, b]: [i64; 2], byte: Option<String>) -> Option<String> {
+        let (model, library) = (&self.model, &self.library);
+        let place = |at: usize| at.to_string();
         let byte = first_difference("state", in_state, &model.state, &library.state)
-            .or_else(|| first_difference("memory", owner, &model.memory, &library.memory))
+            .or(byte)
             .or_else(|| {
                 let name = "message, words, text, string or sizes";
                 first_difference(name, place, &model.input, &library.input)
             })
-            .or_else(|| first_difference("output", place, &model.output, &library.output))
-            .or_else(|| first_difference("line", place, &model.line, &library.line))
-            .or_else(|| first_difference("acknowledgement", place, &model.ack, &library.ack));
+            .or_else(|| first_difference("facts", place, &model.facts, &library.facts));
         if a == b && byte.is_none() {
             return None;
         }
@@ -305,7 +320,7 @@ fn first_difference(
         return None;
     }
     let i = model.all().iter().zip(library.all()).position(|(a, b)| a != b)?;
-    let start = GUARD + model.offset;
+    let start = GUARD + model.offset();
     let place = match i.checked_sub(start) {
         None => format!("{} before the buffer", start - i),
         Some(at) if at >= model.bytes().len() => {
@@ -361,40 +376,4 @@ fn broken_rule(call: &Call, answer: i64, before: &Side, after: &Side) -> Option<
 /// Whether bytes are those of a sound state.
 pub fn is_sound(state: &[u8]) -> bool {
     decode(state).is_some_and(|state| sound(&state))
-}
-
-// ---------------------------------------------------------------- saying what was called
-
-fn decimal(bytes: &[u8]) -> String {
-    let numbers: Vec<String> = bytes.iter().map(u8::to_string).collect();
-    format!("{} bytes: {}", bytes.len(), numbers.join(" "))
-}
-
-pub fn describe(call: &Call, side: &Side) -> String {
-    let input = decimal(&call.input());
-    let call = match call {
-        Call::FreshStart { there, sizes, door } => {
-            format!("fresh start, processes {there:#b}, sizes {sizes:?}, door {door}")
-        }
-        Call::Request { .. } => format!("request, message of {input}"),
-        Call::Report { process, kind, reason, .. } => {
-            format!("report, process {process}, kind {kind}, reason {reason}, words of {input}")
-        }
-        Call::Line { text } => {
-            format!("line, {:?}, text of {input}", String::from_utf8_lossy(text))
-        }
-        Call::Packet { kind, id, words } => {
-            format!("packet, type {kind}, ID {id}, words {words:?}")
-        }
-        Call::Tick => "tick".to_string(),
-        Call::Write { fields: [host, cmd, pid, arg1, arg2], .. } => format!(
-            "write request, HOST {host}, CMD {cmd}, PID {pid}, ARG1 {arg1}, ARG2 {arg2}, string of {input}"
-        ),
-        Call::Read { .. } => format!("read answer, message of {input}"),
-    };
-    let Side { state, memory, output, line, ack, .. } = side;
-    let [s, m, o, l, a] = [state, memory, output, line, ack].map(|lent| lent.bytes().len());
-    format!(
-        "call: {call}\nlent: state of {s} bytes, memory of {m}, output buffer of {o}, line buffer of {l}, acknowledgement of {a}"
-    )
 }

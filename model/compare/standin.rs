@@ -111,6 +111,23 @@ pub unsafe extern "C" fn palustrode_packet(
     })
 }
 
+/// State and message are lent to be read; a wrong library writes into them all the same.
+#[no_mangle]
+pub unsafe extern "C" fn palustrode_why(
+    state: *const u8,
+    state_len: usize,
+    message: *const u8,
+    message_len: usize,
+    facts: *mut u64,
+    facts_count: usize,
+) -> i64 {
+    answer(Made::Why {
+        state: from_raw_parts_mut(state.cast_mut(), state_len),
+        message: from_raw_parts_mut(message.cast_mut(), message_len),
+        facts: from_raw_parts_mut(facts, facts_count),
+    })
+}
+
 #[no_mangle]
 pub unsafe extern "C" fn palustrode_tick(state: *mut u8, state_len: usize) -> i64 {
     answer(Made::Tick { state: from_raw_parts_mut(state, state_len) })

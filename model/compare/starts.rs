@@ -1,9 +1,10 @@
 //! The fresh start of a list, and such as are refused before it.
 
 use crate::damage::STATE_LENGTHS;
+use crate::lent::Lent;
 use crate::packets::some_door;
 use crate::run::Comparison;
-use crate::sides::{Call, Lent};
+use crate::sides::Call;
 use crate::sizes::{shared, sizes_with_room, wrong_size};
 use model::*;
 

@@ -2,7 +2,8 @@
 //! is granted. So no single value of a byte, a word or a length goes unseen.
 
 use crate::desk::BITS;
-use crate::sides::{Call, Lent, Pair, Side};
+use crate::lent::Lent;
+use crate::sides::{Call, Pair, Side};
 use model::*;
 
 /// Makes each call on what `start` set up: how many, or the first difference.
@@ -80,6 +81,7 @@ impl Sweep<'_> {
         sweep.statuses()?;
         sweep.packets()?;
         sweep.back();
+        sweep.whys()?;
         sweep.lengths()?;
         sweep.starts()?;
         sweep.writes()?;

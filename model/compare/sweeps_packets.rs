@@ -1,7 +1,8 @@
 //! Every address, third word, value, type, number of words and room for an acknowledgement of
 //! a packet; every block at the end of processes of many sizes; and every place of the door.
 
-use crate::sides::{Call, Lent};
+use crate::lent::Lent;
+use crate::sides::Call;
 use crate::sweeps::{message, Sweep, OWNER, P};
 use crate::sweeps_watches::{by, AT};
 use model::*;

@@ -28,7 +28,7 @@ impl Sweep<'_> {
 
     /// Sets the entries of process 2: so many are the debugging host's, so many more the
     /// watcher's, from this entry on, and the others are free; one of them is lifted or none.
-    fn put_entries(&mut self, counts: [usize; 2], first: usize, lifted: Option<usize>) {
+    pub fn put_entries(&mut self, counts: [usize; 2], first: usize, lifted: Option<usize>) {
         let setters = [vec![OWNER; counts[0]], vec![WATCHER; counts[1]]].concat();
         for e in 0..BREAKPOINTS {
             let setter = setters.get(e).copied().unwrap_or(NOBODY);

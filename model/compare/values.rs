@@ -4,7 +4,8 @@
 use crate::calls::{EDGES, HOSTS};
 use crate::damage::STATE_LENGTHS;
 use crate::layout::last_word;
-use crate::sides::{Call, Lent, Side};
+use crate::lent::Lent;
+use crate::sides::{Call, Side};
 use crate::sizes::SIZES;
 use crate::values_layout::LAYOUT_VALUES;
 use crate::values_lines::LINE_VALUES;
@@ -329,7 +330,7 @@ impl Values {
         for (value, n) in every().zip(&mut self.counts) {
             *n += u64::from(value.by == by && (value.test)(call, side));
         }
-        let Side { state, memory, input, output, line, ack } = side;
+        let Side { state, memory, input, output, line, ack, .. } = side;
         let lent: &[(&str, &Lent)] = match call {
             Call::FreshStart { .. } => &[("state", state), ("sizes", input)],
             Call::Request { .. } | Call::Report { .. } => {
@@ -342,6 +343,7 @@ impl Values {
                 let words = ("data words", input);
                 &[("state", state), ("memory", memory), words, ("acknowledgement", ack)]
             }
+            Call::Why { .. } => &[("state", state), (INPUT, input)],
             Call::Tick => &[("state", state)],
             Call::Write { .. } => &[(INPUT, input), ("output", output)],
             Call::Read { .. } => &[(INPUT, input), ("fields", output)],

@@ -5,6 +5,7 @@ use crate::made::{lengths, Made};
 use crate::run::Comparison;
 use crate::wrong_abandon::WRONG_ABANDON;
 use crate::wrong_answers::WRONG_ANSWERS;
+use crate::wrong_asking::WRONG_ASKING;
 use crate::wrong_blocks::WRONG_BLOCKS;
 use crate::wrong_create::WRONG_CREATE;
 use crate::wrong_end_watch::WRONG_END_WATCH;
@@ -12,6 +13,7 @@ use crate::wrong_go::WRONG_GO;
 use crate::wrong_go_sound::WRONG_GO_SOUND;
 use crate::wrong_going::WRONG_GOING;
 use crate::wrong_layout::WRONG_LAYOUT;
+use crate::wrong_limits::WRONG_LIMITS;
 use crate::wrong_lines::WRONG_LINES;
 use crate::wrong_numbers::WRONG_NUMBERS;
 use crate::wrong_owed::WRONG_OWED;
@@ -21,10 +23,12 @@ use crate::wrong_setters::WRONG_SETTERS;
 use crate::wrong_sizes::WRONG_SIZES;
 use crate::wrong_status::WRONG_STATUS;
 use crate::wrong_status_desk::WRONG_STATUS_DESK;
+use crate::wrong_tests::WRONG_TESTS;
 use crate::wrong_text::WRONG_TEXT;
 use crate::wrong_ticks::WRONG_TICKS;
 use crate::wrong_told::WRONG_TOLD;
 use crate::wrong_watches::WRONG_WATCHES;
+use crate::wrong_why::WRONG_WHY;
 use crate::wrong_words::WRONG_WORDS;
 use model::*;
 use std::sync::atomic::{AtomicUsize, Ordering};
@@ -65,7 +69,8 @@ fn every() -> impl Iterator<Item = &'static Wrong> {
     let status = WRONG_NUMBERS.iter().chain(WRONG_STATUS).chain(WRONG_STATUS_DESK);
     let packets = WRONG_PACKETS.iter().chain(WRONG_WORDS).chain(WRONG_BLOCKS);
     let goes = WRONG_GO.iter().chain(WRONG_ABANDON).chain(WRONG_TICKS).chain(WRONG_GO_SOUND);
-    let later = lines.chain(watches).chain(status).chain(packets).chain(goes);
+    let whys = WRONG_WHY.iter().chain(WRONG_LIMITS).chain(WRONG_TESTS).chain(WRONG_ASKING);
+    let later = lines.chain(watches).chain(status).chain(packets).chain(goes).chain(whys);
     WRONG.iter().chain(WRONG_SIZES).chain(layout).chain(WRONG_PASSING).chain(later)
 }
 

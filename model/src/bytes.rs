@@ -231,6 +231,21 @@ pub fn tick_bytes(state: &mut [u8]) -> i64 {
     answer
 }
 
+/// `why` over the bytes of a state: 0, or minus the number of the first test that fails, with
+/// its facts in both numbers; minus 1 where not two are lent, and then nothing is written.
+/// Bytes that are no state are refused like a state that is not sound.
+pub fn why_bytes(state: &[u8], message: &[u8], facts: &mut [u64]) -> i64 {
+    let Ok(facts) = <&mut [u64; FACTS]>::try_from(facts) else {
+        return -WRONG_BUFFER;
+    };
+    let reason = match decode(state) {
+        Some(records) => why(&records, message),
+        None => Reason::Other(NOT_SOUND),
+    };
+    *facts = reason.facts();
+    -reason.number()
+}
+
 /// "State and memory are unchanged by a refusal"
 fn write_back(records: &State, answer: i64, state: &mut [u8]) {
     if answer >= 0 {

@@ -14,6 +14,7 @@ mod passing;
 mod sizes;
 mod status;
 mod watching;
+mod why;
 
 use super::*;
 use gateway::*;

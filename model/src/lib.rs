@@ -23,6 +23,7 @@ mod requests;
 mod runs;
 mod soundness;
 mod watches;
+mod why;
 
 pub use blocks::{block, ACK_WORDS, LONGEST_ASKED, LONGEST_BLOCK};
 pub use bytes::*;
@@ -37,6 +38,7 @@ pub use requests::request;
 pub use runs::Run;
 pub use soundness::{right_size, sound};
 pub use watches::WATCHED_LIMIT;
+pub use why::{why, Limit, Reason, FACTS};
 
 use bytes::vector_from;
 use goes::NO_GO;

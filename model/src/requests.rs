@@ -55,7 +55,7 @@ pub fn request(state: &mut State, memory: &mut [u8], message: &[u8], reply: &mut
 }
 
 /// Tests 3 to 6.
-fn read(message: &[u8]) -> Result<Asked<'_>, Refusal> {
+pub(super) fn read(message: &[u8]) -> Result<Asked<'_>, Refusal> {
     // 3: "message under 10 or over 266 bytes"
     if message.len() < HEAD || message.len() > LONGEST {
         return Err(WRONG_LENGTH);

@@ -6,3 +6,4 @@ pub mod ReturnLaws
 pub mod LibraryLaws
 pub mod NarrowLaws
 pub mod DeskLaws
+pub mod QueryLaws

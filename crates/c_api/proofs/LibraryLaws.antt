@@ -1,35 +1,39 @@
 -- Calls of the library are calls of the gateway, and so a run of the rules. Assumes nothing.
 use mathlib.Core.Path.{_≡_, refl, sym, ap, ap₂, _∙_}
 use mathlib.Core.Bool.{true, true≢false}
-use mathlib.Core.List.{List, [], _∷_, map}
+use mathlib.Core.List.{List, [], _∷_, _++_, map}
 use Prim.Native.Nat.{ℕ, zero, suc, _%_}
 use native.Mathlib.Omega.{arith}
 use borrow.Author.Tests.{eq-eqb, eqb-true, ltb-true, not-false}
 use lib.IntN.{ℤ, pos, negsuc, +ℤ-idl}
-use lib.ListN.{length}
+use lib.ListN.{length, take}
 use lib.Dec.{eqb}
 use Rattle.lists.specs.Word.{vectorOf}
 use Rattle.format.specs.declared.outcome.Outcome.{Outcome}
 use Rattle.format.specs.declared.outcome.Outcome.the-variants.{Granted, Refused}
 use Rattle.format.specs.Outcome.{outcome, numberOf, lengthOf}
 use Rattle.format.specs.Layout.{headerOf}
-use Rattle.format.proofs.OutcomeLaws.{first-passes, rest-passes}
+use Rattle.format.proofs.OutcomeLaws.{numberOf-outcome, first-passes, rest-passes}
 use Rattle.state.specs.Layout.{capacity}
 use Rattle.rules.specs.Rule.{names, creates}
 use Rattle.rules.specs.Tests.{State, requestNumber, textNumber, packetNumber}
-use Rattle.rules.specs.Step.{Answer, StepResult, plainAnswer, Call, request, report, store, textLine, packet, tick, step, requestStep, granted, grantedNamed, grantedCreate, refused, textStep, packetStep, tickStep}
+use Rattle.rules.specs.Step.{Answer, StepResult, plainAnswer, Call, request, report, store, textLine, packet, tick, query, step, requestStep, granted, grantedNamed, grantedCreate, refused, textStep, packetStep, tickStep}
 use Rattle.rules.specs.Ready.{Typed}
 use Rattle.rules.specs.Run.{TraceItem, traceItem, run}
 use Rattle.rules.specs.Isolation.{isGranted}
 use Rattle.rules.proofs.NumberLaws.{by-test}
 use Rattle.rules.proofs.TotalLaws.{total}
 use Rattle.state_bytes.specs.Widths.{processCount, stateWidth}
-use Rattle.gateway.specs.Called.{Called, callOn, machineStored, Did}
+use Rattle.reasons.specs.declared.Reason.{Reason}
+use Rattle.reasons.specs.declared.Reason.the-variants.{Granted as ReasonGranted, Length, Debugger, RunState, Past, Full, Watcher, Setter, Other}
+use Rattle.reasons.specs.Reason.{reasonNumber, factsOf, factCount, twoFacts}
+use Rattle.gateway.specs.Called.{Called, called, callOn, machineStored, whyOn, whyCalled, Did}
 use Rattle.gateway.specs.Sequence.{Begins, readFrom}
 use Rattle.gateway.proofs.SequenceLaws.{Follows, did-follows, did-begins, fresh-begins}
 use Rattle.gateway.proofs.DemandLaws.{lists-on-bytes}
-use Rattle.c_api.specs.Called.{signed, bothLengths, Returns, Reports, byteOf, kindOf, reportOn, typeOf, packetOn, bitsOf, startNumber, startWith}
-use Rattle.c_api.specs.Library.{LibraryCall, requested, reported, stored, lineSent, packetSent, ticked, Returned, DidReturn, DoneByLibrary, callOf, Whole, AllWhole, outcomeOf, noticeTold, lineTold, plainTold, answerTold, returnedItem, returnedItems, MadeByLibrary, LibraryDemands}
+use Rattle.gateway.proofs.WhyLaws.{facts-on}
+use Rattle.c_api.specs.Called.{signed, bothLengths, Returns, Reports, byteOf, kindOf, reportOn, typeOf, packetOn, whyWith, bitsOf, startNumber, startWith}
+use Rattle.c_api.specs.Library.{LibraryCall, requested, reported, stored, lineSent, packetSent, ticked, queried, Returned, DidReturn, DoneByLibrary, callOf, Whole, AllWhole, outcomeOf, noticeTold, lineTold, plainTold, queryTold, answerTold, returnedItem, returnedItems, MadeByLibrary, LibraryDemands}
 use Rattle.c_api.proofs.ShortLaws.{Small, report-small, nine-words}
 use Rattle.c_api.proofs.StartLaws.{start-same}
 
@@ -99,6 +103,7 @@ typed (stored p a v) = tt
 typed (lineSent text line) = tt
 typed (packetSent door kind id words ack) = tt
 typed (ticked door) = tt
+typed (queried m facts) = tt
 
 module _ (state memory : List ℕ) (c : Call) (y : Returned) (x : Called) (f : Follows state memory c x) where
   abbrev a : Answer
@@ -124,8 +129,42 @@ module _ (state memory : List ℕ) (c : Call) (y : Returned) (x : Called) (f : F
       let back = both-told (x .outcome) (x .lineLength) small grants in
       rw (r .result-is, back .0, back .1, r .notice-is, r .line-is) (f .answer)
 
+-- the facts are the first of the two numbers
+front-of : (r : Reason) → length (factsOf r) ≡ factCount (reasonNumber r) → take (factCount (reasonNumber r)) (twoFacts r) ≡ factsOf r
+unfolding twoFacts factsOf factCount
+front-of ReasonGranted e = refl
+front-of (Length n) e = refl
+front-of (Debugger host) e = refl
+front-of (RunState run) e = refl
+front-of (Past limit excess) e = refl
+front-of (Full entries) e = refl
+front-of (Watcher host) e = refl
+front-of (Setter host) e = refl
+front-of (Other n) e = rw (← e)
+
+-- and zeros are all that follows them
+behind-of : (r : Reason) → twoFacts r ≡ take 2 (factsOf r ++ (0 ∷ 0 ∷ []))
+unfolding twoFacts factsOf
+behind-of ReasonGranted = refl
+behind-of (Length n) = refl
+behind-of (Debugger host) = refl
+behind-of (RunState run) = refl
+behind-of (Past limit excess) = refl
+behind-of (Full entries) = refl
+behind-of (Watcher host) = refl
+behind-of (Setter host) = refl
+behind-of (Other n) = refl
+
+-- the number and the two numbers tell what a query answers
+query-told : (state memory m : List ℕ) (y : Returned) → Follows state memory (query m) (whyCalled (whyOn state m) state memory)
+    → y .result ≡ signed (outcome (reasonNumber (whyOn state m)) 0) → y .buffer ≡ twoFacts (whyOn state m) → queryTold y ≡ step (readFrom state memory) (query m) .answer
+query-told state memory m y f r b =
+    let n = reasonNumber (whyOn state m) in
+    let back = ap outcomeOf r ∙ told (outcome n 0) (grants state memory (query m) y _ f) in
+    rw (back, b, numberOf-outcome n 0, front-of (whyOn state m) (facts-on state m)) (f .answer)
+
 is-call : (state memory : List ℕ) (c : LibraryCall) → Whole c → (y : Returned) → DidReturn state memory c y → IsCall state memory c y
-unfolding DidReturn Did callOf Whole reportOn packetOn answerTold
+unfolding DidReturn Did callOf Whole reportOn packetOn whyWith answerTold
 is-call state memory (requested m reply) w y d = record {
   call = callOn state memory (request m reply);
   did = refl;
@@ -174,6 +213,16 @@ is-call state memory (ticked door) w y d = record {
   state-is = d .1 .state-is;
   memory-is = d .1 .memory-is;
 }
+is-call state memory (queried m facts) w y d =
+    let x = whyCalled (whyOn state m) state memory in
+    let r : Returns (called (x .outcome) state memory (twoFacts (whyOn state m))) (y .result) (y .state) (y .memory) (y .buffer) = rw (eq-eqb (length facts) 2 w) at d in
+    record {
+      call = x;
+      did = refl;
+      answered = λ f. query-told state memory m y f (r .result-is) (r .buffer-is);
+      state-is = r .state-is;
+      memory-is = r .memory-is;
+    }
 
 module _ (state memory : List ℕ) (b : Begins state memory) (c : LibraryCall) (y : Returned) (i : IsCall state memory c y) where
   follows : Follows state memory (callOf c) (i .call)
@@ -230,9 +279,24 @@ started-zero : (there door : ℕ) (sizes before : List ℕ) (r : ℤ) → r ≡ 
 unfolding startWith
 started-zero there door sizes before r e z = none-fails (startNumber there sizes before) (sym z ∙ e)
 
+-- the number that a query returns is that of its reason
+query-number : (n : ℕ) → numberOf (outcomeOf (signed (outcome n 0))) ≡ n
+unfolding outcomeOf signed isGranted numberOf lengthOf
+query-number zero = refl
+query-number (suc n) = ap (λ (z : ℤ). numberOf (outcomeOf z)) (+ℤ-idl (negsuc n))
+
+only-facts : (state memory m facts : List ℕ) (y : Returned) → length facts ≡ 2 → DidReturn state memory (queried m facts) y
+    → y .buffer ≡ take 2 (queryTold y .buffer ++ (0 ∷ 0 ∷ []))
+unfolding DidReturn whyWith
+only-facts state memory m facts y w d =
+    let r = rw (eq-eqb (length facts) 2 w) at d in
+    let why = whyOn state m in
+    rw (r .buffer-is, r .result-is, query-number (reasonNumber why), front-of why (facts-on state m)) (behind-of why)
+
 pub library-demands : LibraryDemands
 library-demands = record {
   fresh = λ there door sizes before state memory r s z size.
       rw (s .state-is) (started-begins there door sizes before memory (started-zero there door sizes before r (s .result-is) z) size);
   lists = lists-on-bytes MadeByLibrary made-runs;
+  only-facts = only-facts;
 }

@@ -14,7 +14,9 @@ use Rattle.state.specs.Fresh.{freshStart, sizesRight}
 use Rattle.rules.specs.Step.{report, packet}
 use Rattle.state_bytes.specs.Widths.{processCount, stateWidth}
 use Rattle.state_bytes.specs.State.{stateBytes, doorOf}
-use Rattle.gateway.specs.Called.{Called, StartResult, refusedBy, callOn, started}
+use Rattle.reasons.specs.Reason.{reasonNumber, twoFacts}
+use Rattle.rules.specs.Turn.{single}
+use Rattle.gateway.specs.Called.{Called, StartResult, called, refusedBy, callOn, whyOn, started}
 
 -- minus this number
 abbrev pub minus : ℕ → ℤ
@@ -69,6 +71,12 @@ typeOf kind id = cond (ltb id 4294967296) (byteOf kind) 255
 -- a packet of numbers of any size, to the process of the door
 unfoldable pub packetOn : List ℕ → List ℕ → ℕ → ℕ → List ℕ → List ℕ → Called
 packetOn state memory kind id words ack = callOn state memory (packet (doorOf state) (typeOf kind id) (id % 4294967296) words ack)
+
+-- a query hands over minus the number, and the facts in two numbers; a buffer for other than two is one of the wrong length, test 1
+unfoldable pub whyWith : List ℕ → List ℕ → List ℕ → List ℕ → Called
+whyWith state memory m facts =
+    cond (eqb (length facts) 2) (called (outcome (reasonNumber (whyOn state m)) 0) state memory (twoFacts (whyOn state m)))
+    (refusedBy 1 state memory (single facts))
 
 -- process p is there where bit p is set
 unfoldable pub bitsOf : ℕ → List Bool

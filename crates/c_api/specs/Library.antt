@@ -1,20 +1,21 @@
 -- Calls of the library, one after another on the bytes of a state, as the contracts of the exported functions promise them.
 use mathlib.Core.Path.{_≡_}
-use mathlib.Core.List.{List, [], _∷_, map}
+use mathlib.Core.List.{List, [], _∷_, _++_, map}
 use Prim.Native.Nat.{ℕ, suc, _<_, _/_, _%_}
 use lib.IntN.{ℤ, pos, negsuc}
-use lib.ListN.{length}
+use lib.ListN.{length, take}
 use Rattle.lists.specs.Word.{vectorOf}
 use Rattle.format.specs.declared.outcome.Outcome.{Outcome}
-use Rattle.format.specs.Outcome.{outcome}
+use Rattle.format.specs.Outcome.{outcome, numberOf}
+use Rattle.reasons.specs.Reason.{factCount}
 use Rattle.state.specs.Layout.{capacity, extentAt}
-use Rattle.rules.specs.Step.{Answer, plainAnswer, Call, request, report, store, textLine, packet, tick}
+use Rattle.rules.specs.Step.{Answer, plainAnswer, Call, request, report, store, textLine, packet, tick, query}
 use Rattle.rules.specs.Run.{TraceItem}
 use Rattle.state_bytes.specs.State.{stateOf, doorOf}
 use Rattle.gateway.specs.Called.{callOn, machineStored}
 use Rattle.gateway.specs.Sequence.{Begins, readFrom}
 use Rattle.gateway.specs.Demands.{ListsOnBytes}
-use Rattle.c_api.specs.Called.{Returns, Reports, Starts, kindOf, reportOn, typeOf, packetOn, startWith}
+use Rattle.c_api.specs.Called.{Returns, Reports, Starts, kindOf, reportOn, typeOf, packetOn, whyWith, startWith}
 
 -- a call of the library, or a store by the machine between two; a packet and a tick carry the process of the door, which the state tells
 pub data LibraryCall : Type 0 where
@@ -24,6 +25,7 @@ pub data LibraryCall : Type 0 where
   lineSent : (text line : List ℕ) → LibraryCall
   packetSent : (door kind id : ℕ) (words ack : List ℕ) → LibraryCall
   ticked : (door : ℕ) → LibraryCall
+  queried : (message facts : List ℕ) → LibraryCall
 
 -- what it returned, and the bytes that it left; a report also in its line buffer
 pub record Returned : Type 0 where
@@ -44,6 +46,7 @@ DidReturn state memory (lineSent text line) y = Returns (callOn state memory (te
 DidReturn state memory (packetSent door kind id words ack) y =
     (door ≡ doorOf state) × Returns (packetOn state memory kind id words ack) (y .result) (y .state) (y .memory) (y .buffer)
 DidReturn state memory (ticked door) y = (door ≡ doorOf state) × Returns (callOn state memory (tick door)) (y .result) (y .state) (y .memory) (y .buffer)
+DidReturn state memory (queried m facts) y = Returns (whyWith state memory m facts) (y .result) (y .state) (y .memory) (y .buffer)
 
 -- each on the bytes that the one before it left
 unfoldable pub DoneByLibrary : List ℕ → List ℕ → List LibraryCall → List Returned → Type 0
@@ -62,8 +65,9 @@ callOf (stored p a v) = store p a v
 callOf (lineSent text line) = textLine text line
 callOf (packetSent door kind id words ack) = packet door (typeOf kind id) (id % 4294967296) words ack
 callOf (ticked door) = tick door
+callOf (queried m facts) = query m
 
--- the nine words of a report are 18 bytes; with others it is refused with 1, and no call of the rules
+-- the nine words of a report are 18 bytes, and the facts of a query two; with others it is refused with 1, and no call of the rules
 unfoldable pub Whole : LibraryCall → Type 0
 Whole (requested m reply) = Unit {0}
 Whole (reported p kind reason words notice line) = length words ≡ 18
@@ -71,6 +75,7 @@ Whole (stored p a v) = Unit {0}
 Whole (lineSent text line) = Unit {0}
 Whole (packetSent door kind id words ack) = Unit {0}
 Whole (ticked door) = Unit {0}
+Whole (queried m facts) = length facts ≡ 2
 
 -- each of a list
 unfoldable pub AllWhole : List LibraryCall → Type 0
@@ -96,6 +101,10 @@ lineTold (negsuc n) = 0
 abbrev pub plainTold : Returned → Answer
 plainTold y = plainAnswer (outcomeOf (y .result)) (y .buffer)
 
+-- the answer of a query: as many of the two as go with the number
+abbrev pub queryTold : Returned → Answer
+queryTold y = plainAnswer (outcomeOf (y .result)) (take (factCount (numberOf (outcomeOf (y .result)))) (y .buffer))
+
 -- the answer that the returned number and the buffers tell
 unfoldable pub answerTold : LibraryCall → Returned → Answer
 answerTold (requested m reply) y = plainTold y
@@ -105,6 +114,7 @@ answerTold (stored p a v) y = plainTold y
 answerTold (lineSent text line) y = plainTold y
 answerTold (packetSent door kind id words ack) y = plainTold y
 answerTold (ticked door) y = plainTold y
+answerTold (queried m facts) y = queryTold y
 
 -- a call with what it returned, and the state that the bytes after it stand for
 abbrev pub returnedItem : LibraryCall → Returned → TraceItem
@@ -132,3 +142,6 @@ pub record LibraryDemands : Type 0 where
   pub fresh : (there door : ℕ) (sizes before state memory : List ℕ) (r : ℤ) → Starts (startWith there sizes door before) r state → r ≡ pos 0
       → length memory ≡ capacity → Begins state memory
   pub lists : ListsOnBytes MadeByLibrary
+  -- beside the facts that go with its number, a query hands over nothing but zeros
+  pub only-facts : (state memory m facts : List ℕ) (y : Returned) → length facts ≡ 2 → DidReturn state memory (queried m facts) y
+      → y .buffer ≡ take 2 (queryTold y .buffer ++ (0 ∷ 0 ∷ []))

@@ -12,6 +12,7 @@ use gateway::request;
 use gateway::sizes_right;
 use gateway::text_line;
 use gateway::tick;
+use gateway::why;
 use state_bytes::STATE_BYTES;
 use words::vector_of;
 ghost use mathlib.Core.Path.{_≡_};
@@ -22,7 +23,7 @@ ghost use Rattle.lists.specs.Word.{vectorOf};
 ghost use Rattle.rules.specs.Step.{request, textLine, tick};
 ghost use Rattle.state_bytes.specs.State.{doorOf};
 ghost use Rattle.gateway.specs.Called.{callOn};
-ghost use Rattle.c_api.specs.Called.{Returns, Reports, Starts, startWith, startNumber, reportOn, packetOn, bitsOf};
+ghost use Rattle.c_api.specs.Called.{Returns, Reports, Starts, startWith, startNumber, reportOn, packetOn, whyWith, bitsOf};
 
 fn bits(there: u64) -> [bool; 8]
     ensures { λ r. ⌜ r ≡ bitsOf there ⌝ }
@@ -190,4 +191,26 @@ pub extern "C" fn palustrode_tick(state: &mut [u8]) -> i64
 {
     let outcome = tick(state);
     signed(outcome)
+}
+
+// The two numbers, in their order.
+fn hand_facts(two: [u64; 2], facts: &mut [u64])
+    requires { ⌜ length (now facts) ≡ 2 ⌝ }
+    ensures { λ _. ⌜ now (facts .exit) ≡ two ⌝ }
+{
+    facts[0] = two[0];
+    facts[1] = two[1];
+}
+
+// Why a request is refused: the facts in two numbers, and minus the number of the test that fails first, or 0.
+#[no_mangle]
+pub extern "C" fn palustrode_why(state: &[u8], message: &[u8], facts: &mut [u64]) -> i64
+    ensures { λ r. ⌜ ((memory : List ℕ) → Returns (whyWith (now (state .entry)) memory (now (message .entry)) (now (facts .entry))) r (now (state .entry)) memory (now (facts .exit))) ⌝ }
+{
+    if facts.len() != 2 {
+        return minus(1);
+    }
+    let reason = why(state, message);
+    hand_facts(reason.facts(), facts);
+    minus(reason.number())
 }

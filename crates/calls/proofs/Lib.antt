@@ -5,3 +5,4 @@ pub mod MeaningLaws
 pub mod TextLaws
 pub mod ShownLaws
 pub mod PacketLaws
+pub mod WhyLaws

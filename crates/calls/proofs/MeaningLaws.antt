@@ -134,13 +134,24 @@ module _ (o : Outcome) (there : List Bool) (sizes : List ℕ) (door : ℕ) (s m 
 
 -- ---- a message over 266 bytes is refused whatever stands after them
 
+pub too-long : (m : List ℕ) → 266 < length m → wrongLength (length m) ≡ true
+unfolding wrongLength
+too-long m h = rw (le-ltb (length m) 10 (omega (arith, h)), lt-ltb 266 (length m) h)
+
+-- what answers all of them alike answers a message like its first bytes, if these are more than 266 or all
+pub front-alike : (made : List ℕ → Effect) → ((x y : List ℕ) → 266 < length x → 266 < length y → made x ≡ made y)
+    → (n : ℕ) (x : List ℕ) → 267 ≤ n → made (take n x) ≡ made x
+front-alike made alike n x h = go (leb (length x) n) refl
+  where
+    go : (t : Bool) → leb (length x) n ≡ t → made (take n x) ≡ made x
+    go true e = ap made (take-all n x (leb-true (length x) n e))
+    go false e =
+        let long = leb-false (length x) n e in
+        alike (take n x) x (omega (arith, length-take n x, long, h)) (omega (arith, long, h))
+
 module _ (s : State) (buffer : List ℕ) where
   abbrev lentOr3 : ℕ
   lentOr3 = cond (noRoom (s .memory) buffer) 1 (cond (unsound s) 2 3)
-
-  too-long : (m : List ℕ) → 266 < length m → wrongLength (length m) ≡ true
-  unfolding wrongLength
-  too-long m h = rw (le-ltb (length m) 10 (omega (arith, h)), lt-ltb 266 (length m) h)
 
   number-long : (m : List ℕ) → 266 < length m → requestNumber s m buffer ≡ lentOr3
   unfolding requestNumber firstFailing
@@ -162,13 +173,7 @@ made-long x y s m h k = rw (refused-long (lent (stateOf s) m) zeroBuffer x h, re
 
 -- a message is answered like its first bytes, if these are more than 266 or all
 pub made-front : (n : ℕ) (x s m : List ℕ) → 267 ≤ n → requestMade (take n x) s m ≡ requestMade x s m
-made-front n x s m h = go (leb (length x) n) refl
-  where
-    go : (t : Bool) → leb (length x) n ≡ t → requestMade (take n x) s m ≡ requestMade x s m
-    go true e = ap (λ (l : List ℕ). requestMade l s m) (take-all n x (leb-true (length x) n e))
-    go false e =
-        let long = leb-false (length x) n e in
-        made-long (take n x) x s m (omega (arith, length-take n x, long, h)) (omega (arith, long, h))
+made-front n x s m h = front-alike (λ y. requestMade y s m) (λ y z. made-long y z s m) n x h
 
 -- ---- a line's pairs, and a line's listing
 

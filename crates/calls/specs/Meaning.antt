@@ -11,7 +11,10 @@ use Rattle.state.specs.Layout.{capacity, extentAt, slot}
 use Rattle.packets.specs.Ack.{ackWords}
 use Rattle.rules.specs.Step.{request, report, textLine, packet, tick}
 use Rattle.state_bytes.specs.State.{stateOf, doorOf}
-use Rattle.gateway.specs.Called.{Called, StartResult, callOn, machineStored, startOn}
+use Rattle.reasons.specs.declared.Reason.{Reason}
+use Rattle.reasons.specs.declared.Reason.the-variants.{Length}
+use Rattle.reasons.specs.Reason.{reasonNumber}
+use Rattle.gateway.specs.Called.{Called, StartResult, callOn, machineStored, whyOn, startOn}
 use Rattle.gateway.specs.Lengths.{replyLength, noticeLength, lineLength}
 use Rattle.lines.specs.declared.scan.Phase.{Phase}
 use Rattle.lines.specs.Hex.{pairsLine}
@@ -21,6 +24,7 @@ use Rattle.decimal.specs.declared.number.Number.{Number}
 use Rattle.decimal.specs.Read.{begun, behind, endsLine}
 use Rattle.display.specs.Answer.{answerLine}
 use Rattle.display.specs.Line.{processLine}
+use Rattle.display.specs.Reason.{whyLine}
 use Rattle.calls.specs.declared.listing.Listing.{Listing}
 use Rattle.calls.specs.declared.text.Shown.{Shown}
 use Rattle.calls.specs.declared.text.Shown.the-variants.{Recorded}
@@ -143,6 +147,18 @@ tickMade s m = tickAnswered (callOn s m (tick (doorOf s)))
 -- tick: the word alone
 unfoldable pub tickEffect : List ℕ → List ℕ → List ℕ → Effect
 tickEffect line s m = ifRight (eqb (length line) 4) (tickMade s m) s m
+
+-- a reason for a message of so many bytes: where it is 3, the length, it tells their number
+unfoldable pub recounted : ℕ → Reason → Reason
+recounted count r = cond (eqb (reasonNumber r) 3) (Length count) r
+
+-- the query about a message of so many bytes, by its first ones, which are more than the longest message has, or all
+unfoldable pub whyMade : ℕ → List ℕ → List ℕ → List ℕ → Effect
+whyMade count message s m = effect s m (whyLine (recounted count (whyOn s message)))
+
+-- why HEX HEX ..: the pairs led to this phase, there are so many of them, and the message is their bytes; state and memory stay
+unfoldable pub whyEffect : Phase → ℕ → List ℕ → List ℕ → List ℕ → Effect
+whyEffect phase count message s m = ifRight (full phase) (whyMade count message s m) s m
 
 -- the line ends after this number, and the bytes that it names end at this address, at most here
 unfoldable pub endsWithin : List ℕ → Number → ℕ → ℕ → Bool

@@ -258,6 +258,19 @@ ten-digits =
     (more-digits 6 1000000 (omega arith)
     (more-digits 5 100000 (omega arith) five-digits))))
 
+pub twenty-digits : (n : ℕ) → n < 100000000000000000000 → length (numeral n) ≤ 20
+twenty-digits =
+    more-digits 19 10000000000000000000 (omega arith)
+    (more-digits 18 1000000000000000000 (omega arith)
+    (more-digits 17 100000000000000000 (omega arith)
+    (more-digits 16 10000000000000000 (omega arith)
+    (more-digits 15 1000000000000000 (omega arith)
+    (more-digits 14 100000000000000 (omega arith)
+    (more-digits 13 10000000000000 (omega arith)
+    (more-digits 12 1000000000000 (omega arith)
+    (more-digits 11 100000000000 (omega arith)
+    (more-digits 10 10000000000 (omega arith) ten-digits)))))))))
+
 pub length-field : (mark n : ℕ) → n < 65536 → length (field mark n) ≤ 6
 unfolding field
 length-field mark n h = omega (arith, five-digits n (omega (arith, h)))

@@ -34,6 +34,15 @@ pub fn put_long(long: u32, at: usize, out: &mut [u8]) -> usize
     put_numeral(long as u64, at, out)
 }
 
+// A number of 64 bits from an index on; the index after it.
+pub fn put_wide(wide: u64, at: usize, out: &mut [u8]) -> usize
+    requires { ⌜ at + 20 ≤ length (now out) ⌝ }
+    ensures { λ r. ⌜ Put at (numeral wide) (now (out .entry)) r (now (out .exit)) ⌝ }
+    ensures { λ r. ⌜ r ≤ at + 20 ⌝ }
+{
+    put_numeral(wide, at, out)
+}
+
 // A mark and a number, from an index on; the index after them.
 pub fn put_field(mark: u8, n: u16, at: usize, out: &mut [u8]) -> usize
     requires { ⌜ at + 6 ≤ length (now out) ⌝ }
@@ -42,4 +51,14 @@ pub fn put_field(mark: u8, n: u16, at: usize, out: &mut [u8]) -> usize
 {
     put_mark(mark, at, out);
     put_number(n, at + 1, out)
+}
+
+// A mark and a number of 64 bits, from an index on; the index after them.
+pub fn put_wide_field(mark: u8, wide: u64, at: usize, out: &mut [u8]) -> usize
+    requires { ⌜ at + 21 ≤ length (now out) ⌝ }
+    ensures { λ r. ⌜ Put at (field mark wide) (now (out .entry)) r (now (out .exit)) ⌝ }
+    ensures { λ r. ⌜ r ≤ at + 21 ⌝ }
+{
+    put_mark(mark, at, out);
+    put_wide(wide, at + 1, out)
 }

@@ -7,4 +7,6 @@ pub mod theorems;
 pub use field::put_field;
 pub use field::put_long;
 pub use field::put_number;
+pub use field::put_wide;
+pub use field::put_wide_field;
 pub use number::Number;

@@ -153,10 +153,10 @@ unmoved a s = record { answer = a; after = s }
 module _ (h : Header) (string buffer : List ℕ) (s : State) where
   -- by the number of the tests of the process that is named
   module _ (p : ℕ) (n : names (h .cmd) ≡ true) (low : p < 8) (here : h .pid ≡ p) where
-    number : ℕ
+    unfoldable pub number : ℕ
     number = firstFailing (processTests h (recordOf s p))
 
-    number-asked : firstFailing (askedTests h s) ≡ number
+    pub number-asked : firstFailing (askedTests h s) ≡ number
     unfolding askedTests number
     number-asked = rw (n, here, lt-ltb p 8 low)
 

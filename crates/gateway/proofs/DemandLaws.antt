@@ -2,6 +2,7 @@
 use mathlib.Core.Path.{_≡_, refl, sym, ap, _∙_}
 use mathlib.Core.Bool.{Bool, true, false, cond}
 use mathlib.Core.List.{List, [], _∷_}
+use mathlib.Core.Logic.{_⊎_, inl, inr}
 use Prim.Native.Nat.{ℕ, _<_}
 use lib.ListN.{getD}
 use Rattle.format.specs.declared.outcome.Outcome.{Outcome}
@@ -10,7 +11,7 @@ use Rattle.format.specs.Outcome.{numberOf}
 use Rattle.format.proofs.OutcomeLaws.{numberOf-outcome, outcome-other}
 use Rattle.rules.specs.Tests.{State, noRoom, noReportRoom, noLineRoom, noAckRoom}
 use Rattle.rules.specs.Window.{Buffers}
-use Rattle.rules.specs.Step.{Call, request, report, store, textLine, packet, tick, step, localOf}
+use Rattle.rules.specs.Step.{Call, request, report, store, textLine, packet, tick, query, step, queryStep, localOf}
 use Rattle.rules.specs.Turn.{single, buffersOf}
 use Rattle.rules.specs.Run.{TraceItem, run, leave}
 use Rattle.rules.specs.Total.{oneOf, numbersOf}
@@ -29,12 +30,21 @@ use Rattle.rules.proofs.OwedLaws.{owed-answers}
 use Rattle.rules.proofs.BreakLifeLaws.{watching}
 use Rattle.rules.proofs.StatusLaws.{how-many-set}
 use Rattle.rules.proofs.WaitingLaws.{waiting}
-use Rattle.state_bytes.specs.State.{stateFormed, stateSound}
-use Rattle.gateway.specs.Called.{Called, reportCalled, finished, badlyLent, lentOn, refusedBy, callOn, machineStored, Did}
+use Rattle.rules.specs.Why.{whyOf}
+use Rattle.rules.specs.WhyRight.{Shaped, toldNumber, toldFacts, WhyRight}
+use Rattle.rules.proofs.WhyLaws.{number-is, why-right}
+use Rattle.reasons.specs.declared.Reason.{Reason}
+use Rattle.reasons.specs.Reason.{reasonNumber, factsOf}
+use Rattle.state_bytes.specs.State.{stateOf, stateFormed, stateSound}
+use Rattle.gateway.specs.Called.{Called, reportCalled, finished, badlyLent, lentOn, refusedBy, callOn, machineStored, whyOn, whyCalled, Did}
 use Rattle.gateway.specs.Sequence.{Begins, Made, readFrom}
-use Rattle.gateway.specs.Demands.{TotalOnBytes, ListsOnBytes, Demands}
+use Rattle.gateway.specs.Demands.{TotalOnBytes, SameNumber, TellsRight, ListsOnBytes, Demands}
 use Rattle.gateway.proofs.LentLaws.{request-unfit, report-unfit, line-unfit, packet-unfit, tick-unfit}
+use Rattle.state_bytes.proofs.StartLaws.{eight-starts}
+use Rattle.state_bytes.proofs.StateLaws.{eight-at}
+use Rattle.gateway.proofs.ReadyLaws.{read-eight}
 use Rattle.gateway.proofs.ReportLaws.{both}
+use Rattle.gateway.proofs.WhyLaws.{why-formed, why-unsound}
 use Rattle.gateway.proofs.SequenceLaws.{did-begins, did-door, done-run, fresh-begins, fresh-door, passed-begins, passed-line-begins, passed-packet-begins}
 
 -- ---- demand 1 on any bytes
@@ -90,6 +100,18 @@ tick-answered state memory door x e = rw e (go (stateFormed state) refl)
     go true f = rw f (formed state memory (tick door))
     go false f = rw f (record { listed = refl; refused = λ n. (refl, refl) })
 
+-- nor is a query
+query-answered : (state memory m : List ℕ) (x : Called) → x ≡ whyCalled (whyOn state m) state memory → Answered state memory (numbersOf (query m)) x
+unfolding whyOn step numbersOf
+query-answered state memory m x e = rw e (record {
+  listed = rw (numberOf-outcome (reasonNumber (whyOn state m)) 0) (go (stateFormed state) refl);
+  refused = λ n. (refl, refl);
+})
+  where
+    go : (t : Bool) → stateFormed state ≡ t → oneOf (numbersOf (query m)) (reasonNumber (whyOn state m)) ≡ true
+    go true f = rw (why-formed state memory m f, ← number-is (readFrom state memory) m) (total .listed (readFrom state memory) (query m))
+    go false f = rw f
+
 answered : (state memory : List ℕ) (c : Call) (x : Called) → Did state memory c x → Answered state memory (numbersOf c) x
 unfolding Did numbersOf machineStored numberOf
 answered state memory (request m buffer) x d = call-answered state memory (request m buffer) refl refl x d
@@ -98,6 +120,7 @@ answered state memory (store p a v) x d = rw (d .1) (record { listed = refl; ref
 answered state memory (textLine text buffer) x d = call-answered state memory (textLine text buffer) refl refl x d
 answered state memory (packet door kind id words buffer) x d = call-answered state memory (packet door kind id words buffer) refl refl x (d .1)
 answered state memory (tick door) x d = tick-answered state memory door x (d .1)
+answered state memory (query m) x d = query-answered state memory m x d
 
 refused-by : (state memory : List ℕ) (b : Buffers) (n : ℕ) → (n ≡ 0 → ⊥) → reportCalled (Refused n) 0 state memory (b .own) (b .line) ≡ refusedBy n state memory b
 refused-by state memory b n z = ap (λ (o : Outcome). reportCalled o 0 state memory (b .own) (b .line)) (outcome-other n 0 z)
@@ -111,8 +134,16 @@ tick-number state n = go (stateSound state) n
     go true z = absurd (z refl)
     go false z = refl
 
+unsound-by : (state : List ℕ) → (lentOn state false ≡ 0 → ⊥) → stateSound state ≡ false
+unfolding lentOn
+unsound-by state n = go (stateSound state) n
+  where
+    go : (t : Bool) → (_≡_ {A = ℕ} (cond t 0 2) 0 → ⊥) → t ≡ false
+    go true z = absurd (z refl)
+    go false z = refl
+
 total-on-bytes : TotalOnBytes
-unfolding Did buffersOf
+unfolding Did buffersOf factsOf
 total-on-bytes = record {
   listed = λ state memory c x d. answered state memory c x d .listed;
   refused = λ state memory c x d. answered state memory c x d .refused;
@@ -132,7 +163,34 @@ total-on-bytes = record {
       let k = lentOn state false in
       d .1 ∙ sym (tick-unfit state memory door k refl n) ∙ refused-by state memory (single []) k n
       ∙ ap (λ (number : ℕ). refusedBy number state memory (single [])) (tick-number state n);
+  unfit-query = λ state memory m x d n. d ∙ ap (λ (r : Reason). whyCalled r state memory) (why-unsound state m (unsound-by state n));
 }
+
+-- ---- a query and its request
+
+query-same : SameNumber
+unfolding SameNumber Did callOn finished whyOn lentOn stateSound badlyLent step numberOf
+query-same state memory m buffer x y room d e = rw (d, e) (numberOf-outcome (reasonNumber (whyOn state m)) 0 ∙ go (stateFormed state) refl)
+  where
+    go : (t : Bool) → stateFormed state ≡ t → reasonNumber (whyOn state m) ≡ numberOf (callOn state memory (request m buffer) .outcome)
+    go true f = rw (why-formed state memory m f, f) (sym (number-is (readFrom state memory) m) ∙ why-right .same-number (readFrom state memory) m buffer room)
+    go false f = rw (f, room)
+
+shaped : (state memory : List ℕ) → Shaped (readFrom state memory)
+shaped state memory = record { processes = eight-at state; starts = eight-starts state; entries = read-eight state }
+
+tells-right : TellsRight
+unfolding TellsRight Did whyOn buffersOf factsOf queryStep
+tells-right state memory m x d = go (stateFormed state) refl
+  where
+    go : (t : Bool) → stateFormed state ≡ t
+        → (x ≡ refusedBy 2 state memory (buffersOf (query m)))
+        ⊎ (Shaped (readFrom state memory)
+        × ((numberOf (x .outcome) ≡ toldNumber (readFrom state memory) m) × (x .buffer ≡ toldFacts (readFrom state memory) m)))
+    go true f =
+        let same = why-formed state memory m f in
+        inr (shaped state memory, (rw (d, same) (numberOf-outcome (reasonNumber (whyOf (readFrom state memory) m)) 0 ∙ sym (number-is (readFrom state memory) m)), rw (d, same)))
+    go false f = inl (d ∙ rw f)
 
 -- ---- lists
 
@@ -202,4 +260,7 @@ demands = record {
   watching = watching;
   how-many-set = how-many-set;
   waiting = waiting;
+  same-number = query-same;
+  tells-right = tells-right;
+  why-right = why-right;
 }

@@ -10,6 +10,7 @@ pub mod ReadyLaws
 pub mod LentLaws
 pub mod FinishLaws
 pub mod TickedLaws
+pub mod WhyLaws
 pub mod NewlineLaws
 pub mod LengthLaws
 pub mod SequenceLaws

@@ -9,6 +9,7 @@ use borrow.Author.Tests.{eq-eqb, lt-ltb, ltb-true, ltb-false}
 use lib.ListN.{length, getD, set, List·getD-eq-default}
 use lib.Seq.{set-getD}
 use lib.Dec.{ltb}
+use Rattle.format.specs.Outcome.{outcome}
 use Rattle.process.specs.declared.record.Process.{Process}
 use Rattle.process.specs.Record.{fresh}
 use Rattle.process.specs.Request.{cleared}
@@ -23,7 +24,7 @@ use Rattle.state.proofs.SoundLaws.{state-passes}
 use Rattle.state.proofs.FreshLaws.{fresh-is-sound, length-freshProcesses, getD-freshProcesses, length-freshStarts}
 use Rattle.rules.specs.Tests.{State, lent, recordOf, noRoom, noLineRoom, noAckRoom}
 use Rattle.rules.specs.Window.{putInPlace}
-use Rattle.rules.specs.Step.{Answer, StepResult, Call, request, report, store, textLine, packet, tick, stored, localOf, step}
+use Rattle.rules.specs.Step.{Answer, StepResult, plainAnswer, Call, request, report, store, textLine, packet, tick, query, stored, localOf, step, queryStep}
 use Rattle.rules.specs.Ready.{Ready, Worded, Typed}
 use Rattle.rules.specs.Run.{TraceItem, traceItem, run}
 use Rattle.rules.specs.Isolation.{isGranted}
@@ -34,9 +35,13 @@ use Rattle.state_bytes.specs.State.{stateBytes, stateOf, doorOf, stateFormed}
 use Rattle.state_bytes.specs.Theorems.{Sized}
 use Rattle.state_bytes.specs.Widths.{stateWidth}
 use Rattle.state_bytes.proofs.StateLaws.{inverse, eight-at}
-use Rattle.gateway.specs.Called.{Called, finished, callOn, machineStored, lentOn, startOn, Did}
+use Rattle.rules.specs.Why.{whyOf}
+use Rattle.reasons.specs.Reason.{reasonNumber, factsOf}
+use Rattle.rules.proofs.WhyLaws.{reason-number}
+use Rattle.gateway.specs.Called.{Called, finished, callOn, machineStored, whyOn, whyCalled, lentOn, startOn, Did}
 use Rattle.gateway.specs.Sequence.{Begins, Done, AllTyped, item, items, readFrom}
 use Rattle.gateway.proofs.ReadyLaws.{read-worded}
+use Rattle.gateway.proofs.WhyLaws.{why-formed}
 use Rattle.gateway.proofs.LentLaws.{request-fits, line-fits, ack-fits}
 
 sized-of : (s : State) → Ready s → Worded s → Sized (s .records)
@@ -132,6 +137,16 @@ store-follows state memory b p a v x h e = rw e (record {
   formed = b .formed;
 })
 
+-- a query of the code is that of the rules, and leaves all as it is
+query-follows : (state memory : List ℕ) → Begins state memory → (m : List ℕ) (x : Called) → x ≡ whyCalled (whyOn state m) state memory
+    → Follows state memory (query m) x
+unfolding step queryStep
+query-follows state memory b m x e = rw (e, why-formed state memory m (b .formed)) (record {
+  answer = ap (λ (n : ℕ). plainAnswer (outcome n 0) (factsOf (whyOf (readFrom state memory) m))) (reason-number (readFrom state memory) m);
+  after = refl;
+  formed = b .formed;
+})
+
 pub did-follows : (state memory : List ℕ) → Begins state memory → (c : Call) → Typed c → (x : Called) → Did state memory c x → Follows state memory c x
 unfolding Did
 did-follows state memory b (request m buffer) t x d = call-follows state memory b (request m buffer) t x d
@@ -140,6 +155,7 @@ did-follows state memory b (store p a v) t x d = store-follows state memory b p 
 did-follows state memory b (textLine text buffer) t x d = call-follows state memory b (textLine text buffer) t x d
 did-follows state memory b (packet door kind id words buffer) t x d = call-follows state memory b (packet door kind id words buffer) t x (d .1)
 did-follows state memory b (tick door) t x d = call-follows state memory b (tick door) t x (d .1)
+did-follows state memory b (query m) t x d = query-follows state memory b m x d
 
 -- no call changes the process of the Pup door
 pub did-door : (state memory : List ℕ) → Begins state memory → (c : Call) → Typed c → (x : Called) → Did state memory c x → doorOf (x .state) ≡ doorOf state
@@ -150,6 +166,7 @@ did-door state memory b (store p a v) t x d = rw (d .1)
 did-door state memory b (textLine text buffer) t x d = call-door state memory b (textLine text buffer) t x d
 did-door state memory b (packet door kind id words buffer) t x d = call-door state memory b (packet door kind id words buffer) t x (d .1)
 did-door state memory b (tick door) t x d = call-door state memory b (tick door) t x (d .1)
+did-door state memory b (query m) t x d = rw d
 
 -- ---- whole lists
 

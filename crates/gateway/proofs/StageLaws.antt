@@ -31,7 +31,7 @@ silent n b s = record { answer = record { outcome = OutcomeRefused n; buffer = b
 
 -- ---- the number
 
-staged : (a b c d e f : Bool) (n : ℕ)
+pub staged : (a b c d e f : Bool) (n : ℕ)
     → cond a 1 (cond b 2 (cond c 3 (cond d 4 (cond e 5 (cond f 6 n)))))
     ≡ orElse (cond a 1 (cond b 2 0)) (orElse (cond c 3 (cond d 4 (cond e 5 (cond f 6 0)))) n)
 staged true b c d e f n = refl
@@ -43,7 +43,7 @@ staged false false false false false true n = refl
 staged false false false false false false n = refl
 
 module _ (s : State) (m buffer : List ℕ) where
-  layout : ℕ
+  unfoldable pub layout : ℕ
   layout = readNumber (requestForm (headerOf m .cmd)) m
 
   number-stages : requestNumber s m buffer ≡ orElse (lentNumber s (noRoom (s .memory) buffer)) (orElse layout (firstFailing (askedTests (headerOf m) s)))
@@ -76,7 +76,7 @@ module _ (s : State) (m buffer : List ℕ) where
       refused-by n (number-stages ∙ rw (← e, ne-eqb n 0 z)) z (rw e (low-lent (noRoom (s .memory) buffer) (unsound s)))
 
   -- what a reading says of its number
-  Read : Reading → Type 0
+  unfoldable pub Read : Reading → Type 0
   Read (Message h) = layout ≡ 0
   Read (ReadingRefused n) = (n ≡ layout) × (n ≡ 0 → ⊥)
 
@@ -85,7 +85,7 @@ module _ (s : State) (m buffer : List ℕ) where
   reading-says zero e = sym e
   reading-says (suc k) e = (e, λ z. omega (arith, z))
 
-  read-says : (r : Reading) → r ≡ reads requestForm m → Read r
+  pub read-says : (r : Reading) → r ≡ reads requestForm m → Read r
   unfolding reads layout
   read-says r e = subst Read (sym e) (reading-says (readNumber (requestForm (headerOf m .cmd)) m) refl)
 

@@ -12,7 +12,11 @@ use Rattle.state.specs.Layout.{extentAt}
 use Rattle.state.specs.Fresh.{freshStart, sizesRight}
 use Rattle.rules.specs.Tests.{lent, noRoom, noReportRoom, noLineRoom, noAckRoom}
 use Rattle.rules.specs.Window.{Buffers}
-use Rattle.rules.specs.Step.{StepResult, Call, request, report, store, textLine, packet, tick, step}
+use Rattle.reasons.specs.declared.Reason.{Reason}
+use Rattle.reasons.specs.declared.Reason.the-variants.{Other}
+use Rattle.reasons.specs.Reason.{reasonNumber, factsOf}
+use Rattle.rules.specs.Why.{whyOf}
+use Rattle.rules.specs.Step.{StepResult, Call, request, report, store, textLine, packet, tick, query, step}
 use Rattle.rules.specs.Turn.{buffersOf}
 use Rattle.rules.specs.Isolation.{isGranted}
 use Rattle.state_bytes.specs.Widths.{stateWidth}
@@ -45,7 +49,7 @@ finished state x =
     reportCalled (x .answer .outcome) (x .answer .lineLength) (cond (isGranted (x .answer .outcome)) (stateBytes (doorOf state) (x .after .records)) state)
     (x .after .memory) (x .answer .buffer) (x .answer .line)
 
--- the test 1 of a call: what it is lent has a wrong length; a store is lent nothing, and a tick but the state
+-- the test 1 of a call: what it is lent has a wrong length; a store is lent nothing, a tick only the state, and a query the state and its message
 unfoldable pub badlyLent : List ℕ → Call → Bool
 badlyLent memory (request m buffer) = noRoom memory buffer
 badlyLent memory (report p kind reason words buffer line) = noReportRoom memory buffer line
@@ -53,8 +57,9 @@ badlyLent memory (store p a v) = false
 badlyLent memory (textLine text buffer) = noLineRoom memory buffer
 badlyLent memory (packet door kind id words buffer) = noAckRoom memory buffer
 badlyLent memory (tick door) = false
+badlyLent memory (query m) = false
 
--- the tests 1 and 2, which every call makes first; a tick makes 2 alone
+-- the tests 1 and 2, which every call makes first; a tick and a query make 2 alone
 unfoldable pub lentOn : List ℕ → Bool → ℕ
 lentOn state short = cond short 1 (cond (stateSound state) 0 2)
 
@@ -69,6 +74,14 @@ callOn state memory c =
 unfoldable pub machineStored : ℕ → ℕ → ℕ → List ℕ → List ℕ → Called
 machineStored p a v state memory = called (outcome 0 0) state (set memory (startOf (stateOf state) p + a) v) []
 
+-- 'Why was I refused?' (K8): what a gateway tool is told from the bytes of a state and of a message; bytes that are no state's fail test 2
+unfoldable pub whyOn : List ℕ → List ℕ → Reason
+whyOn state m = cond (stateFormed state) (whyOf (lent (stateOf state) []) m) (Other 2)
+
+-- a query answers the number and the facts, and leaves all as it is
+abbrev pub whyCalled : Reason → List ℕ → List ℕ → Called
+whyCalled r state memory = called (outcome (reasonNumber r) 0) state memory (factsOf r)
+
 -- a call of the code on these bytes of a state and this memory answered and left this; or the machine stored a byte, 'only within a process's
 -- own bytes'. Packets and ticks go to the 'one process set at start', which the bytes tell
 unfoldable pub Did : List ℕ → List ℕ → Call → Called → Type 0
@@ -78,6 +91,7 @@ Did state memory (store p a v) x = (a < extentAt (stateOf state) p) × (x ≡ ma
 Did state memory (textLine text buffer) x = x ≡ callOn state memory (textLine text buffer)
 Did state memory (packet door kind id words buffer) x = (door ≡ doorOf state) × (x ≡ callOn state memory (packet door kind id words buffer))
 Did state memory (tick door) x = (door ≡ doorOf state) × (x ≡ callOn state memory (tick door))
+Did state memory (query m) x = x ≡ whyCalled (whyOn state m) state memory
 
 -- what a fresh start answers, and the bytes of the state after it
 pub record StartResult : Type 0 where

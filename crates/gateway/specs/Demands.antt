@@ -2,13 +2,14 @@
 use mathlib.Core.Path.{_≡_}
 use mathlib.Core.Bool.{Bool, true, false}
 use mathlib.Core.List.{List, [], _∷_}
+use mathlib.Core.Logic.{_⊎_}
 use Prim.Native.Nat.{ℕ, _<_}
 use lib.ListN.{length}
 use Rattle.format.specs.Outcome.{numberOf}
 use Rattle.state.specs.Layout.{capacity}
 use Rattle.state.specs.Fresh.{sizesRight}
 use Rattle.rules.specs.Tests.{noRoom, noReportRoom, noLineRoom, noAckRoom}
-use Rattle.rules.specs.Step.{Call, request, report, textLine, packet, tick, localOf}
+use Rattle.rules.specs.Step.{Call, request, report, textLine, packet, tick, query, localOf}
 use Rattle.rules.specs.Turn.{buffersOf}
 use Rattle.rules.specs.Ready.{Typed}
 use Rattle.rules.specs.Run.{TraceItem, run, leave}
@@ -24,6 +25,7 @@ use Rattle.rules.specs.Owed.{OwedAnswers}
 use Rattle.rules.specs.Watch.{Watching}
 use Rattle.rules.specs.Status.{HowManySet}
 use Rattle.rules.specs.Waiting.{Waiting}
+use Rattle.rules.specs.WhyRight.{Shaped, toldNumber, toldFacts, WhyRight}
 use Rattle.state_bytes.specs.Widths.{stateWidth}
 use Rattle.state_bytes.specs.State.{doorOf}
 use Rattle.gateway.specs.Called.{Called, Did, lentOn, refusedBy, startOn}
@@ -70,6 +72,23 @@ pub record TotalOnBytes : Type 0 where
       → x ≡ refusedBy (lentOn state (noAckRoom memory buffer)) state memory (buffersOf (packet door kind id words buffer))
   pub unfit-tick : (state memory : List ℕ) (door : ℕ) (x : Called) → Did state memory (tick door) x → (lentOn state false ≡ 0 → ⊥)
       → x ≡ refusedBy 2 state memory (buffersOf (tick door))
+  pub unfit-query : (state memory m : List ℕ) (x : Called) → Did state memory (query m) x → (lentOn state false ≡ 0 → ⊥)
+      → x ≡ refusedBy 2 state memory (buffersOf (query m))
+
+-- a query names the very test that refuses the request, on any bytes at all, 'test 1 taken as passed'
+unfoldable pub SameNumber : Type 0
+SameNumber =
+    (state memory m buffer : List ℕ) (x y : Called) → noRoom memory buffer ≡ false → Did state memory (query m) x → Did state memory (request m buffer) y
+    → numberOf (x .outcome) ≡ numberOf (y .outcome)
+
+-- a query of bytes that are a state's says what the rules say of the records that they stand for, whatever the memory, and those have the sizes that
+-- `WhyRight` asks for; other bytes fail test 2
+unfoldable pub TellsRight : Type 0
+TellsRight =
+    (state memory m : List ℕ) (x : Called) → Did state memory (query m) x
+    → (x ≡ refusedBy 2 state memory (buffersOf (query m)))
+    ⊎ (Shaped (readFrom state memory)
+    × ((numberOf (x .outcome) ≡ toldNumber (readFrom state memory) m) × (x .buffer ≡ toldFacts (readFrom state memory) m)))
 
 -- what holds of lists of calls on bytes, however they are made: `made state memory calls trace` says that they were, and what came of it
 pub record ListsOnBytes (made : List ℕ → List ℕ → List Call → List TraceItem → Type 0) : Type 0 where
@@ -124,3 +143,7 @@ pub record Demands : Type 0 where
   pub how-many-set : HowManySet
   -- a process with a Go that waits runs at the hundredth tick and no sooner, or on the GoReply of the next ID
   pub waiting : Waiting
+  -- 'Prove the test and each fact right': what a query says of a request, and to whom it says it
+  pub same-number : SameNumber
+  pub tells-right : TellsRight
+  pub why-right : WhyRight

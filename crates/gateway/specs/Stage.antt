@@ -6,12 +6,14 @@ use lib.Dec.{eqb}
 use Rattle.format.specs.declared.header.Header.{Header}
 use Rattle.format.specs.Outcome.{test, firstFailing}
 use Rattle.fields.specs.declared.read.Line.{Line}
+use Rattle.reasons.specs.declared.Reason.{Reason}
+use Rattle.reasons.specs.declared.Reason.the-variants.{Granted, Other}
 use Rattle.rules.specs.Tests.{State, unsound, askedTests}
 use Rattle.rules.specs.Step.{StepResult, localOf, put, granted, refused}
 use Rattle.text_door.specs.At.{textAt}
 use Rattle.packet_door.specs.At.{packetAt}
 
--- the tests 1 and 2, which every call makes first; the first fails where what is lent has a wrong length, which a tick does not ask
+-- the tests 1 and 2, which every call makes first; the first fails where what is lent has a wrong length, which a tick and a query do not ask
 unfoldable pub lentNumber : State → Bool → ℕ
 lentNumber s short = firstFailing (test 1 short ∷ test 2 (unsound s) ∷ [])
 
@@ -33,3 +35,7 @@ packetStepAt door kind id words buffer s = record {
   answer = packetAt kind id words buffer (localOf s door) .answer;
   after = put door (packetAt kind id words buffer (localOf s door) .left) s;
 }
+
+-- a CREATE whose layout passed: refused with 13 where there is no place for a process, else granted
+unfoldable pub createReason : Bool → Reason
+createReason full = cond full (Other 13) Granted

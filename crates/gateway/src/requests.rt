@@ -74,7 +74,7 @@ fn answer_named(
 }
 
 // 13: all numbers are taken, or the free bytes, those from start on, are fewer than the size.
-fn no_place(pid: usize, start: usize, size: u16) -> bool
+pub(crate) fn no_place(pid: usize, start: usize, size: u16) -> bool
     requires { ⌜ start ≤ capacity ⌝ }
     ensures { λ r. ⌜ r ≡ not (ltb pid 8) || ltb (capacity - start) size ⌝ }
 {

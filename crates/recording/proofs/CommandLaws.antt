@@ -11,7 +11,7 @@ use lib.Seq.{drop-cons}
 use lib.Dec.{eqb}
 use Rattle.lists.proofs.Bool.{&&-left, &&-right}
 use Rattle.recording.specs.declared.command.Command.{Command}
-use Rattle.recording.specs.Command.{begins, requestWord, lineWord, rawWord, anyLength}
+use Rattle.recording.specs.Command.{begins, requestWord, lineWord, rawWord, whyWord, anyLength}
 
 pub begins-short : (text line : List ℕ) → length line < length text → false ≡ begins text line
 unfolding begins
@@ -67,8 +67,16 @@ request-not-raw (d ∷ e ∷ line) q r =
     let other = eqb-true e 97 (&&-left (eqb e 97) _ (&&-right (eqb d 114) _ r)) in
     omega (arith, one, other)
 
+-- nor two words with different first letters
+pub other-first : (c d : ℕ) (text other line : List ℕ) → (c ≡ d → ⊥) → begins (c ∷ text) line ≡ true → begins (d ∷ other) line ≡ false
+unfolding begins
+other-first c d text other [] n e = absurd (true≢false (sym e))
+other-first c d text other (x ∷ line) n e =
+    let is = eqb-true x c (&&-left (eqb x c) (begins text line) e) in
+    rw (ne-eqb x d (λ f. n (sym is ∙ f)))
+
 -- a word of a line of any length stands in its front
 pub any-front : (line : List ℕ) (n : ℕ) (other : Command) → 8 ≤ n → anyLength (take n line) other ≡ anyLength line other
 unfolding anyLength
 any-front line n other h =
-    rw (begins-take requestWord line n (omega (arith, h)), begins-take lineWord line n (omega (arith, h)), begins-take rawWord line n (omega (arith, h))) refl
+    rw (begins-take requestWord line n (omega (arith, h)), begins-take lineWord line n (omega (arith, h)), begins-take rawWord line n (omega (arith, h)), begins-take whyWord line n (omega (arith, h))) refl

@@ -1,6 +1,6 @@
--- Laws of long lines: what is kept of a line has the effect of all of it. Assumes nothing.
+-- Laws of long lines: what is kept of a line has the effect of all of it, and tells as many pairs. Assumes nothing.
 use mathlib.Core.Path.{_≡_, refl, sym, ap, _∙_}
-use mathlib.Core.Bool.{Bool, true, false, cond}
+use mathlib.Core.Bool.{Bool, true, false, cond, _||_, true≢false}
 use mathlib.Core.List.{List, [], _∷_, _++_}
 use Prim.Native.Nat.{ℕ, suc, _+_, _-_, _*_, _%_, _≤_, _<_, min}
 use native.Mathlib.Omega.{arith}
@@ -15,17 +15,20 @@ use Rattle.lines.specs.Scan.{opened, next, full, made, after, bytesOf}
 use Rattle.lines.proofs.ScanLaws.{in-parts, parts-read}
 use Rattle.calls.specs.declared.text.Shown.{Shown}
 use Rattle.calls.specs.declared.text.Shown.the-variants.{Recorded, Alone}
-use Rattle.calls.specs.Effect.{Effect}
-use Rattle.calls.specs.Meaning.{ifRight, requestMade, requestEffect, textMade, textEffect, rawEffect}
+use Rattle.gateway.specs.Called.{whyOn}
+use Rattle.display.specs.Reason.{whyLine}
+use Rattle.calls.specs.Effect.{Effect, effect}
+use Rattle.calls.specs.Meaning.{ifRight, requestMade, requestEffect, textMade, textEffect, rawEffect, whyMade, whyEffect}
 use Rattle.calls.proofs.MeaningLaws.{made-long, drop-at-most}
 use Rattle.calls.proofs.TextLaws.{made-begun, ended-front}
+use Rattle.calls.proofs.WhyLaws.{why-long, why-own}
 use Rattle.recording.specs.declared.command.Command.{Command}
-use Rattle.recording.specs.declared.command.Command.the-variants.{Request, Text, Raw, Unknown}
+use Rattle.recording.specs.declared.command.Command.the-variants.{Request, Text, Raw, Why, Unknown}
 use Rattle.recording.specs.declared.language.Language.{Language}
 use Rattle.recording.specs.declared.language.Language.the-variants.{Bench, Recording, TextDoor}
-use Rattle.recording.specs.Command.{begins, requestWord, lineWord, rawWord, textWord, anyLength, commandOf}
-use Rattle.recording.specs.Line.{pairsBehind, pairsFrom, commandEffect, lineEffect, wholeEffect}
-use Rattle.recording.proofs.CommandLaws.{begins-take, request-not-raw, any-front}
+use Rattle.recording.specs.Command.{begins, requestWord, lineWord, rawWord, whyWord, textWord, anyLength, commandOf}
+use Rattle.recording.specs.Line.{pairsBehind, pairsFrom, mostCounted, capped, pairsIn, commandEffect, lineEffect, wholeEffect, TellsWhy}
+use Rattle.recording.proofs.CommandLaws.{begins-take, request-not-raw, other-first, any-front}
 
 -- what stands after a line's word and its blank, as the code takes it
 pub rest-of-line : (k n : ℕ) (line : List ℕ) → n ≡ min k (length line) → take (length line - n) (drop n line) ≡ drop k line
@@ -111,6 +114,9 @@ module _ (pairs : List ℕ) (n : ℕ) (low : 800 < n) (far : n ≤ length pairs)
       made-begun Recorded front (bytesOf Open pairs) s m (omega (arith, front-long)) (omega (arith, whole-long))
       (sym (ap (take 35) both ∙ take-append-le 35 front (bytesOf (after Open (take n pairs)) (drop n pairs)) (omega (arith, front-long))))
 
+  why-alike : (count : ℕ) (s m : List ℕ) → whyMade count (bytesOf Open (take n pairs)) s m ≡ whyMade count (bytesOf Open pairs) s m
+  why-alike count s m = why-long count (bytesOf Open (take n pairs)) (bytesOf Open pairs) s m front-long whole-long
+
 -- and its first pairs are answered like all of them
 module _ (made : List ℕ → Effect) (pairs : List ℕ) (n : ℕ) (s m : List ℕ)
     (same : after Open pairs ≡ Full → made (bytesOf Open (take n pairs)) ≡ made (bytesOf Open pairs)) where
@@ -133,6 +139,10 @@ module _ (pairs : List ℕ) (n : ℕ) (s m : List ℕ) (low : 800 < n) (far : n 
   unfolding rawEffect
   raw-front = right-front (λ x. textMade Recorded x s m) pairs n s m (λ e. text-front pairs n low far e s m)
 
+  why-front : (count : ℕ) → whyEffect (after Open pairs) count (bytesOf Open (take n pairs)) s m ≡ whyEffect (after Open pairs) count (bytesOf Open pairs) s m
+  unfolding whyEffect
+  why-front count = right-front (λ x. whyMade count x s m) pairs n s m (λ e. why-alike pairs n low far e count s m)
+
 -- ---- what is kept of a line has the effect of the whole line
 
 module _ (line s m : List ℕ) (long : 1025 < length line) where
@@ -152,9 +162,9 @@ module _ (line s m : List ℕ) (long : 1025 < length line) where
       ap (λ (n : ℕ). drop k (take n line)) (sym e) ∙ ap (drop k) (take-add k r line)
       ∙ drop-at (take k line) (take r (drop k line)) k (length-take-le k line (omega (arith, long, e)))
 
-  module _ (shown : Shown) where
+  module _ (shown : Shown) (size : ℕ) where
     abbrev Same : Phase → Command → Type 0
-    Same phase word = commandEffect shown phase (take 1025 line) s m word ≡ commandEffect shown phase line s m word
+    Same phase word = commandEffect shown phase size (take 1025 line) s m word ≡ commandEffect shown phase size line s m word
 
     request-long : Same (after Open (drop 8 line)) Request
     unfolding commandEffect
@@ -168,6 +178,12 @@ module _ (line s m : List ℕ) (long : 1025 < length line) where
         ap (λ (l : List ℕ). rawEffect (after Open (drop 4 line)) (bytesOf Open l) s m) (rest-kept 4 1021 refl)
         ∙ raw-front (drop 4 line) 1021 s m (omega arith) (omega (arith, length-drop 4 line, long))
 
+    query-long : Same (after Open (drop 4 line)) Why
+    unfolding commandEffect
+    query-long =
+        ap (λ (l : List ℕ). whyEffect (after Open (drop 4 line)) (pairsIn size) (bytesOf Open l) s m) (rest-kept 4 1021 refl)
+        ∙ why-front (drop 4 line) 1021 s m (omega arith) (omega (arith, length-drop 4 line, long)) (pairsIn size)
+
     text-long : (phase : Phase) → Same phase Text
     unfolding commandEffect
     text-long phase =
@@ -179,38 +195,89 @@ module _ (line s m : List ℕ) (long : 1025 < length line) where
 
     any-long : Same (after Open (drop (pairsBehind line) line)) (anyLength line Unknown)
     unfolding anyLength pairsBehind
-    any-long = go (begins requestWord line) refl (begins lineWord line) (begins rawWord line) refl
+    any-long = go (begins requestWord line) refl (begins lineWord line) (begins rawWord line) refl (begins whyWord line) refl
       where
-        go : (q : Bool) → begins requestWord line ≡ q → (t r : Bool) → begins rawWord line ≡ r
-            → Same (after Open (drop (cond r 4 8) line)) (cond q Request (cond t Text (cond r Raw Unknown)))
-        go true e t true f = absurd (request-not-raw line e f)
-        go true e t false f = request-long
-        go false e true r f = text-long (after Open (drop (cond r 4 8) line))
-        go false e false true f = raw-long
-        go false e false false f = unknown-long
+        go : (q : Bool) → begins requestWord line ≡ q → (t r : Bool) → begins rawWord line ≡ r → (y : Bool) → begins whyWord line ≡ y
+            → Same (after Open (drop (cond (r || y) 4 8) line)) (cond q Request (cond t Text (cond r Raw (cond y Why Unknown))))
+        go true e t true f y g = absurd (request-not-raw line e f)
+        go true e t false f true g = absurd (true≢false (sym g ∙ other-first 114 119 _ _ line (λ z. omega (arith, z)) e))
+        go true e t false f false g = request-long
+        go false e true r f y g = text-long (after Open (drop (cond (r || y) 4 8) line))
+        go false e false true f y g = raw-long
+        go false e false false f true g = query-long
+        go false e false false f false g = unknown-long
 
-    recording-long : commandEffect shown (after Open (drop (pairsBehind line) line)) (take 1025 line) s m (commandOf (take 1025 line))
-        ≡ commandEffect shown (after Open (drop (pairsBehind line) line)) line s m (commandOf line)
+    recording-long : commandEffect shown (after Open (drop (pairsBehind line) line)) size (take 1025 line) s m (commandOf (take 1025 line))
+        ≡ commandEffect shown (after Open (drop (pairsBehind line) line)) size line s m (commandOf line)
     recording-long =
-        ap (commandEffect shown (after Open (drop (pairsBehind line) line)) (take 1025 line) s m) kept-command
+        ap (commandEffect shown (after Open (drop (pairsBehind line) line)) size (take 1025 line) s m) kept-command
         ∙ any-long
-        ∙ ap (commandEffect shown (after Open (drop (pairsBehind line) line)) line s m) (sym (command-long line (omega (arith, long))))
+        ∙ ap (commandEffect shown (after Open (drop (pairsBehind line) line)) size line s m) (sym (command-long line (omega (arith, long))))
 
-  effect-long : (l : Language) → lineEffect l (after Open (drop (pairsFrom l line) line)) (take 1025 line) s m ≡ wholeEffect l line s m
+  effect-long : (l : Language) → lineEffect l (after Open (drop (pairsFrom l line) line)) (capped (length line)) (take 1025 line) s m ≡ wholeEffect l line s m
   unfolding wholeEffect lineEffect pairsFrom
   effect-long Bench = request-front line 1025 s m (omega arith) (omega (arith, long))
-  effect-long Recording = recording-long Recorded
+  effect-long Recording = recording-long Recorded (capped (length line))
   effect-long TextDoor = rw (begins-take textWord line 1025 (omega arith)) (go (begins textWord line))
     where
-      go : (t : Bool) → cond t (textEffect Alone (take 1025 line) s m) (commandEffect Alone (after Open (drop (pairsBehind line) line)) (take 1025 line) s m (commandOf (take 1025 line)))
-          ≡ cond t (textEffect Alone line s m) (commandEffect Alone (after Open (drop (pairsBehind line) line)) line s m (commandOf line))
+      go : (t : Bool) → cond t (textEffect Alone (take 1025 line) s m) (commandEffect Alone (after Open (drop (pairsBehind line) line)) (capped (length line)) (take 1025 line) s m (commandOf (take 1025 line)))
+          ≡ cond t (textEffect Alone line s m) (commandEffect Alone (after Open (drop (pairsBehind line) line)) (capped (length line)) line s m (commandOf line))
       go true = ended-front Alone 1025 line s m (omega arith)
-      go false = recording-long Alone
+      go false = recording-long Alone (capped (length line))
 
-pub kept-effect : (l : Language) (line s m : List ℕ) → lineEffect l (after Open (drop (pairsFrom l line) line)) (take 1025 line) s m ≡ wholeEffect l line s m
+pub kept-effect : (l : Language) (line s m : List ℕ) → lineEffect l (after Open (drop (pairsFrom l line) line)) (capped (length line)) (take 1025 line) s m ≡ wholeEffect l line s m
 unfolding wholeEffect
 kept-effect l line s m = go (leb (length line) 1025) refl
   where
-    go : (t : Bool) → leb (length line) 1025 ≡ t → lineEffect l (after Open (drop (pairsFrom l line) line)) (take 1025 line) s m ≡ wholeEffect l line s m
-    go true e = ap (λ (x : List ℕ). lineEffect l (after Open (drop (pairsFrom l line) line)) x s m) (take-all 1025 line (leb-true (length line) 1025 e))
+    go : (t : Bool) → leb (length line) 1025 ≡ t → lineEffect l (after Open (drop (pairsFrom l line) line)) (capped (length line)) (take 1025 line) s m ≡ wholeEffect l line s m
+    go true e = ap (λ (x : List ℕ). lineEffect l (after Open (drop (pairsFrom l line) line)) (capped (length line)) x s m) (take-all 1025 line (leb-true (length line) 1025 e))
     go false e = effect-long line s m (leb-false (length line) 1025 e) l
+
+-- ---- a line `why ` and pairs
+
+module _ (line s m : List ℕ) (W : begins whyWord line ≡ true) (F : after Open (drop 4 line) ≡ Full) (most : length line ≤ mostCounted) where
+  abbrev message : List ℕ
+  message = bytesOf Open (drop 4 line)
+
+  -- it has as many pairs as its message has bytes
+  pairs-counted : pairsIn (capped (length line)) ≡ length message
+  unfolding pairsIn rank
+  pairs-counted =
+      let whole : after Open (drop 4 line) ≡ Bad → ⊥ = λ bad. (let z : _≡_ {A = ℕ} 0 1 = cc in omega arith) in
+      let three = rw F at (counted Open (drop 4 line) whole) in
+      omega (arith, three, length-drop 4 line, most)
+
+  -- no other word stands there
+  not-request : begins requestWord line ≡ false
+  not-request = other-first 119 114 _ _ line (λ z. omega (arith, z)) W
+
+  not-text : begins lineWord line ≡ false
+  not-text = other-first 119 108 _ _ line (λ z. omega (arith, z)) W
+
+  not-raw : begins rawWord line ≡ false
+  not-raw = other-first 119 114 _ _ line (λ z. omega (arith, z)) W
+
+  not-door : begins textWord line ≡ false
+  not-door = other-first 119 48 _ _ line (λ z. omega (arith, z)) W
+
+  command-why : commandOf line ≡ Why
+  unfolding commandOf anyLength
+  command-why = rw (not-request, not-text, not-raw, W)
+
+  pairs-why : pairsBehind line ≡ 4
+  unfolding pairsBehind
+  pairs-why = rw (not-raw, W)
+
+  effect-why : whyEffect Full (pairsIn (capped (length line))) message s m ≡ effect s m (whyLine (whyOn s message))
+  unfolding whyEffect ifRight full whyMade
+  effect-why = rw (pairs-counted, why-own message s)
+
+  told : (shown : Shown) → commandEffect shown (after Open (drop (pairsBehind line) line)) (capped (length line)) line s m (commandOf line) ≡ effect s m (whyLine (whyOn s message))
+  unfolding commandEffect
+  told shown = rw (pairs-why, F, command-why) effect-why
+
+pub tells-why : TellsWhy
+unfolding TellsWhy wholeEffect lineEffect pairsFrom
+tells-why Bench line s m n W F most = absurd (n refl)
+tells-why Recording line s m n W F most = told line s m W F most Recorded
+tells-why TextDoor line s m n W F most = rw (not-door line s m W F most) (told line s m W F most Alone)

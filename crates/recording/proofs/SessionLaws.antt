@@ -1,6 +1,6 @@
 -- Laws of a block of text: one character more of a line, a line that ends, and a turn of the loop over a block. Assumes nothing.
 use mathlib.Core.Path.{_≡_, refl, sym, ap, _∙_}
-use mathlib.Core.Bool.{Bool, true, false, cond, _&&_, true≢false}
+use mathlib.Core.Bool.{Bool, true, false, cond, _&&_, _||_, true≢false}
 use mathlib.Core.List.{List, [], _∷_, _++_}
 use Prim.Native.Nat.{ℕ, suc, _+_, _-_, _≤_, _<_}
 use native.Mathlib.Numerals.{add-one}
@@ -18,14 +18,14 @@ use Rattle.recording.specs.declared.language.Language.the-variants.{Benc
 use Rattle.recording.specs.declared.partial.Partial.{Partial}
 use Rattle.recording.specs.declared.feeding.Step as code-step
 use Rattle.recording.specs.declared.feeding.Fed as code
-use Rattle.recording.specs.Command.{begins, rawWord}
-use Rattle.recording.specs.Line.{pairsBehind, pairsFrom}
+use Rattle.recording.specs.Command.{begins, rawWord, whyWord}
+use Rattle.recording.specs.Line.{pairsBehind, pairsFrom, capped}
 use Rattle.recording.specs.Session.{Reading, reading, nothingRead, phaseAfter, typed, Session, session, lineEnded, stepped, waits, Fed, fedTo, fed, through, Steps, Feeds}
 
 -- a recording's pairs begin within the first bytes
 behind-within : (line : List ℕ) → pairsBehind line ≤ 8
 unfolding pairsBehind
-behind-within line = go (begins rawWord line)
+behind-within line = go (begins rawWord line || begins whyWord line)
   where
     go : (t : Bool) → cond t 4 8 ≤ 8
     go true = omega arith
@@ -39,28 +39,34 @@ pairs-within TextDoor line = behind-within line
 
 -- ---- one character more
 
-reading-as : (xs ys : List ℕ) (p q : Phase) → xs ≡ ys → p ≡ q → _≡_ {A = Reading} (record { line = xs; phase = p }) (record { line = ys; phase = q })
-reading-as xs ys p q X P = rw (X, P)
+reading-as : (xs ys : List ℕ) (m n : ℕ) (p q : Phase) → xs ≡ ys → m ≡ n → p ≡ q
+    → _≡_ {A = Reading} (record { line = xs; size = m; phase = p }) (record { line = ys; size = n; phase = q })
+reading-as xs ys m n p q X S P = rw (X, S, P)
 
-module _ (first c len : ℕ) (phase next : Phase) (line : List ℕ) (room : first ≤ length line) (N : next ≡ phaseAfter len first phase c) where
+module _ (first c len size more : ℕ) (phase next : Phase) (line : List ℕ) (room : first ≤ length line) (M : more ≡ capped (size + 1))
+    (N : next ≡ phaseAfter len first phase c) where
   -- there is no room for it
-  pub typed-full : length line ≤ len → _≡_ {A = Reading} (record { line = take len line; phase = next }) (typed first (length line) c (record { line = take len line; phase = phase }))
+  pub typed-full : length line ≤ len
+      → _≡_ {A = Reading} (record { line = take len line; size = more; phase = next }) (typed first (length line) c (record { line = take len line; size = size; phase = phase }))
   unfolding typed phaseAfter
   typed-full h =
       let all : take len line ≡ line = take-all len line h in
-      reading-as _ _ _ _
+      reading-as _ _ _ _ _ _
       (rw all (sym (take-append-seam line (c ∷ []))))
+      M
       (N ∙ rw (le-ltb len first (omega (arith, h, room)), all, le-ltb (length line) first room) refl)
 
   -- it is kept
-  pub typed-kept : len < length line → _≡_ {A = Reading} (record { line = take (len + 1) (set line len c); phase = next }) (typed first (length line) c (record { line = take len line; phase = phase }))
+  pub typed-kept : len < length line
+      → _≡_ {A = Reading} (record { line = take (len + 1) (set line len c); size = more; phase = next }) (typed first (length line) c (record { line = take len line; size = size; phase = phase }))
   unfolding typed phaseAfter
   typed-kept h =
-      let size : length (take len line) ≡ len = length-take-le len line (omega (arith, h)) in
-      let more : length (take len line ++ (c ∷ [])) ≡ len + 1 = omega (arith, size, length-append (take len line) (c ∷ [])) in
-      reading-as _ _ _ _
-      (ap (λ (n : ℕ). take n (set line len c)) (add-one len) ∙ take-suc-set line len c h ∙ sym (take-all (length line) (take len line ++ (c ∷ [])) (omega (arith, more, h))))
-      (N ∙ rw size refl)
+      let front : length (take len line) ≡ len = length-take-le len line (omega (arith, h)) in
+      let whole : length (take len line ++ (c ∷ [])) ≡ len + 1 = omega (arith, front, length-append (take len line) (c ∷ [])) in
+      reading-as _ _ _ _ _ _
+      (ap (λ (n : ℕ). take n (set line len c)) (add-one len) ∙ take-suc-set line len c h ∙ sym (take-all (length line) (take len line ++ (c ∷ [])) (omega (arith, whole, h))))
+      M
+      (N ∙ rw front refl)
 
 -- ---- a line that ends
 

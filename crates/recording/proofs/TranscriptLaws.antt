@@ -1,6 +1,6 @@
 -- Laws of transcripts: a session that keeps a transcript, one character more. Assumes nothing.
 use mathlib.Core.Path.{_≡_, refl, sym, ap, _∙_}
-use mathlib.Core.Bool.{Bool, true, false, cond, _&&_}
+use mathlib.Core.Bool.{Bool, true, false, cond, _&&_, _||_}
 use mathlib.Core.List.{List, [], _∷_, _++_, append-nil}
 use mathlib.Core.Logic.{inl, inr}
 use Prim.Native.Nat.{ℕ, _+_, _-_, _≤_, _<_}
@@ -17,8 +17,8 @@ use Rattle.lines.proofs.ScanLaws.{in-parts}
 use Rattle.calls.specs.Effect.{Effect}
 use Rattle.recording.specs.declared.language.Language.{Language}
 use Rattle.recording.specs.declared.language.Language.the-variants.{Bench, Recording, TextDoor}
-use Rattle.recording.specs.Command.{begins, rawWord}
-use Rattle.recording.specs.Line.{pairsBehind, pairsFrom, lineEffect, wholeEffect}
+use Rattle.recording.specs.Command.{begins, rawWord, whyWord}
+use Rattle.recording.specs.Line.{pairsBehind, pairsFrom, capped, lineEffect, wholeEffect}
 use Rattle.recording.specs.Session.{Reading, nothingRead, phaseAfter, typed, session, lineEnded, stepped, waits, Fed, fedTo, fed}
 use Rattle.recording.specs.Transcript.{Transcript, answered, character, transcribed, keeps, Follows, FollowsLines, InBlocks}
 use Rattle.recording.proofs.CommandLaws.{begins-short, begins-take, begins-more}
@@ -66,7 +66,7 @@ module _ (first c : ℕ) (line : List ℕ) (low : first ≤ 8) where
 module _ (c : ℕ) (line : List ℕ) where
   behind-kept : pairsBehind (take 1025 line) ≡ pairsBehind line
   unfolding pairsBehind
-  behind-kept = rw (begins-take rawWord line 1025 (omega arith)) refl
+  behind-kept = rw (begins-take rawWord line 1025 (omega arith), begins-take whyWord line 1025 (omega arith)) refl
 
   behind-more : drop (pairsBehind line) (line ++ (c ∷ [])) ≡ drop (pairsBehind (line ++ (c ∷ []))) (line ++ (c ∷ []))
   unfolding pairsBehind
@@ -79,11 +79,14 @@ module _ (c : ℕ) (line : List ℕ) where
       either true few = sym (none 4 (omega arith) few)
       either false few = sym (none 8 (omega arith) few)
 
-      go : (t : Bool) → leb 4 (length line) ≡ t → drop (cond (begins rawWord line) 4 8) (line ++ (c ∷ [])) ≡ drop (cond (begins rawWord (line ++ (c ∷ []))) 4 8) (line ++ (c ∷ []))
-      go true e = rw (begins-more rawWord line (c ∷ []) (leb-true 4 (length line) e)) refl
+      go : (t : Bool) → leb 4 (length line) ≡ t
+          → drop (cond (begins rawWord line || begins whyWord line) 4 8) (line ++ (c ∷ []))
+          ≡ drop (cond (begins rawWord (line ++ (c ∷ [])) || begins whyWord (line ++ (c ∷ []))) 4 8) (line ++ (c ∷ []))
+      go true e = rw (begins-more rawWord line (c ∷ []) (leb-true 4 (length line) e), begins-more whyWord line (c ∷ []) (leb-true 4 (length line) e)) refl
       go false e =
           let few = leb-false 4 (length line) e in
-          rw (sym (begins-short rawWord line few)) (none 8 (omega arith) few ∙ either (begins rawWord (line ++ (c ∷ []))) few)
+          rw (sym (begins-short rawWord line few), sym (begins-short whyWord line few))
+          (none 8 (omega arith) few ∙ either (begins rawWord (line ++ (c ∷ [])) || begins whyWord (line ++ (c ∷ []))) few)
 
   pairs-kept : (l : Language) → pairsFrom l (take 1025 line) ≡ pairsFrom l line
   unfolding pairsFrom
@@ -104,17 +107,20 @@ module _ (c : ℕ) (line : List ℕ) where
       ∙ phase-behind (pairsFrom l line) c line (pairs-within l line)
       ∙ ap (after Open) (pairs-more l)
 
+  size-more : capped (capped (length line) + 1) ≡ capped (length (line ++ (c ∷ [])))
+  size-more = omega (arith, length-append line (c ∷ []))
+
 -- ---- a session that keeps a transcript keeps it after one character more
 
 module _ (l : Language) (c : ℕ) (t : Transcript) where
   abbrev Stays : Bool → Type 0
-  Stays b = (cond b (lineEnded (lineEffect l (keeps l t .reading .phase) (keeps l t .reading .line) (keeps l t .state) (keeps l t .memory))) (record { session = session (typed (pairsFrom l (keeps l t .reading .line)) 1025 c (keeps l t .reading)) (keeps l t .state) (keeps l t .memory); text = [] }) .session ≡ keeps l (cond b (answered (wholeEffect l (t .line) (t .state) (t .memory)) t) (record { line = t .line ++ (c ∷ []); state = t .state; memory = t .memory; text = t .text })))
-      × (t .text ++ cond b (lineEnded (lineEffect l (keeps l t .reading .phase) (keeps l t .reading .line) (keeps l t .state) (keeps l t .memory))) (record { session = session (typed (pairsFrom l (keeps l t .reading .line)) 1025 c (keeps l t .reading)) (keeps l t .state) (keeps l t .memory); text = [] }) .text ≡ cond b (answered (wholeEffect l (t .line) (t .state) (t .memory)) t) (record { line = t .line ++ (c ∷ []); state = t .state; memory = t .memory; text = t .text }) .text)
+  Stays b = (cond b (lineEnded (lineEffect l (keeps l t .reading .phase) (keeps l t .reading .size) (keeps l t .reading .line) (keeps l t .state) (keeps l t .memory))) (record { session = session (typed (pairsFrom l (keeps l t .reading .line)) 1025 c (keeps l t .reading)) (keeps l t .state) (keeps l t .memory); text = [] }) .session ≡ keeps l (cond b (answered (wholeEffect l (t .line) (t .state) (t .memory)) t) (record { line = t .line ++ (c ∷ []); state = t .state; memory = t .memory; text = t .text })))
+      × (t .text ++ cond b (lineEnded (lineEffect l (keeps l t .reading .phase) (keeps l t .reading .size) (keeps l t .reading .line) (keeps l t .state) (keeps l t .memory))) (record { session = session (typed (pairsFrom l (keeps l t .reading .line)) 1025 c (keeps l t .reading)) (keeps l t .state) (keeps l t .memory); text = [] }) .text ≡ cond b (answered (wholeEffect l (t .line) (t .state) (t .memory)) t) (record { line = t .line ++ (c ∷ []); state = t .state; memory = t .memory; text = t .text }) .text)
 
   stays : (b : Bool) → Stays b
   unfolding keeps lineEnded answered typed after
   stays true = rw (kept-effect l (t .line) (t .state) (t .memory), take-nil {A = ℕ} 1025, drop-nil {A = ℕ} (pairsFrom l [])) (refl, refl)
-  stays false = rw (take-more 1025 c (t .line), phase-more c (t .line) l) (refl, append-nil (t .text))
+  stays false = rw (take-more 1025 c (t .line), phase-more c (t .line) l, size-more c (t .line)) (refl, append-nil (t .text))
 
   kept-step : (stepped l c (keeps l t) .session ≡ keeps l (character l c t)) × (t .text ++ stepped l c (keeps l t) .text ≡ character l c t .text)
   unfolding stepped character

@@ -5,7 +5,7 @@ use Prim.Native.Nat.{ℕ}
 use lib.ListN.{length}
 use lib.Dec.{eqb, ltb}
 use Rattle.recording.specs.declared.command.Command.{Command}
-use Rattle.recording.specs.declared.command.Command.the-variants.{Start, Request, Report, Store, Memory, Whole, Process, Packet, Tick, Text, Raw, Unknown}
+use Rattle.recording.specs.declared.command.Command.the-variants.{Start, Request, Report, Store, Memory, Whole, Process, Packet, Tick, Text, Raw, Why, Unknown}
 
 -- a line begins with this text
 unfoldable pub begins : List ℕ → List ℕ → Bool
@@ -57,11 +57,15 @@ lineWord = 108 ∷ 105 ∷ 110 ∷ 101 ∷ 32 ∷ []
 abbrev pub rawWord : List ℕ
 rawWord = 114 ∷ 97 ∷ 119 ∷ 32 ∷ []
 
+-- `why` and a blank
+abbrev pub whyWord : List ℕ
+whyWord = 119 ∷ 104 ∷ 121 ∷ 32 ∷ []
+
 -- `0x`, with which a text line begins
 abbrev pub textWord : List ℕ
 textWord = 48 ∷ 120 ∷ []
 
--- a line with another word than those three that stand for bytes is no longer
+-- a line with another word than those four that stand for bytes is no longer
 abbrev pub longestLine : ℕ
 longestLine = 1024
 
@@ -82,7 +86,8 @@ unfoldable pub anyLength : List ℕ → Command → Command
 anyLength line other =
     cond (begins requestWord line) Request
     (cond (begins lineWord line) Text
-    (cond (begins rawWord line) Raw other))
+    (cond (begins rawWord line) Raw
+    (cond (begins whyWord line) Why other)))
 
 -- which call a line is
 unfoldable pub commandOf : List ℕ → Command

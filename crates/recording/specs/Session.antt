@@ -13,32 +13,38 @@ use Rattle.recording.specs.declared.language.Language.{Language}
 use Rattle.recording.specs.declared.partial.Partial.{Partial}
 use Rattle.recording.specs.declared.feeding.Fed as code
 use Rattle.recording.specs.declared.feeding.Step as code-step
-use Rattle.recording.specs.Line.{pairsFrom, lineEffect}
+use Rattle.recording.specs.Line.{pairsFrom, capped, lineEffect}
 
 -- how much is kept of a line: one byte more than a call has, which tells that it is longer
 abbrev pub keptSize : ℕ
 keptSize = 1025
 
--- a line that has not ended: what is kept of it, and where its pairs led
+-- a line that has not ended: what is kept of it, how many characters it has, kept or not, and where its pairs led
 pub record Reading : Type 0 where
   pub line : List ℕ
+  pub size : ℕ
   pub phase : Phase
 
 -- the line of which a buffer holds the first bytes
 abbrev pub reading : Partial → List ℕ → Reading
-reading p buffer = record { line = take (p .len) buffer; phase = p .phase }
+reading p buffer = record { line = take (p .len) buffer; size = p .size; phase = p .phase }
 
 -- nothing was read of the line
 abbrev pub nothingRead : Reading
-nothingRead = record { line = []; phase = Open }
+nothingRead = record { line = []; size = 0; phase = Open }
 
 -- the pairs begin after the first bytes
 unfoldable pub phaseAfter : ℕ → ℕ → Phase → ℕ → Phase
 phaseAfter len first phase c = cond (ltb len first) phase (next phase c)
 
--- one character more, which is kept if there is room
+-- one character more, which is counted, and kept if there is room
 unfoldable pub typed : ℕ → ℕ → ℕ → Reading → Reading
-typed first room c r = record { line = take room (r .line ++ (c ∷ [])); phase = phaseAfter (length (r .line)) first (r .phase) c }
+typed first room c r =
+    record {
+      line = take room (r .line ++ (c ∷ []));
+      size = capped (r .size + 1);
+      phase = phaseAfter (length (r .line)) first (r .phase) c;
+    }
 
 -- the line that has not ended, and the bytes of state and memory
 pub record Session : Type 0 where
@@ -66,7 +72,7 @@ lineEnded e = stepTo (session nothingRead (e .state) (e .memory)) (e .text)
 -- one character: a newline ends the line, which is then carried out
 unfoldable pub stepped : Language → ℕ → Session → Step
 stepped l c x =
-    cond (isNewline c) (lineEnded (lineEffect l (x .reading .phase) (x .reading .line) (x .state) (x .memory)))
+    cond (isNewline c) (lineEnded (lineEffect l (x .reading .phase) (x .reading .size) (x .reading .line) (x .state) (x .memory)))
     (stepTo (session (typed (pairsFrom l (x .reading .line)) keptSize c (x .reading)) (x .state) (x .memory)) [])
 
 -- a line is not ended where what it prints might not fit

@@ -10,7 +10,7 @@ use Rattle.lines.specs.declared.scan.Phase.the-variants.{Open}
 use Rattle.lines.specs.Scan.{after, isNewline}
 use Rattle.calls.specs.Effect.{Effect, longestText}
 use Rattle.recording.specs.declared.language.Language.{Language}
-use Rattle.recording.specs.Line.{pairsFrom, wholeEffect}
+use Rattle.recording.specs.Line.{pairsFrom, capped, wholeEffect}
 use Rattle.recording.specs.Session.{Session, session, keptSize, Fed, fed}
 
 -- the line that has not ended yet, state and memory, and all that was printed
@@ -35,10 +35,16 @@ unfoldable pub transcribed : Language → Transcript → List ℕ → Transcript
 transcribed l t [] = t
 transcribed l t (c ∷ cs) = transcribed l (character l c t) cs
 
--- what a session keeps of a transcript: of the line its first bytes, and where all of its pairs led
+-- what a session keeps of a transcript: of the line its first bytes, how many characters it has, and where all of its pairs led
 unfoldable pub keeps : Language → Transcript → Session
 keeps l t =
-    session (record { line = take keptSize (t .line); phase = after Open (drop (pairsFrom l (t .line)) (t .line)) }) (t .state) (t .memory)
+    session
+    (record {
+      line = take keptSize (t .line);
+      size = capped (length (t .line));
+      phase = after Open (drop (pairsFrom l (t .line)) (t .line));
+    })
+    (t .state) (t .memory)
 
 -- a block was fed: some of its first bytes were used, the session and the text are those of a transcript of these, and the rest is left
 -- only where another line might not fit

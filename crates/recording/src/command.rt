@@ -16,6 +16,7 @@ pub enum Command {
     Tick,
     Text,
     Raw,
+    Why,
     Unknown,
 }
 
@@ -79,6 +80,9 @@ pub(crate) fn command_of(line: &[u8]) -> Command
     }
     if begins(line, b"raw ") {
         return Command::Raw;
+    }
+    if begins(line, b"why ") {
+        return Command::Why;
     }
     if LONGEST_LINE < line.len() {
         return Command::Unknown;

@@ -39,11 +39,19 @@ fn end_line(
     out: &mut [u8],
 ) -> usize
     requires { ⌜ longestText ≤ length (now out) ⌝ }
-    ensures { λ r. ⌜ Does (lineEffect language (partial .phase) (reading partial (now (line .entry)) .line) (now (state .entry)) (now (memory .entry))) r (now (state .exit)) (now (memory .exit)) (now (out .entry)) (now (out .exit)) ⌝ }
+    ensures { λ r. ⌜ Does (lineEffect language (partial .phase) (partial .size) (reading partial (now (line .entry)) .line) (now (state .entry)) (now (memory .entry))) r (now (state .exit)) (now (memory .exit)) (now (out .entry)) (now (out .exit)) ⌝ }
 {
     let phase = partial.phase;
     let n = at_most(partial.len, line);
-    answer_line(language, phase, state, memory, &line[..n], out)
+    answer_line(
+        language,
+        phase,
+        partial.size,
+        state,
+        memory,
+        &line[..n],
+        out,
+    )
 }
 
 // Where the pairs begin of a line of which so much was read.

@@ -21,7 +21,11 @@ pub enum Language {
 fn pairs_behind(line: &[u8]) -> usize
     ensures { λ r. ⌜ r ≡ pairsBehind (now (line .entry)) ⌝ }
 {
-    if begins(line, b"raw ") { 4 } else { 8 }
+    if begins(line, b"raw ") || begins(line, b"why ") {
+        4
+    } else {
+        8
+    }
 }
 
 impl Language {

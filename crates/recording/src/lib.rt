@@ -15,7 +15,9 @@ pub use language::Language;
 pub use language::begin;
 pub use partial::Partial;
 
-// A line whose word is not `request`, `line` or `raw` is no longer.
+// A line whose word is not `request`, `line`, `raw` or `why` is no longer.
 pub const LONGEST_LINE: usize = 1024;
 // How much is kept of a line: one byte more, which tells that it is longer.
 pub const KEPT: usize = 1025;
+// No more characters of a line are counted.
+const MOST_COUNTED: usize = 18446744073709551615;

@@ -1,15 +1,28 @@
 // A line as it is read, character by character.
+use crate::MOST_COUNTED;
 use lines::Phase;
 ghost use mathlib.Core.Path.{_≡_};
 ghost use mathlib.Core.List.{List};
-ghost use Prim.Native.Nat.{ℕ, _≤_};
+ghost use Prim.Native.Nat.{ℕ, _+_, _≤_};
 ghost use lib.ListN.{length};
+ghost use Rattle.recording.specs.Line.{capped};
 ghost use Rattle.recording.specs.Session.{reading, nothingRead, phaseAfter, typed};
 
-// What was read of a line: how many bytes of it are kept, and where its pairs led.
+// What was read of a line: how many bytes of it are kept, how many characters it has, kept or not, and where its pairs led.
 pub struct Partial {
     pub len: usize,
+    pub size: usize,
     pub phase: Phase,
+}
+
+// One character more than so many, as far as they are counted.
+fn one_more(size: usize) -> usize
+    ensures { λ r. ⌜ r ≡ capped (size + 1) ⌝ }
+{
+    if size < MOST_COUNTED {
+        return size + 1;
+    }
+    MOST_COUNTED
 }
 
 impl Partial {
@@ -20,6 +33,7 @@ impl Partial {
         let phase = Phase::Open;
         Partial {
             len: 0,
+            size: 0,
             phase: phase,
         }
     }
@@ -35,22 +49,25 @@ impl Partial {
         phase.next(c)
     }
 
-    // One character more of a line whose pairs begin after its first so many bytes. It is kept, if there is room.
+    // One character more of a line whose pairs begin after its first so many bytes. It is counted, and kept if there is room.
     pub(crate) fn push(self, first: usize, c: u8, line: &mut [u8]) -> Partial
         requires { ⌜ first ≤ length (now line) ⌝ }
         ensures { λ r. ⌜ reading r (now (line .exit)) ≡ typed first (length (now (line .entry))) c (reading self (now (line .entry))) ⌝ }
     {
         let next = self.phase_after(first, c);
+        let size = one_more(self.size);
         let len = self.len;
         if line.len() <= len {
             return Partial {
                 len: len,
+                size: size,
                 phase: next,
             };
         }
         line[len] = c;
         Partial {
             len: len + 1,
+            size: size,
             phase: next,
         }
     }

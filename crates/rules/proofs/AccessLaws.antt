@@ -29,11 +29,11 @@ saidAt a b l =
 unfoldable pub leftAt : Access → Local → Local
 leftAt a l = cond (eqb (numberAt a l) 0) (a .effect l) l
 
--- a call that asks no more than the public part, answers the same whatever the inside, and lets the asker in
+-- a call that asks no more than the public part, answers the same whatever the inside, and lets the asker in or leaves the process as it is
 pub record Taking (host : ℕ) (a : Access) (then : Public → Public) : Type 0 where
   pub none : (l : Local) → firstFailing (a .inner l) ≡ 0
   pub blind : (l k : Local) → a .reply l ≡ a .reply k
-  pub takes : (u : Public) → insider (then u) host ≡ true
+  pub takes : ((u : Public) → insider (then u) host ≡ true) ⊎ ((l : Local) → a .effect l ≡ l)
 
 -- who asks sees the inside, or will; where nobody asks, nobody needs to
 unfoldable pub May : Asker → Public → Access → (Public → Public) → Type 0

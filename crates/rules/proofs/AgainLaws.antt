@@ -2,6 +2,8 @@
 -- hidden processes alone still do where fewer are hidden. Assumes nothing.
 use mathlib.Core.Path.{_≡_, refl, sym, ap, _∙_, subst, fun-ext}
 use mathlib.Core.Bool.{Bool, true, false, not, _&&_, true≢false, and-true, and-false}
+use mathlib.Core.List.{[]}
+use native.Mathlib.Omega.{arith}
 use Prim.Native.Nat.{ℕ}
 use borrow.Author.Tests.{eqb-true, eq-eqb, not-false}
 use lib.ListN.{getD}
@@ -9,7 +11,9 @@ use lib.Dec.{eqb}
 use Rattle.lists.proofs.Bool.{&&-left, &&-right}
 use Rattle.format.specs.Outcome.{firstFailing}
 use Rattle.ops.specs.Codes.{CREATE}
-use Rattle.process.specs.Local.{Local}
+use Rattle.run_state.specs.declared.Run.the-variants.{Running}
+use Rattle.process.specs.Record.{fresh}
+use Rattle.process.specs.Local.{Local, local}
 use Rattle.rules.specs.Rule.{Public, names, creates}
 use Rattle.rules.specs.Tests.{State}
 use Rattle.rules.specs.Access.{Asker, nobody, by, Output, Access, Place, nowhere, atProcess, Turn, numberAt, grants, reached, taken}
@@ -122,6 +126,14 @@ module _ (H : Hosts) where
   unfolding createdFor
   subject-hidden P s c e = none-created P s c (λ p. rw (lawful c .subject-creates P e) (and-false (isOne H (asker c))))
 
+  -- what does not rest on what was there does not leave it as it was
+  anew-changes : (a : Access) → ((l k : Local) → a .effect l ≡ a .effect k) → ((l : Local) → a .effect l ≡ l) → ⊥
+  unfolding fresh
+  anew-changes a anew same =
+      let one = local (fresh true 1 Running 2) [] in
+      let other = local (fresh true 2 Running 2) [] in
+      omega (arith, ap (λ (l : Local). l .process .host) (sym (same one) ∙ anew one other ∙ same other))
+
   -- ---- where they stay away, nothing is created for them
 
   module _ (P : Processes) (s : State) (r : Ready s) (c : Call) (before : NoneDebugs H P s) (after : NoneDebugs H P (step s c .after)) where
@@ -137,8 +149,9 @@ module _ (H : Hosts) where
         go w e (idles bytes n q) = create-goes c (m .op) bytes n
         go nobody e (acts k a t z q) = true≢false (sym (m .asked) ∙ ap (isOne H) e)
         go (by host) e (acts k a t z q) =
-            lets-in H P host s c r e (sym (ap (isOne H) e) ∙ m .asked) k a t z (ap (λ (x : StepResult). x .after) q)
-            (ap P (sym (t .carries (localOf s k) (m .op)) ∙ sym (ap (λ (x : StepResult). getD (x .answer .buffer) 5 0) q) ∙ m .number) ∙ i) before after
+            anew-changes a (t .anew (m .op))
+            (lets-in H P host s c r e (sym (ap (isOne H) e) ∙ m .asked) k a t z (ap (λ (x : StepResult). x .after) q)
+            (ap P (sym (t .carries (localOf s k) (m .op)) ∙ sym (ap (λ (x : StepResult). getD (x .answer .buffer) 5 0) q) ∙ m .number) ∙ i) before after)
 
     pub stays-hidden : hiddenAfter H P (traceItem s c) ≡ P
     unfolding hiddenAfter

@@ -19,7 +19,7 @@ use Rattle.rules.specs.Turn.{turnOf, buffersOf}
 use Rattle.rules.specs.Ready.{Ready}
 use Rattle.rules.specs.Run.{traceItem}
 use Rattle.rules.specs.Isolation.{Hosts, Processes, noticed, lineSent, asker, subject, event, passedOver, isOne, publicOf, Debuggers, sentTo, part, struck, withoutData, Apart, NoneDebugs, theirs}
-use Rattle.rules.proofs.StateLaws.{local-proper, Changed, Fits, unchanged, fits-shown, put-changed}
+use Rattle.rules.proofs.StateLaws.{local-proper, Changed, Fits, unchanged, fits-shown, put-changed, put-same}
 use Rattle.rules.proofs.AccessLaws.{saidAt, leftAt, Taking, May, Discreet, Fair, outer-zero, said-stranger, left-alike, quiet, refusal-quiet}
 use Rattle.rules.proofs.CallLaws.{Silent, There, Placed}
 use Rattle.rules.proofs.LawfulLaws.{lawful}
@@ -108,9 +108,10 @@ module _ (H : Hosts) (P : Processes) where
 
   -- ---- their own calls that name one of the processes
 
-  -- such a call, granted at one of the processes, lets them in
+  -- such a call, granted at one of the processes, lets them in, or it leaves a process as it is
   pub lets-in : (host : ℕ) (s : State) (c : Call) (r : Ready s) → asker c ≡ by host → H host ≡ true → (p : ℕ) (a : Access) (t : There s c p a) → numberAt a (localOf s p) ≡ 0
-      → step s c .after ≡ put p (a .effect (localOf s p)) s → P p ≡ true → NoneDebugs H P s → NoneDebugs H P (step s c .after) → ⊥
+      → step s c .after ≡ put p (a .effect (localOf s p)) s → P p ≡ true → NoneDebugs H P s → NoneDebugs H P (step s c .after)
+      → (l : Local) → a .effect l ≡ l
   unfolding May
   lets-in host s c r e h p a t z q i before after =
       may (subst (λ (w : Asker). May w (publicOf s p) a (t .then)) e (t .fair .guarded (publicOf s p) (outer-zero a (localOf s p) z)))
@@ -118,9 +119,13 @@ module _ (H : Hosts) (P : Processes) where
       after-public : publicOf (step s c .after) p ≡ t .then (publicOf s p)
       after-public = rw q (acts-public s r c p a t z)
 
-      may : (insider (publicOf s p) host ≡ true) ⊎ Taking host a (t .then) → ⊥
-      may (inl k) = true≢false (sym k ∙ before p (t .low) i host h)
-      may (inr k) = true≢false (sym (k .takes (publicOf s p)) ∙ sym (ap (λ (u : Public). insider u host) after-public) ∙ after p (t .low) i host h)
+      idle : ((u : Public) → insider (t .then u) host ≡ true) ⊎ ((l : Local) → a .effect l ≡ l) → (l : Local) → a .effect l ≡ l
+      idle (inl f) = absurd (true≢false (sym (f (publicOf s p)) ∙ sym (ap (λ (u : Public). insider u host) after-public) ∙ after p (t .low) i host h))
+      idle (inr same) = same
+
+      may : (insider (publicOf s p) host ≡ true) ⊎ Taking host a (t .then) → (l : Local) → a .effect l ≡ l
+      may (inl k) = absurd (true≢false (sym k ∙ before p (t .low) i host h))
+      may (inr k) = idle (k .takes)
 
   idle-by : (w : Asker) (s : State) (c : Call) → Ready s → asker c ≡ w → isOne H w ≡ true → subject P c ≡ true → NoneDebugs H P s → NoneDebugs H P (step s c .after) → step s c .after ≡ s
   unfolding isOne
@@ -130,7 +135,9 @@ module _ (H : Hosts) (P : Processes) where
       go : Done s c (step s c) → step s c .after ≡ s
       go (stays number bytes q) = rw q
       go (idles output w q) = rw q
-      go (acts p a t z q) = absurd (lets-in host s c r e h p a t z (ap (λ (x : StepResult). x .after) q) (t .named P i) before after)
+      go (acts p a t z q) =
+          let left = ap (λ (x : StepResult). x .after) q in
+          left ∙ ap (λ (l : Local). put p l s) (lets-in host s c r e h p a t z left (t .named P i) before after (localOf s p)) ∙ put-same p s
 
   pub theirs-idle : (s : State) → Ready s → (c : Call) → theirs H P c ≡ true → NoneDebugs H P s → NoneDebugs H P (step s c .after) → step s c .after ≡ s
   unfolding theirs

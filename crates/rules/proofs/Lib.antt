@@ -10,6 +10,7 @@ pub mod RequestLaws
 pub mod ReportLaws
 pub mod TextLaws
 pub mod PacketLaws
+pub mod QueryLaws
 pub mod LawfulLaws
 pub mod StepLaws
 pub mod DebuggerLaws
@@ -37,3 +38,4 @@ pub mod ToldLaws
 pub mod BreakLifeLaws
 pub mod StatusLaws
 pub mod WaitingLaws
+pub mod WhyLaws

@@ -33,7 +33,7 @@ use Rattle.rules.specs.Rule.{ruleOf, names, creates}
 use Rattle.rules.specs.TextRule.{textRuleOf}
 use Rattle.rules.specs.Tests.{State, recordOf, requestNumber, badReport, textNumber, packetNumber}
 use Rattle.rules.specs.Access.{alone, Access, numberAt, grants}
-use Rattle.rules.specs.Step.{StepResult, localOf, granted, grantedNamed, grantedCreate, refused, requestStep, textStep, packetStep, tickStep, Call, request, report, store, textLine, packet, tick, step}
+use Rattle.rules.specs.Step.{StepResult, localOf, granted, grantedNamed, grantedCreate, refused, requestStep, textStep, packetStep, tickStep, queryStep, Call, request, report, store, textLine, packet, tick, query, step}
 use Rattle.rules.specs.Turn.{ruleAccess, createAccess, requestPlace, requestTurn, reportAccess, storeAccess, storeTurn, textAccess, textTurn, packetAccess, tickAccess, tickTurn, turnOf, buffersOf}
 use Rattle.rules.specs.Ready.{Ready}
 use Rattle.rules.specs.Isolation.{namesOne, subject, fieldsOf}
@@ -73,6 +73,7 @@ cancels-pid (store p a v) q e k = absurd (true≢false (sym k))
 cancels-pid (textLine text buffer) q e k = absurd (true≢false (sym k))
 cancels-pid (packet door kind id words buffer) q e k = absurd (true≢false (sym k))
 cancels-pid (tick door) q e k = absurd (true≢false (sym k))
+cancels-pid (query m) q e k = absurd (true≢false (sym k))
 
 -- an op code that cancels names a process
 cancels-names : (cmd : ℕ) → cancelling cmd ≡ true → names cmd ≡ true
@@ -340,6 +341,10 @@ module _ (s : State) (r : Ready s) (door : ℕ) where
       go (inl f) = refused-kept p s (tick door) f
       go (inr x) = placed (ltb door 8) refl x
 
+query-turned : (s : State) (m : List ℕ) (p : ℕ) → p < 8 → Turned p s (query m)
+unfolding fieldsOf step queryStep
+query-turned s m p low = keeps (λ y. let e = y .is in let z : _≡_ {A = ℕ} 0 1 = cc in omega arith) (λ y. true≢false (sym (y .op))) (λ i. refl) refl
+
 -- ---- any call
 
 turned : (s : State) → Ready s → (c : Call) (p : ℕ) → p < 8 → Turned p s c
@@ -349,6 +354,7 @@ turned s r (store q a v) = store-turned s r q a v
 turned s r (textLine text buffer) = text-turned s r text buffer
 turned s r (packet door kind id words buffer) = packet-turned s r door kind id words buffer
 turned s r (tick door) = tick-turned s r door
+turned s r (query m) = query-turned s m
 
 begun : (s : State) → Ready s → (c : Call) (p : ℕ) (o : Owed) → Asks p o s c → Begun p o s c
 begun s r (request m buffer) p o y = absurd (let e = y .is in let z : _≡_ {A = ℕ} 0 1 = cc in omega arith)
@@ -357,6 +363,7 @@ begun s r (store q a v) p o y = absurd (let e = y .is in let z : _≡_ {A = ℕ}
 begun s r (textLine text buffer) p o y = line-asked s r text buffer p o y
 begun s r (packet door kind id words buffer) p o y = absurd (let e = y .is in let z : _≡_ {A = ℕ} 0 1 = cc in omega arith)
 begun s r (tick door) p o y = absurd (let e = y .is in let z : _≡_ {A = ℕ} 0 1 = cc in omega arith)
+begun s r (query m) p o y = absurd (let e = y .is in let z : _≡_ {A = ℕ} 0 1 = cc in omega arith)
 
 -- ---- lists
 
@@ -438,6 +445,10 @@ tick-sends : (s : State) (door : ℕ) → tickStep door s .answer .lineLength �
 unfolding tickStep
 tick-sends s door = refl
 
+query-sends : (s : State) (m : List ℕ) → queryStep m s .answer .lineLength ≡ 0
+unfolding queryStep
+query-sends s m = refl
+
 only-owed : (s : State) → Ready s → (c : Call) → 0 < step s c .answer .lineLength → (p : ℕ) × Sender s c p
 unfolding step
 only-owed s r (request m buffer) sent = absurd (omega (arith, sent, request-sends s m buffer))
@@ -446,6 +457,7 @@ only-owed s r (store q a v) sent = absurd (omega (arith, sent))
 only-owed s r (textLine text buffer) sent = absurd (omega (arith, sent, text-sends s text buffer))
 only-owed s r (packet door kind id words buffer) sent = absurd (omega (arith, sent, packet-sends s door kind id words buffer))
 only-owed s r (tick door) sent = absurd (omega (arith, sent, tick-sends s door))
+only-owed s r (query m) sent = absurd (omega (arith, sent, query-sends s m))
 
 -- ---- the theorem
 

@@ -25,7 +25,7 @@ use Rattle.rules.specs.TextRule.{textRuleOf}
 use Rattle.rules.specs.PacketRule.{packetRowOf}
 use Rattle.rules.specs.Tests.{State, recordOf, badReport}
 use Rattle.rules.specs.Access.{nobody, by, Access, Place, nowhere, atProcess, numberAt, grants, refuses, reached, taken}
-use Rattle.rules.specs.Step.{StepResult, localOf, put, Call, request, report, store, textLine, packet, tick, step}
+use Rattle.rules.specs.Step.{StepResult, localOf, put, Call, request, report, store, textLine, packet, tick, query, queryStep, step}
 use Rattle.rules.specs.Turn.{ruleAccess, messageTests, placeTests, requestPlace, requestTurn, reportAccess, reportTurn, storeAccess, storeTurn, textAccess, textTurn, packetAccess, packetTurn, tickAccess, tickTurn, turnOf, buffersOf}
 use Rattle.rules.specs.Ready.{Ready}
 use Rattle.rules.specs.Isolation.{asker, fieldsOf, isGranted}
@@ -319,6 +319,11 @@ module _ (s : State) (r : Ready s) (door : ℕ) where
       go (inl f) = refused-reach p s (tick door) f
       go (inr x) = placed (ltb door 8) refl x
 
+-- a query gets at none
+query-reach : (s : State) (m : List ℕ) (p : ℕ) → p < 8 → Reach p s (query m)
+unfolding step queryStep
+query-reach s m p low = passesBy refl
+
 -- ---- any call
 
 pub reach : (s : State) → Ready s → (c : Call) (p : ℕ) → p < 8 → Reach p s c
@@ -328,6 +333,7 @@ reach s r (store q a v) = store-reach s r q a v
 reach s r (textLine text buffer) = text-reach s r text buffer
 reach s r (packet door kind id words buffer) = packet-reach s r door kind id words buffer
 reach s r (tick door) = tick-reach s r door
+reach s r (query m) = query-reach s m
 
 -- a granted request, by its op code and the process that it names
 pub named : (s : State) → Ready s → (c : Call) (cmd p : ℕ) → names cmd ≡ true → fieldsOf c .cmd ≡ cmd → fieldsOf c .pid ≡ p → Granted s c → Named cmd p s c
@@ -338,3 +344,4 @@ named s r (store q a v) cmd p n op pid granted = absurd (true≢false (sym (rw (
 named s r (textLine text buffer) cmd p n op pid granted = absurd (true≢false (sym (rw (← op) at n)))
 named s r (packet door kind id words buffer) cmd p n op pid granted = absurd (true≢false (sym (rw (← op) at n)))
 named s r (tick door) cmd p n op pid granted = absurd (true≢false (sym (rw (← op) at n)))
+named s r (query m) cmd p n op pid granted = absurd (true≢false (sym (rw (← op) at n)))

@@ -89,7 +89,7 @@ module _ (cmd : ℕ) (r : Rule) (row : Row cmd r) (h : Header) (string : List �
       go (inr t) = inr (record {
         none = open-none (t .free);
         blind = λ l k. ap₂ (λ (header : Header) (string : List ℕ). alone (written header string)) (t .free .header h l ∙ sym (t .free .header h k)) (t .free .shown h l ∙ sym (t .free .shown h k));
-        takes = λ v. t .takes (h .host) asked v;
+        takes = inl (λ v. t .takes (h .host) asked v);
       })
 
   rule-keeps : (l : Local) → Proper l → numberAt (ruleAccess r h string) l ≡ 0 → Proper (r .effect h string l)
@@ -139,7 +139,7 @@ unfolding createAccess May Discreet insider firstFailing public created fresh
 create-fair h p asked right = record {
   publicly = λ l z. refl;
   keeps = λ l g z. new-proper (h .host) (sizeAsked h) (createAccess h p .effect l .bytes) right (create-size (h .host) (sizeAsked h));
-  guarded = λ u z. inr (record { none = λ l. refl; blind = λ l k. refl; takes = λ v. rw (ne-eqb (h .host) 0 asked, eq-eqb (h .host) (h .host) refl) });
+  guarded = λ u z. inr (record { none = λ l. refl; blind = λ l k. refl; takes = inl (λ v. rw (ne-eqb (h .host) 0 asked, eq-eqb (h .host) (h .host) refl)) });
   hides = inr (λ l. refl);
   plain = λ l k e. refl;
   discreet = λ l g. tt;
@@ -193,7 +193,7 @@ absent-unwatched s r low = go (eqb (publicOf s q .watcher) 0) refl
     go true e = sym (eqb-true _ 0 e)
     go false e = absurd (each-sound s r q low .watched (eqb-false _ 0 e) .0 (absent-unheld s r low))
 
-same-absent : (s t : State) → Ready s → Ready t → Shown s t → lowestAbsent (s .records) ≡ lowestAbsent (t .records)
+pub same-absent : (s t : State) → Ready s → Ready t → Shown s t → lowestAbsent (s .records) ≡ lowestAbsent (t .records)
 unfolding lowestAbsent public
 same-absent s t r q a =
     let e = r .processes in let i = q .processes in
@@ -288,15 +288,15 @@ before (suc n) [] (suc (suc i)) l = refl
 before (suc n) (x ∷ m) zero l = refl
 before (suc n) (x ∷ m) (suc i) l = before n m i (omega (arith, l))
 
-over-host : (m : List ℕ) → headerOf (withoutString m) .host ≡ headerOf m .host
+pub over-host : (m : List ℕ) → headerOf (withoutString m) .host ≡ headerOf m .host
 unfolding headerOf
 over-host m = before 8 m 1 (lit< tt)
 
-over-cmd : (m : List ℕ) → headerOf (withoutString m) .cmd ≡ headerOf m .cmd
+pub over-cmd : (m : List ℕ) → headerOf (withoutString m) .cmd ≡ headerOf m .cmd
 unfolding headerOf
 over-cmd m = before 8 m 4 (lit< tt)
 
-over-pid : (m : List ℕ) → headerOf (withoutString m) .pid ≡ headerOf m .pid
+pub over-pid : (m : List ℕ) → headerOf (withoutString m) .pid ≡ headerOf m .pid
 unfolding headerOf
 over-pid m = before 8 m 5 (lit< tt)
 
@@ -320,7 +320,7 @@ deposit-silent m buffer e d a q =
     rw (deposit-kept (headerOf m .cmd) e (headerOf m .host) (d q), deposit-creates (headerOf m .cmd) e, same-cond (names (headerOf m .cmd) && eqb q (headerOf m .pid)) (d q))
     (same-cond (isGranted (a .outcome)) (d q))
 
-over-long : (m : List ℕ) → leb 10 (length m) ≡ true → leb 10 (length (withoutString m)) ≡ true
+pub over-long : (m : List ℕ) → leb 10 (length m) ≡ true → leb 10 (length (withoutString m)) ≡ true
 over-long m e =
     let eight : length (take 8 m) ≡ 8 = length-take-le 8 m (omega (arith, leb-true 10 (length m) e)) in
     le-leb 10 (length (withoutString m)) (omega (arith, length-append (take 8 m) (0 ∷ 0 ∷ []), eight))

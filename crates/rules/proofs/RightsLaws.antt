@@ -6,11 +6,12 @@ use mathlib.Core.Logic.{_⊎_, inl, inr}
 use Prim.Native.Nat.{ℕ, _<_}
 use borrow.Author.Tests.{eqb-true, eqb-false}
 use lib.Dec.{eqb}
+use Rattle.process.specs.Local.{Local}
 use Rattle.rules.specs.Rule.{Public}
 use Rattle.rules.specs.Tests.{State}
 use lib.ListN.{getD}
 use Rattle.ops.specs.Codes.{CREATE, DEBUG}
-use Rattle.rules.specs.Access.{Asker, nobody, by, Access, grants, numberAt}
+use Rattle.rules.specs.Access.{Asker, nobody, by, insider, Access, grants, numberAt}
 use Rattle.rules.specs.Turn.{buffersOf}
 use Rattle.rules.specs.Outsider.{only}
 use Rattle.rules.specs.Step.{StepResult, localOf, put, Call, step}
@@ -24,15 +25,20 @@ use Rattle.rules.proofs.CallLaws.{There}
 use Rattle.rules.proofs.StepLaws.{Done, stays, idles, acts, done, acts-changed, step-ready}
 use Rattle.rules.proofs.DebuggerLaws.{acts-public, acts-else}
 
--- who passes the tests may change the process
-may-allowed : (w : Asker) (u : Public) (a : Access) (then : Public → Public) → May w u a then → Allowed w u (then u)
+-- who passes the tests may change the process, or leaves it as it is
+may-allowed : (w : Asker) (u : Public) (a : Access) (then : Public → Public) → May w u a then → Allowed w u (then u) ⊎ ((l : Local) → a .effect l ≡ l)
 unfolding May Allowed
-may-allowed nobody u a then m = tt
-may-allowed (by host) u a then (inl i) = inl i
-may-allowed (by host) u a then (inr t) = inr (t .takes u)
+may-allowed nobody u a then m = inl tt
+may-allowed (by host) u a then (inl i) = inl (inl i)
+may-allowed (by host) u a then (inr t) = go (t .takes)
+  where
+    go : ((v : Public) → insider (then v) host ≡ true) ⊎ ((l : Local) → a .effect l ≡ l)
+        → ((insider u host ≡ true) ⊎ (insider (then u) host ≡ true)) ⊎ ((l : Local) → a .effect l ≡ l)
+    go (inl f) = inl (inr (f u))
+    go (inr same) = inr same
 
 module _ (s : State) (r : Ready s) (c : Call) (p : ℕ) (a : Access) (t : There s c p a) (z : numberAt a (localOf s p) ≡ 0) where
-  acts-allowed : Allowed (asker c) (publicOf s p) (publicOf (put p (a .effect (localOf s p)) s) p)
+  acts-allowed : Allowed (asker c) (publicOf s p) (publicOf (put p (a .effect (localOf s p)) s) p) ⊎ ((l : Local) → a .effect l ≡ l)
   acts-allowed = rw (acts-public s r c p a t z) (may-allowed (asker c) (publicOf s p) a (t .then) (t .fair .guarded (publicOf s p) (outer-zero a (localOf s p) z)))
 
   acts-turns : Turns (asker c) (fieldsOf c) p (publicOf s p) (publicOf (put p (a .effect (localOf s p)) s) p)
@@ -54,10 +60,15 @@ changes s r c p low out = go (done s r c)
     go (idles bytes n e) = rw e
     go (acts q a t z e) = at (eqb p q) refl
       where
+        kept : Allowed (asker c) (publicOf s q) (publicOf (put q (a .effect (localOf s q)) s) q) ⊎ ((l : Local) → a .effect l ≡ l) → p ≡ q
+            → localOf (step s c .after) q ≡ localOf s q
+        kept (inl may) same = absurd (out (subst (λ (k : ℕ). MayChange k s c) (sym same) rw e (acts-reaches s c q a t, may)))
+        kept (inr idle) same = rw e (acts-changed s r c q a t z .here ∙ idle (localOf s q))
+
         at : (b : Bool) → eqb p q ≡ b → localOf (step s c .after) p ≡ localOf s p
         at true i =
             let same = eqb-true p q i in
-            absurd (out (subst (λ (k : ℕ). MayChange k s c) (sym same) rw e (acts-reaches s c q a t, acts-allowed s r c q a t z)))
+            subst (λ (k : ℕ). localOf (step s c .after) k ≡ localOf s k) (sym same) (kept (acts-allowed s r c q a t z) same)
         at false i = rw e (acts-changed s r c q a t z .else p low (eqb-false p q i))
 
 -- what a granted call turned at process p: the right to debug it, and the watch

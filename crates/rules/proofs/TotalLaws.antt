@@ -43,12 +43,12 @@ first-is (t ∷ ts) = go (t .fails) refl (first-is ts)
 -- ---- a call in its parts
 
 -- a call that was answered with this number from this state, with these buffers lent
-record Told (number : ℕ) (b : Buffers) (s : State) (x : StepResult) : Type 0 where
-  is : numberOf (x .answer .outcome) ≡ number
-  grant : number ≡ 0 → isGranted (x .answer .outcome) ≡ true
-  kept : (number ≡ 0 → ⊥) → x .after ≡ s
-  past : (n : ℕ) → x .answer .outcome ≡ outcome 0 n → drop n (x .answer .buffer) ≡ drop n (b .own)
-  line-past : drop (x .answer .lineLength) (x .answer .line) ≡ drop (x .answer .lineLength) (b .line)
+pub record Told (number : ℕ) (b : Buffers) (s : State) (x : StepResult) : Type 0 where
+  pub is : numberOf (x .answer .outcome) ≡ number
+  pub grant : number ≡ 0 → isGranted (x .answer .outcome) ≡ true
+  pub kept : (number ≡ 0 → ⊥) → x .after ≡ s
+  pub past : (n : ℕ) → x .answer .outcome ≡ outcome 0 n → drop n (x .answer .buffer) ≡ drop n (b .own)
+  pub line-past : drop (x .answer .lineLength) (x .answer .line) ≡ drop (x .answer .lineLength) (b .line)
 
 granted-told : (number : ℕ) → number ≡ 0 → (w : Output) (b : Buffers) (s t : State)
     → Told number b s (record { answer = grants w b; after = t })
@@ -90,7 +90,7 @@ turn-told t lent s = go (eqb (firstFailing (t .tests)) 0) refl
     go false e = rw e (refused-told (firstFailing (t .tests)) e (t .refusal (firstFailing (t .tests))) lent s)
 
 -- any call
-told : (s : State) (c : Call) → Told (firstFailing (testsOf s c)) (buffersOf c) s (step s c)
+pub told : (s : State) (c : Call) → Told (firstFailing (testsOf s c)) (buffersOf c) s (step s c)
 told s c = rw (lawful c .turn s, ← lawful c .number s) (turn-told (turnOf s c) (buffersOf c) s)
 
 -- ---- the column 'Written'

@@ -58,7 +58,7 @@ or-none true = refl
 or-none false = refl
 
 module _ (h : Header) (string : List ℕ) (s : State) where
-  asked-number : orElse (firstFailing (placeTests h s)) (placeNumber (requestPlace h string s) s) ≡ firstFailing (askedTests h s)
+  pub asked-number : orElse (firstFailing (placeTests h s)) (placeNumber (requestPlace h string s) s) ≡ firstFailing (askedTests h s)
   unfolding placeTests requestPlace askedTests placeNumber numberAt firstFailing ruleAccess createAccess public
   asked-number = go (names (h .cmd)) refl (creates (h .cmd)) refl
     where

@@ -27,7 +27,7 @@ use Rattle.rules.specs.Rule.{public, ruleOf, names}
 use Rattle.rules.specs.PacketRule.{PacketRule, storeRow, fetchRow, goRow, goReplyRow, packetRowOf}
 use Rattle.rules.specs.Tests.{State, recordOf, askedTests, unsound, tickNumber}
 use Rattle.rules.specs.Access.{numberAt}
-use Rattle.rules.specs.Step.{StepResult, localOf, Call, request, report, store, textLine, packet, tick, tickStep, step}
+use Rattle.rules.specs.Step.{StepResult, localOf, Call, request, report, store, textLine, packet, tick, query, tickStep, step}
 use Rattle.rules.specs.Turn.{packetAccess, packetTurn, tickAccess, tickTurn, turnOf}
 use Rattle.rules.specs.Ready.{Ready}
 use Rattle.rules.specs.Run.{final}
@@ -194,6 +194,7 @@ is-tick p (store q a v) e = absurd (true≢false (sym e))
 is-tick p (textLine text buffer) e = absurd (true≢false (sym e))
 is-tick p (packet door kind id words buffer) e = absurd (true≢false (sym e))
 is-tick p (tick door) e = ap tick (eqb-true door p e)
+is-tick p (query m) e = absurd (true≢false (sym e))
 
 one-call : (s : State) → Ready s → (p id n : ℕ) → p < 8 → Waits p id n s → (c : Call) → OnlyGos p id s c → n + tickCount p c ≤ 99
     → recordOf (step s c .after) p ≡ going (waitingGo id (n + tickCount p c)) (recordOf s p)

@@ -21,7 +21,7 @@ use Rattle.process.specs.Sizes.{memoryBytes}
 use Rattle.rules.specs.Rule.{Public, public, names, creates, sizeAsked}
 use Rattle.rules.specs.Tests.{State, recordOf}
 use Rattle.rules.specs.Access.{Asker, nobody, by, insider}
-use Rattle.rules.specs.Step.{Answer, Call, request, report, store, textLine, packet, tick, step, localOf}
+use Rattle.rules.specs.Step.{Answer, Call, request, report, store, textLine, packet, tick, query, step, localOf}
 use Rattle.rules.specs.Ready.{Ready}
 use Rattle.rules.specs.Run.{TraceItem, run, final, leave}
 use Rattle.ops.specs.Codes.{DEBUG, DEPOSIT, DEPOSIT-VECTOR, DESTROY, END-DEBUG, END-WATCH, WATCH}
@@ -91,6 +91,7 @@ asker (store p x v) = nobody
 asker (textLine text buffer) = by textHost
 asker (packet door kind id words buffer) = by pupHost
 asker (tick door) = nobody
+asker (query m) = by (hostOf m)
 
 -- the call names one of these processes, or is about it
 unfoldable pub subject : Processes → Call → Bool
@@ -100,6 +101,7 @@ subject P (store p x v) = P p
 subject P (textLine text buffer) = lineNamesOne P (lineOf text)
 subject P (packet door kind id words buffer) = P door
 subject P (tick door) = P door
+subject P (query m) = namesOne P m
 
 -- 'reports .. and stores'; 'a tick' is no event but 'a call', and is never struck
 unfoldable pub event : Call → Bool
@@ -109,6 +111,7 @@ event (store p x v) = true
 event (textLine text buffer) = false
 event (packet door kind id words buffer) = false
 event (tick door) = false
+event (query m) = false
 
 -- a message up to ARG1: ARG2, which counts the bytes of the string, is zero, and there is no string
 abbrev pub withoutString : List ℕ → List ℕ
@@ -122,6 +125,7 @@ passedOver (store p x v) = store p x v
 passedOver (textLine text buffer) = textLine (withoutValue text) buffer
 passedOver (packet door kind id words buffer) = packet door kind id (withoutStored kind words) buffer
 passedOver (tick door) = tick door
+passedOver (query m) = query (cond (deposits (cmdOf m)) (withoutString m) m)
 
 -- the fields of a NOP
 abbrev pub nop : Header
@@ -135,6 +139,7 @@ fieldsOf (store p x v) = nop
 fieldsOf (textLine text buffer) = nop
 fieldsOf (packet door kind id words buffer) = nop
 fieldsOf (tick door) = nop
+fieldsOf (query m) = nop
 
 -- asked by one of these hosts
 unfoldable pub isOne : Hosts → Asker → Bool

@@ -4,6 +4,7 @@ pub mod Rule
 pub mod TextRule
 pub mod PacketRule
 pub mod Tests
+pub mod Why
 pub mod Window
 pub mod Access
 pub mod Step
@@ -22,3 +23,4 @@ pub mod Owed
 pub mod Watch
 pub mod Status
 pub mod Waiting
+pub mod WhyRight

@@ -23,7 +23,7 @@ use Rattle.process.specs.Record.{entry}
 use Rattle.process.specs.Find.{find}
 use Rattle.process.specs.Request.{hasBreak}
 use Rattle.rules.specs.Tests.{State, recordOf}
-use Rattle.rules.specs.Step.{Call, request, report, store, textLine, packet, tick, step, plainAnswer}
+use Rattle.rules.specs.Step.{Call, request, report, store, textLine, packet, tick, query, step, plainAnswer}
 use Rattle.rules.specs.Access.{alone, grants}
 use Rattle.rules.specs.Turn.{buffersOf}
 use Rattle.fields.specs.Written.{lineBytes}
@@ -64,6 +64,7 @@ wordsOf (store p a v) = []
 wordsOf (textLine text buffer) = []
 wordsOf (packet door kind id words buffer) = []
 wordsOf (tick door) = []
+wordsOf (query m) = []
 
 -- a report of this kind about process p, with nine words and room for a notice and a line
 pub record ReportOf (p kind : ℕ) (c : Call) : Type 0 where

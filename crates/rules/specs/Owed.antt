@@ -16,7 +16,7 @@ use Rattle.fields.specs.Read.{lineOf}
 use Rattle.rules.specs.TextRule.{owedLine}
 use Rattle.rules.specs.Tests.{State, recordOf}
 use Rattle.rules.specs.Access.{alone, grants}
-use Rattle.rules.specs.Step.{Call, request, report, store, textLine, packet, tick, step}
+use Rattle.rules.specs.Step.{Call, request, report, store, textLine, packet, tick, query, step}
 use Rattle.rules.specs.Turn.{buffersOf}
 use Rattle.rules.specs.Ready.{Ready}
 use Rattle.rules.specs.Isolation.{subject, fieldsOf, isGranted}
@@ -33,6 +33,7 @@ textOf (store p a v) = []
 textOf (textLine text buffer) = text
 textOf (packet door kind id words buffer) = []
 textOf (tick door) = []
+textOf (query m) = []
 
 -- the kind of a report
 unfoldable pub kindOf : Call → ℕ
@@ -42,6 +43,7 @@ kindOf (store p a v) = 0
 kindOf (textLine text buffer) = 0
 kindOf (packet door kind id words buffer) = 0
 kindOf (tick door) = 0
+kindOf (query m) = 0
 
 -- the reason of a report
 unfoldable pub reasonOf : Call → ℕ
@@ -51,6 +53,7 @@ reasonOf (store p a v) = 0
 reasonOf (textLine text buffer) = 0
 reasonOf (packet door kind id words buffer) = 0
 reasonOf (tick door) = 0
+reasonOf (query m) = 0
 
 -- granted
 abbrev pub Granted : State → Call → Type 0

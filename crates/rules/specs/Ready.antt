@@ -8,7 +8,7 @@ use Rattle.process.specs.Sizes.{vectorWords}
 use Rattle.state.specs.Layout.{capacity}
 use Rattle.state.specs.Sound.{EightEntries, soundTest}
 use Rattle.rules.specs.Tests.{State, recordOf}
-use Rattle.rules.specs.Step.{Call, request, report, store, textLine, packet, tick}
+use Rattle.rules.specs.Step.{Call, request, report, store, textLine, packet, tick, query}
 
 -- a sound state; records and entries have the sizes of the code's types, and with another memory every request, text line, packet and
 -- report is refused with 1
@@ -35,3 +35,4 @@ Typed (store p a v) = Unit {0}
 Typed (textLine text buffer) = Unit {0}
 Typed (packet door kind id words buffer) = Unit {0}
 Typed (tick door) = Unit {0}
+Typed (query m) = Unit {0}

@@ -19,6 +19,8 @@ use Rattle.rules.specs.Rule.{ruleOf, names, creates, sizeAsked}
 use Rattle.state.specs.Records.{lowestAbsent}
 use Rattle.rules.specs.TextRule.{textRuleOf, failure, owedLine}
 use Rattle.rules.specs.PacketRule.{packetRowOf}
+use Rattle.reasons.specs.Reason.{factsOf}
+use Rattle.rules.specs.Why.{whyNumber, whyOf}
 use Rattle.fields.specs.declared.read.Line.{Line}
 use Rattle.fields.specs.Read.{lineOf}
 use Rattle.rules.specs.Tests.{State, recordOf, requestNumber, reportNumber, textNumber, packetNumber, tickNumber}
@@ -135,6 +137,10 @@ tickedState door s = cond (ltb door 8) (put door (onRecord ticked (localOf s doo
 unfoldable pub tickStep : ℕ → State → StepResult
 tickStep door s = answers (outcome (tickNumber s) 0) [] (cond (eqb (tickNumber s) 0) (tickedState door s) s)
 
+-- a gateway tool asks why a request would be refused: the number, and the facts; it changes nothing
+unfoldable pub queryStep : List ℕ → State → StepResult
+queryStep m s = answers (outcome (whyNumber s m) 0) (factsOf (whyOf s m)) s
+
 -- what stands in a list; a packet and a tick carry the process of the door, which the gateway reads from its state
 pub data Call : Type 0 where
   request : (message buffer : List ℕ) → Call
@@ -143,6 +149,7 @@ pub data Call : Type 0 where
   textLine : (text buffer : List ℕ) → Call
   packet : (door kind id : ℕ) (words buffer : List ℕ) → Call
   tick : (door : ℕ) → Call
+  query : (message : List ℕ) → Call
 
 -- one step; a store and a tick answer nobody
 unfoldable pub step : State → Call → StepResult
@@ -152,3 +159,4 @@ step s (store p a v) = answers (outcome 0 0) [] (stored p a v s)
 step s (textLine text buffer) = textStep text buffer s
 step s (packet door kind id words buffer) = packetStep door kind id words buffer s
 step s (tick door) = tickStep door s
+step s (query m) = queryStep m s

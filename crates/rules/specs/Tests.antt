@@ -90,13 +90,17 @@ askedTests h s =
     cond (names (h .cmd)) (test 7 (absent s (h .pid)) ∷ ruleTests (ruleOf (h .cmd)) h (recordOf s (h .pid)))
     (cond (creates (h .cmd)) (test 13 (noPlace h s) ∷ []) [])
 
--- the tests of a request, in document 01's order, with 15 after 8 and 16 after 12
+-- the tests 2 to 6 of a request
+abbrev pub formTests : State → List ℕ → List Test
+formTests s m = test 2 (unsound s) ∷ layoutTests (fixedRight m) (requestForm (headerOf m .cmd)) (headerOf m) (length m)
+
+-- all but test 1, in document 01's order, with 15 after 8 and 16 after 12
+abbrev pub testsFrom2 : State → List ℕ → List Test
+testsFrom2 s m = formTests s m ++ askedTests (headerOf m) s
+
+-- the tests of a request
 abbrev pub requestTests : State → List ℕ → List ℕ → List Test
-requestTests s m buffer =
-    test 1 (noRoom (s .memory) buffer)
-    ∷ test 2 (unsound s)
-    ∷ layoutTests (fixedRight m) (requestForm (headerOf m .cmd)) (headerOf m) (length m)
-    ++ askedTests (headerOf m) s
+requestTests s m buffer = test 1 (noRoom (s .memory) buffer) ∷ testsFrom2 s m
 
 -- 'The lowest-numbered test that fails gives the answer'
 unfoldable pub requestNumber : State → List ℕ → List ℕ → ℕ

@@ -10,8 +10,8 @@ use Rattle.lists.specs.Buffer.{overlay}
 use Rattle.format.specs.Outcome.{outcome, numberOf, Test}
 use Rattle.format.specs.Layout.{written, headerOf}
 use Rattle.format.specs.Answer.{cantOf}
-use Rattle.rules.specs.Tests.{State, requestTests, reportTests, textTests, packetTests, tickTests}
-use Rattle.rules.specs.Step.{Call, request, report, store, textLine, packet, tick, requestStep, reportStep, textStep, packetStep, step}
+use Rattle.rules.specs.Tests.{State, testsFrom2, requestTests, reportTests, textTests, packetTests, tickTests}
+use Rattle.rules.specs.Step.{Call, request, report, store, textLine, packet, tick, query, requestStep, reportStep, textStep, packetStep, step}
 use Rattle.rules.specs.Turn.{buffersOf}
 use Rattle.rules.specs.TextRule.{failure}
 use Rattle.fields.specs.Read.{lineOf}
@@ -26,6 +26,7 @@ testsOf s (store p x v) = []
 testsOf s (textLine text buffer) = textTests s text buffer
 testsOf s (packet door kind id words buffer) = packetTests s door kind words buffer
 testsOf s (tick door) = tickTests s
+testsOf s (query m) = testsFrom2 s m
 
 -- 'Numbers returned': those of each call
 unfoldable pub numbersOf : Call → List ℕ
@@ -35,6 +36,7 @@ numbersOf (store p x v) = 0 ∷ []
 numbersOf (textLine text buffer) = 0 ∷ 1 ∷ 2 ∷ 6 ∷ 122 ∷ 103 ∷ 101 ∷ 116 ∷ 114 ∷ []
 numbersOf (packet door kind id words buffer) = 0 ∷ 1 ∷ 2 ∷ 3 ∷ 5 ∷ 7 ∷ 8 ∷ 9 ∷ 10 ∷ []
 numbersOf (tick door) = 0 ∷ 2 ∷ []
+numbersOf (query m) = 0 ∷ 2 ∷ 3 ∷ 4 ∷ 5 ∷ 6 ∷ 7 ∷ 8 ∷ 15 ∷ 9 ∷ 10 ∷ 11 ∷ 12 ∷ 16 ∷ 13 ∷ []
 
 -- the number is one of a list
 abbrev pub oneOf : List ℕ → ℕ → Bool

@@ -21,10 +21,12 @@ use Rattle.state.specs.Records.{lowestAbsent}
 use Rattle.rules.specs.Rule.{Rule, ruleOf, names, creates, sizeAsked}
 use Rattle.rules.specs.TextRule.{textRuleOf, failure, owedLine}
 use Rattle.rules.specs.PacketRule.{packetRowOf}
-use Rattle.rules.specs.Tests.{State, noRoom, noReportRoom, noLineRoom, noAckRoom, unsound, outerTests, innerTests, textOuterTests, textInnerTests, packetOuterTests, packetInnerTests, noPlace, badReport}
+use Rattle.reasons.specs.Reason.{factsOf}
+use Rattle.rules.specs.Why.{reasonFor, reasonWithoutProcess}
+use Rattle.rules.specs.Tests.{State, noRoom, noReportRoom, noLineRoom, noAckRoom, unsound, formTests, outerTests, innerTests, textOuterTests, textInnerTests, packetOuterTests, packetInnerTests, noPlace, badReport}
 use Rattle.rules.specs.Window.{Buffers}
 use Rattle.rules.specs.Access.{Access, alone, Place, nowhere, atProcess, Turn}
-use Rattle.rules.specs.Step.{told, ackWordsOf, Call, request, report, store, textLine, packet, tick}
+use Rattle.rules.specs.Step.{told, ackWordsOf, Call, request, report, store, textLine, packet, tick, query}
 use Rattle.fields.specs.declared.read.Line.{Line}
 use Rattle.fields.specs.Read.{lineOf}
 
@@ -68,10 +70,7 @@ requestPlace h string s =
 
 -- the tests 1 to 6 of a request
 abbrev pub messageTests : State → List ℕ → List ℕ → List Test
-messageTests s m buffer =
-    test 1 (noRoom (s .memory) buffer)
-    ∷ test 2 (unsound s)
-    ∷ layoutTests (fixedRight m) (requestForm (headerOf m .cmd)) (headerOf m) (length m)
+messageTests s m buffer = test 1 (noRoom (s .memory) buffer) ∷ formTests s m
 
 -- a request
 unfoldable pub requestTurn : List ℕ → List ℕ → State → Turn
@@ -196,6 +195,26 @@ tickTurn door s = record {
   place = cond (ltb door 8) (atProcess door tickAccess) (nowhere (alone []));
 }
 
+-- ---- why
+
+-- the same tests as the request's own, at the process that it names
+unfoldable pub queryAccess : Rule → Header → ℕ → Access
+queryAccess r h count = record {
+  outer = λ u. test 7 (not (u .there)) ∷ outerTests r h u;
+  inner = λ l. innerTests r h (l .process);
+  reply = λ l. alone [];
+  refusal = λ l number. factsOf (reasonFor number h count (l .process));
+  effect = λ l. l;
+}
+
+-- a query; one of a request that names no process looks at none
+unfoldable pub queryTurn : List ℕ → State → Turn
+queryTurn m s = record {
+  tests = formTests s m ++ placeTests (headerOf m) s;
+  refusal = λ number. factsOf (reasonWithoutProcess number (length m));
+  place = cond (names (headerOf m .cmd)) (atProcess (headerOf m .pid) (queryAccess (ruleOf (headerOf m .cmd)) (headerOf m) (length m))) (nowhere (alone []));
+}
+
 -- ---- any call
 
 -- each call in its parts
@@ -206,6 +225,7 @@ turnOf s (store p a v) = storeTurn p a v
 turnOf s (textLine text buffer) = textTurn text buffer s
 turnOf s (packet door kind id words buffer) = packetTurn door kind id words buffer s
 turnOf s (tick door) = tickTurn door s
+turnOf s (query m) = queryTurn m s
 
 -- a buffer of its own, and no line buffer
 abbrev pub single : List ℕ → Buffers
@@ -219,3 +239,4 @@ buffersOf (store p a v) = single []
 buffersOf (textLine text buffer) = single buffer
 buffersOf (packet door kind id words buffer) = single buffer
 buffersOf (tick door) = single []
+buffersOf (query m) = single []

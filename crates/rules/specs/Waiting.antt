@@ -19,7 +19,7 @@ use Rattle.process.specs.Request.{onRecord}
 use Rattle.process.specs.Packet.{goOf}
 use Rattle.rules.specs.Rule.{ruleOf}
 use Rattle.rules.specs.Tests.{State, recordOf, askedTests}
-use Rattle.rules.specs.Step.{Call, request, report, store, textLine, packet, tick, step, localOf}
+use Rattle.rules.specs.Step.{Call, request, report, store, textLine, packet, tick, query, step, localOf}
 use Rattle.rules.specs.Ready.{Ready}
 use Rattle.rules.specs.Run.{final}
 use Rattle.rules.specs.Rights.{holder}
@@ -48,6 +48,7 @@ isTick p (store q a v) = false
 isTick p (textLine text buffer) = false
 isTick p (packet door kind id words buffer) = false
 isTick p (tick door) = eqb door p
+isTick p (query m) = false
 
 -- a Go of this ID to process p
 abbrev pub GoOf : ℕ → ℕ → Call → Type 0

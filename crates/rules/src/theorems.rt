@@ -9,6 +9,7 @@ ghost use Rattle.rules.specs.Owed.{OwedAnswers};
 ghost use Rattle.rules.specs.Watch.{Watching};
 ghost use Rattle.rules.specs.Status.{HowManySet};
 ghost use Rattle.rules.specs.Waiting.{Waiting};
+ghost use Rattle.rules.specs.WhyRight.{WhyRight};
 ghost use Rattle.rules.specs.Together.{Isolation};
 
 // Every call is answered by the number of the first test that fails, or granted where none does; a refusal changes nothing; a sound state
@@ -69,4 +70,10 @@ pub fn how_many_set()
 // process; or on the GoReply of the next ID. Any other granted packet abandons it, and so do END DEBUG and DESTROY.
 pub fn waiting()
     ensures { λ _. ⌜ Waiting ⌝ }
+{}
+
+// Why a request would be refused: the test is the one that the request itself would fail, each fact is right, nothing changes, and a host that may not
+// see inside is told nothing from inside.
+pub fn why_right()
+    ensures { λ _. ⌜ WhyRight ⌝ }
 {}

@@ -36,16 +36,26 @@ returns-3 : tie.Need-returns-3
 unfolding commandOf anyLength
 returns-3 c = rw (sym (c .before .before .before .before .before .before .before .begins .ensures) ∙ c .before .before .before .before .before .before .if1 .left, sym (c .before .before .before .before .begins2 .ensures) ∙ c .before .before .before .if2 .left, sym (c .before .begins3 .ensures) ∙ c .if3 .taken) refl
 
+slice-aggregate-begins-4 : tie.Need-slice-aggregate-begins-4
+slice-aggregate-begins-4 c = search needs
+
+begins-requires-4 : tie.Need-begins-requires-4
+begins-requires-4 c κs = search needs
+
 returns-4 : tie.Need-returns-4
 unfolding commandOf anyLength
-returns-4 c = rw (sym (c .before .before .before .before .before .before .before .before .begins .ensures) ∙ c .before .before .before .before .before .before .before .if1 .left, sym (c .before .before .before .before .before .begins2 .ensures) ∙ c .before .before .before .before .if2 .left, sym (c .before .before .begins3 .ensures) ∙ c .before .if3 .left, lt-ltb 1024 _ (c .if4 .taken)) refl
+returns-4 c = rw (sym (c .before .before .before .before .before .before .before .before .before .before .begins .ensures) ∙ c .before .before .before .before .before .before .before .before .before .if1 .left, sym (c .before .before .before .before .before .before .before .begins2 .ensures) ∙ c .before .before .before .before .before .before .if2 .left, sym (c .before .before .before .before .begins3 .ensures) ∙ c .before .before .before .if3 .left, sym (c .before .begins4 .ensures) ∙ c .if4 .taken) refl
+
+returns-5 : tie.Need-returns-5
+unfolding commandOf anyLength
+returns-5 c = rw (sym (c .before .before .before .before .before .before .before .before .before .before .before .begins .ensures) ∙ c .before .before .before .before .before .before .before .before .before .before .if1 .left, sym (c .before .before .before .before .before .before .before .before .begins2 .ensures) ∙ c .before .before .before .before .before .before .before .if2 .left, sym (c .before .before .before .before .before .begins3 .ensures) ∙ c .before .before .before .before .if3 .left, sym (c .before .before .begins4 .ensures) ∙ c .before .if4 .left, lt-ltb 1024 _ (c .if5 .taken)) refl
 
 short-command-requires : tie.Need-short-command-requires
 short-command-requires c κs = search needs
 
-returns-5 : tie.Need-returns-5
+returns-6 : tie.Need-returns-6
 unfolding commandOf anyLength
-returns-5 c = rw (sym (c .before .before .before .before .before .before .before .before .before .begins .ensures) ∙ c .before .before .before .before .before .before .before .before .if1 .left, sym (c .before .before .before .before .before .before .begins2 .ensures) ∙ c .before .before .before .before .before .if2 .left, sym (c .before .before .before .begins3 .ensures) ∙ c .before .before .if3 .left, le-ltb 1024 _ (c .before .if4 .left)) (c .short-command .ensures)
+returns-6 c = rw (sym (c .before .before .before .before .before .before .before .before .before .before .before .before .begins .ensures) ∙ c .before .before .before .before .before .before .before .before .before .before .before .if1 .left, sym (c .before .before .before .before .before .before .before .before .before .begins2 .ensures) ∙ c .before .before .before .before .before .before .before .before .if2 .left, sym (c .before .before .before .before .before .before .begins3 .ensures) ∙ c .before .before .before .before .before .if3 .left, sym (c .before .before .before .begins4 .ensures) ∙ c .before .before .if4 .left, le-ltb 1024 _ (c .before .if5 .left)) (c .short-command .ensures)
 
 pub command-of-spec : {M : Type 1} → statement M
 command-of-spec =
@@ -60,6 +70,9 @@ command-of-spec =
     slice-aggregate-begins-3
     begins-requires-3
     returns-3
+    slice-aggregate-begins-4
+    begins-requires-4
     returns-4
+    returns-5
     short-command-requires
-    returns-5)
+    returns-6)

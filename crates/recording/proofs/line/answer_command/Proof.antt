@@ -111,6 +111,24 @@ answer-raw-requires c κs = search needs
 enum-told-12 : tie.Need-enum-told-12
 enum-told-12 c = search needs
 
+pairs-in-requires : tie.Need-pairs-in-requires
+pairs-in-requires c κs = search needs
+
+sub-answer-why : tie.Need-sub-answer-why
+sub-answer-why c = search needs
+
+part-answer-why-start : tie.Need-part-answer-why-start
+part-answer-why-start c = search needs
+
+part-answer-why-end : tie.Need-part-answer-why-end
+part-answer-why-end c = search needs
+
+answer-why-requires : tie.Need-answer-why-requires
+answer-why-requires c κs = search needs
+
+enum-told-13 : tie.Need-enum-told-13
+enum-told-13 c = search needs
+
 answer-unknown-requires : tie.Need-answer-unknown-requires
 answer-unknown-requires c κs = search needs
 
@@ -196,7 +214,14 @@ same-length-12 c = search needs
 
 returns-12 : tie.Need-returns-12
 unfolding commandEffect
-returns-12 c = rw (c .before .before .before .before .before .before .before .before .enum-told12 .given .1) (c .before .before .answer-unknown .ensures)
+returns-12 c = rw (c .before .before .before .before .before .before .before .before .before .enum-told12 .given .1) (rw (rest-of-line 4 _ (c .before .before .before .before .before .before .before .before .before .before .before .before .before .before .before .before .args .line .now) (c .before .before .before .before .before .before .before .before .before .before .before .at-most3 .ensures .0), c .before .before .before .before .before .before .before .before .pairs-in .ensures) at (c .before .before .answer-why .ensures))
+
+same-length-13 : tie.Need-same-length-13
+same-length-13 c = search needs
+
+returns-13 : tie.Need-returns-13
+unfolding commandEffect
+returns-13 c = rw (c .before .before .before .before .before .before .before .before .enum-told13 .given .1) (c .before .before .answer-unknown .ensures)
 
 pub answer-command-spec : {M : Type 1} → statement M
 answer-command-spec =
@@ -237,6 +262,12 @@ answer-command-spec =
     part-answer-raw-end
     answer-raw-requires
     enum-told-12
+    pairs-in-requires
+    sub-answer-why
+    part-answer-why-start
+    part-answer-why-end
+    answer-why-requires
+    enum-told-13
     answer-unknown-requires
     same-length
     returns
@@ -261,4 +292,6 @@ answer-command-spec =
     same-length-11
     returns-11
     same-length-12
-    returns-12)
+    returns-12
+    same-length-13
+    returns-13)
