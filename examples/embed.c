@@ -7,12 +7,8 @@
 #include <string.h>
 
 enum {
-    LOWER = 2048,                                                      /* the size of process 0 */
-    SIZE = 1536,                                                       /* and of process 2 */
-    THERE = 0,                                                         /* in a process's bytes of the state */
-    HOST = 1,
-    ENTRIES = PALUSTRODE_PROCESS_BYTES - 8 * PALUSTRODE_ENTRY_BYTES,   /* and where its breakpoints begin */
-    PC = 7                                                             /* among the nine words */
+    LOWER = 2048, /* the size of process 0 */
+    SIZE = 1536   /* and of process 2 */
 };
 
 static uint8_t state[PALUSTRODE_STATE_BYTES];
@@ -39,7 +35,7 @@ static void show_starts(const char *what) {
     const char *before = "      ";
     printf("%-28s", what);
     for (unsigned p = 0; p < PALUSTRODE_PROCESSES; p++) {
-        if (!process(p)[THERE]) continue;
+        if (!process(p)[PALUSTRODE_THERE_AT]) continue;
         printf("%s %u at %u", before, p, (unsigned)palustrode_start(state, p));
         before = ",";
     }
@@ -58,18 +54,18 @@ static void why(const char *what, const uint8_t *message, size_t length) {
     printf("%-28s %4lld  %llu %llu\n", what, (long long)r, (unsigned long long)facts[0], (unsigned long long)facts[1]);
 }
 
-/* Returns the length of the answer to send: a CAN'T has no string. */
+/* Returns the length of the answer to send. */
 static size_t ask(const char *what, const uint8_t *message, size_t length) {
     int64_t r = palustrode_request(state, sizeof state, memory, sizeof memory, message, length, out, sizeof out);
-    size_t written = r >= 0 ? (size_t)r : r <= -7 ? PALUSTRODE_HEADER_BYTES : 0;
+    size_t written = palustrode_reply_length(r);
     show(what, r, written);
     return written;
 }
 
 static void report(const char *what, uint64_t process, uint64_t kind, uint16_t pc) {
     uint8_t words[PALUSTRODE_WORDS_BYTES] = {0};
-    words[2 * PC] = (uint8_t)(pc & 255);
-    words[2 * PC + 1] = (uint8_t)(pc >> 8);
+    words[2 * PALUSTRODE_REGISTER_PC] = (uint8_t)(pc & 255);
+    words[2 * PALUSTRODE_REGISTER_PC + 1] = (uint8_t)(pc >> 8);
     int64_t r = palustrode_report(state, sizeof state, memory, sizeof memory, process, kind, 0, words, sizeof words, out,
                                   sizeof out, line, sizeof line);
     show(what, r, palustrode_notice_length(r));
@@ -196,6 +192,7 @@ int main(void) {
 
     uint16_t fields[PALUSTRODE_FIELDS];
 
+    printf("%-28s       %s\n", "library and header", palustrode_version() == PALUSTRODE_VERSION ? "of one version" : "of two versions");
     start("fresh start, process 8", 1 << 8, sizes, PALUSTRODE_PROCESSES);
     start("process 2 of 1,535 bytes", both, odd, PALUSTRODE_PROCESSES);
     start("five of 4,096 bytes", 31, greatest, PALUSTRODE_PROCESSES);
@@ -225,8 +222,8 @@ int main(void) {
     printf("%-28s %4lld\n", "  of which the desk reads",
            (long long)palustrode_read_answer(out, PALUSTRODE_HEADER_BYTES + PALUSTRODE_WORDS_BYTES, fields, PALUSTRODE_FIELDS));
     ask("a message of no bytes", debug5, 0);
-    ask_on_wrong("flag of a breakpoint is 7", process(2) + ENTRIES, 7, debug5, sizeof debug5);
-    ask_on_wrong("absent process with a host", process(7) + HOST, 6, debug5, sizeof debug5);
+    ask_on_wrong("flag of a breakpoint is 7", process(2) + PALUSTRODE_ENTRIES_AT, 7, debug5, sizeof debug5);
+    ask_on_wrong("absent process with a host", process(7) + PALUSTRODE_HOST_AT, 6, debug5, sizeof debug5);
     ask_on_wrong("process 2 begins at byte 2", state + PALUSTRODE_STARTS_AT + 2 + 2, 2, debug5, sizeof debug5);
     ask("END DEBUG", end, sizeof end);
     show_word("memory holds", 256);

@@ -6,6 +6,14 @@
 #include <stddef.h>
 #include <stdint.h>
 
+/* The version of this header, as three numbers, as one that grows from version to version (0.8.0 is 800) and as text. palustrode_version returns that
+ * of the library that is linked: a program is right where both numbers are the same. */
+#define PALUSTRODE_VERSION_MAJOR 0
+#define PALUSTRODE_VERSION_MINOR 8
+#define PALUSTRODE_VERSION_PATCH 0
+#define PALUSTRODE_VERSION 800
+#define PALUSTRODE_VERSION_TEXT "0.8.0"
+
 /* A state is eight processes of 96 bytes, the last 64 of which are eight breakpoint entries of 8 bytes; then, from byte 768 on, where each
  * process begins in memory, two bytes each, low byte first; and last the number of the process that the Pup door is at. All processes lie in one
  * memory of 16,384 bytes, one after the other without gaps, each with as many bytes as its size says; free bytes follow the last. */
@@ -22,8 +30,12 @@
 #define PALUSTRODE_SIZE_MIN 2
 #define PALUSTRODE_SIZE_MAX 4096
 
-/* The nine words of a report. */
+/* The nine words of a report are the registers R0 to R5, SP, PC and PS, two bytes each, low byte first; the last three by their places among the
+ * nine. */
 #define PALUSTRODE_WORDS_BYTES 18
+#define PALUSTRODE_REGISTER_SP 6
+#define PALUSTRODE_REGISTER_PC 7
+#define PALUSTRODE_REGISTER_PS 8
 
 /* The longest message, which is the least room for any that is written; of it, the bytes before its string. */
 #define PALUSTRODE_MESSAGE_BYTES 266
@@ -77,10 +89,11 @@
 #define PALUSTRODE_NOTICE 64
 
 /* Of a process's bytes in the state, those that the firmware acts on: 1 if it is there, its run state, its size, which answer is owed to the text
- * debugger (0 none, 1 to a `c`, 2 to an `s`), and its nine words; and some that it need not look at: how many breakpoints are set in it, 0 to 8, the
- * host that watches it, or 0, and of a Go of the Pup door whether one waits, 0 or 1, how many ticks were counted since, 0 to 99, and its ID, four
- * bytes, low byte first. */
+ * debugger (0 none, 1 to a `c`, 2 to an `s`), and its nine words; and some that it need not look at: the host that debugs it, or 0, how many breakpoints
+ * are set in it, 0 to 8, the host that watches it, or 0, and of a Go of the Pup door whether one waits, 0 or 1, how many ticks were counted since, 0 to
+ * 99, and its ID, four bytes, low byte first; and where its eight breakpoint entries begin. */
 #define PALUSTRODE_THERE_AT 0
+#define PALUSTRODE_HOST_AT 1
 #define PALUSTRODE_RUN_STATE_AT 2
 #define PALUSTRODE_SIZE_AT 3
 #define PALUSTRODE_SET_AT 5
@@ -90,6 +103,17 @@
 #define PALUSTRODE_GO_TICKS_AT 9
 #define PALUSTRODE_GO_ID_AT 10
 #define PALUSTRODE_VECTOR_AT 14
+#define PALUSTRODE_ENTRIES_AT 32
+
+/* Of an entry's bytes, for a screen that lists breakpoints: 1 if it is lifted at the moment, the host that set it, 0 where the entry is free, and, two
+ * bytes each, low byte first, its address, how many times it is still to be passed silently, and the word of the program that it stands in for.
+ * The firmware may read them and writes none. */
+#define PALUSTRODE_ENTRIES 8
+#define PALUSTRODE_ENTRY_LIFTED_AT 0
+#define PALUSTRODE_ENTRY_SETTER_AT 1
+#define PALUSTRODE_ENTRY_ADDRESS_AT 2
+#define PALUSTRODE_ENTRY_COUNT_AT 4
+#define PALUSTRODE_ENTRY_SAVED_AT 6
 
 /* The run states, which ARG2 of a reply to STATUS tells too. A process executes only while it is there and running, stepping or passing, and one
  * instruction only while stepping or passing (docs/EMBEDDING.md, "What the firmware does around the calls"). */
@@ -99,6 +123,35 @@
 #define PALUSTRODE_AT_BREAKPOINT 3
 #define PALUSTRODE_ENDED 4
 #define PALUSTRODE_PASSING 5
+
+/* The numbers of the refusals: a call that is refused returns minus one of them, the first whose test fails. What each says of a request; in brackets, of
+ * other calls, as far as it is another thing there. */
+#define PALUSTRODE_REFUSED_BUFFER 1         /* a lent buffer has a wrong length */
+#define PALUSTRODE_REFUSED_STATE 2          /* the state is not sound [fresh start: a size is wrong, or all together are over 16,384] */
+#define PALUSTRODE_REFUSED_LENGTH 3         /* under 10 or over 266 bytes [packet: too few words] */
+#define PALUSTRODE_REFUSED_HEADER 4         /* TYPE, LINK or STYPE is wrong, or HOST is 0 */
+#define PALUSTRODE_REFUSED_UNKNOWN 5        /* CMD is no op code [packet: no such type] */
+#define PALUSTRODE_REFUSED_FORM 6           /* an unused field is not 0, the string has a wrong length, or the size of a CREATE is odd or over 4,096
+                                             * [line: PID or REQUEST cannot be read] */
+#define PALUSTRODE_REFUSED_NO_PROCESS 7     /* the process is not there, or its number is over 7 */
+#define PALUSTRODE_REFUSED_NO_RIGHT 8       /* the asker does not debug the process, nor watch it where that is enough; DEBUG: another host debugs it;
+                                             * WATCH: nobody debugs it, or the asker does itself */
+#define PALUSTRODE_REFUSED_RUN_STATE 9      /* not in this run state */
+#define PALUSTRODE_REFUSED_OUTSIDE 10       /* outside of the process or of its vector, an EXAMINE of over 256 bytes, or a BREAK at an odd address
+                                             * or past the last one */
+#define PALUSTRODE_REFUSED_NO_ENTRY 11      /* no room for a breakpoint more */
+#define PALUSTRODE_REFUSED_NO_BREAKPOINT 12 /* there is no breakpoint at that address */
+#define PALUSTRODE_REFUSED_FULL 13          /* CREATE: all eight processes are there, or fewer bytes are free than the size */
+#define PALUSTRODE_REFUSED_REPORT 14        /* [report: no such kind, or a reason that does not go with it] */
+#define PALUSTRODE_REFUSED_WATCHED 15       /* WATCH: another host watches it */
+#define PALUSTRODE_REFUSED_NOT_YOURS 16     /* the breakpoint was set by the other host */
+
+/* The same of a line whose PID and REQUEST could be read: 100 and the error number that the line which answers it carries. */
+#define PALUSTRODE_LINE_REFUSED_NO_RIGHT 101   /* host 253 does not debug the process; if it watches it, all but `i` and `d` */
+#define PALUSTRODE_LINE_REFUSED_NO_PROCESS 103 /* the process is not there, or its number is over 7 */
+#define PALUSTRODE_LINE_REFUSED_OUTSIDE 114    /* a word outside of the process or at an address that 4 does not divide, a register over 8, a wrong PC */
+#define PALUSTRODE_LINE_REFUSED_OWED 116       /* an answer is owed to an earlier `c` or `s` */
+#define PALUSTRODE_LINE_REFUSED_INVALID 122    /* not readable, not in this run state, or a register value over 65,535 */
 
 /* Which limit palustrode_why says is passed: the end of the process, or of the vector; the 256 bytes of an EXAMINE; the last address of a BREAK. */
 #define PALUSTRODE_LIMIT_END 0
@@ -225,6 +278,9 @@ int64_t palustrode_write_request(uint64_t host, uint64_t cmd, uint64_t pid, uint
  * Needs no state. */
 int64_t palustrode_read_answer(const uint8_t *message, size_t message_length, uint16_t *fields, size_t fields_count);
 
+/* The version of the library, as one number: PALUSTRODE_VERSION of the header that it was made with. It is never refused, and needs no state. */
+int64_t palustrode_version(void);
+
 #ifdef __cplusplus
 }
 #endif
@@ -238,6 +294,17 @@ static inline const uint8_t *palustrode_process(const uint8_t *state, unsigned p
     return state + at[p];
 }
 
+/* The 8 bytes of entry e, 0 to 7, of the breakpoints of process p, 0 to 7, in a state. */
+static inline const uint8_t *palustrode_entry(const uint8_t *state, unsigned p, unsigned e) {
+    return palustrode_process(state, p) + PALUSTRODE_ENTRIES_AT + (e << 3);
+}
+
+/* How many bytes process p, 0 to 7, has, read from the 785 bytes of a state. Of a process that is not there it says nothing. */
+static inline size_t palustrode_size(const uint8_t *state, unsigned p) {
+    const uint8_t *size = palustrode_process(state, p) + PALUSTRODE_SIZE_AT;
+    return size[0] + 256u * size[1];
+}
+
 /* Where process p, 0 to 7, begins in memory, read from the 785 bytes of a state: its bytes are memory[start] to memory[start + size - 1]. Of a
  * process that is not there it says nothing. Read it anew after each fresh start and each granted CREATE or DESTROY, of any process; nothing
  * else moves one. */
@@ -249,6 +316,13 @@ static inline size_t palustrode_start(const uint8_t *state, unsigned p) {
 /* The process that the Pup door is at, read from the 785 bytes of a state: 0 to 7, there or not; any greater number is none. Nothing but a fresh
  * start changes it. */
 static inline unsigned palustrode_door(const uint8_t *state) { return state[PALUSTRODE_DOOR_AT]; }
+
+/* The length of the reply to send after palustrode_request returned r: that of the reply granted, or ten bytes for a CAN'T; 0 where nothing was
+ * written, since a message that is no request gets no reply. */
+static inline size_t palustrode_reply_length(int64_t r) {
+    if (r >= 0) return (size_t)r;
+    return r <= -PALUSTRODE_REFUSED_NO_PROCESS ? PALUSTRODE_HEADER_BYTES : 0;
+}
 
 /* Whether to send an acknowledgement, of as many words as were returned, after a packet of this type that returned r. */
 static inline int palustrode_acknowledged(int64_t r, uint64_t type) { return r >= 0 && type != PALUSTRODE_GO_REPLY; }

@@ -3,3 +3,4 @@ pub mod Called
 pub mod Library
 pub mod Desk
 pub mod InRange
+pub mod Version

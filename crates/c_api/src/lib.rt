@@ -6,3 +6,4 @@ pub mod in_range;
 mod narrow;
 mod result;
 pub mod theorems;
+mod version;
