@@ -1,4 +1,6 @@
 // The bench program once more: its stored test has the cases of document 01 that are run and not proved, and lines of every kind.
+#![tactic(auto)]
+
 fn main() {
     console::bench();
 }

@@ -5,7 +5,7 @@ ghost use Rattle.breakpoints.specs.Entry.{free, breakpoint_at, with_count, with_
 // One of the eight entries of a process. A planted breakpoint, that is one in use and not lifted, has 3, 0 stored at its
 // address and the word that was there saved; a lifted one has its word back in memory for one instruction, until the process next
 // stops or reports. The setter is the host that set it; of a free entry it is 0.
-#[derive(Drop)]
+#[derive(Clone, Copy)]
 pub struct Breakpoint {
     pub lifted: bool,
     pub setter: u8,

@@ -6,7 +6,7 @@ ghost use Rattle.breakpoints.specs.EntryQuery.{matches};
 use crate::entry::Breakpoint;
 
 // An entry that is free, that is lifted, or that is a breakpoint at this address.
-#[derive(Drop)]
+#[derive(Clone, Copy)]
 pub enum EntryQuery {
     Free,
     Lifted,

@@ -1,4 +1,6 @@
 // A breakpoint: its entry, what it may be looked for as, and its word in memory.
+#![tactic(auto)]
+
 mod entry;
 mod entry_query;
 mod memory;

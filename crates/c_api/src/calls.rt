@@ -93,7 +93,7 @@ fn words_of(words: &[u8]) -> [u16; 9]
     ensures { result ≡ vector_of words.now }
 {
     let mut vector = [0u8; 18];
-    bytes::copy(words, &mut vector);
+    vector.copy_from_slice(words);
     vector_of(vector)
 }
 

@@ -1,5 +1,7 @@
 // The calls of a recording: what each kind of line does to the bytes of a state and to memory, and what it prints. Adding a kind of line
 // takes a definition in specs/Meaning.antt and a function here.
+#![tactic(auto)]
+
 mod call;
 mod listing;
 mod number;

@@ -11,7 +11,7 @@ const MOST_SIZE: u16 = 65535;
 pub const NO_DOOR: u8 = 255;
 
 // Where in the line the reading stands.
-#[derive(Drop)]
+#[derive(Clone, Copy)]
 pub enum Place {
     // After the word: a blank may follow.
     Behind,
@@ -38,7 +38,7 @@ pub enum Place {
 }
 
 // Where the reading after the word stands, which process was named last, which were listed, the size of each, and the process of the Pup door.
-#[derive(Drop)]
+#[derive(Clone, Copy)]
 pub struct Listing {
     pub place: Place,
     pub process: usize,

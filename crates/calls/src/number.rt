@@ -5,7 +5,7 @@ ghost use Rattle.calls.specs.Words.{last_of, words_of, process_in, kind_in, reas
 use decimal::Number;
 
 // The nine words, and the last of them as it was read.
-#[derive(Drop)]
+#[derive(Clone, Copy)]
 pub struct Words {
     pub last: Number,
     pub words: [u16; 9],
@@ -31,7 +31,7 @@ pub(crate) fn words_behind(number: Number, line: &[u8]) -> Words
 }
 
 // The numbers of a report, if they are right.
-#[derive(Drop)]
+#[derive(Clone, Copy)]
 pub struct Report {
     pub ok: bool,
     pub process: u8,

@@ -23,7 +23,7 @@ const MOST_WORDS: usize = 64;
 const MOST_ID: usize = 4294967295;
 
 // The data words, of which so many stand at the start, and the last number of the line as it was read.
-#[derive(Drop)]
+#[derive(Clone, Copy)]
 pub struct Data {
     pub last: Number,
     pub words: [u16; MOST_WORDS],
@@ -58,7 +58,7 @@ fn data_behind(number: Number, line: &[u8]) -> Data
 }
 
 // The numbers of a packet, if they are right.
-#[derive(Drop)]
+#[derive(Clone, Copy)]
 pub struct Packet {
     pub ok: bool,
     pub kind: u8,

@@ -13,7 +13,7 @@ use gateway::{line_length, text_line};
 use lines::{Phase, Scan, at_most, put};
 
 // How the text line that answers a call is shown.
-#[derive(Drop)]
+#[derive(Clone, Copy)]
 pub enum Shown {
     // As in a recording: after the number of the call, or after a bar and beside the notice of a report.
     Recorded,

@@ -7,7 +7,7 @@ use crate::rule::rule_decision;
 use format::Header;
 use process::Process;
 
-#[derive(Drop)]
+#[derive(Clone, Copy)]
 pub enum Decision {
     // The process changes; for BREAK and UNBREAK, in this entry.
     Allow(usize),

@@ -2,6 +2,8 @@
 // that of recordings, and that of the text door.
 //
 // What a person types is answered line by line; what comes through a pipe is read and written in blocks.
+#![tactic(auto)]
+
 mod input;
 
 pub use input::{bench, replay, text_door};

@@ -1,5 +1,7 @@
 // Numbers as text: decimal, without sign or leading zeros. They are read at an index of a line, each after a single blank, and written
 // from an index of a buffer on.
+#![tactic(auto)]
+
 mod field;
 mod number;
 pub mod theorems;

@@ -4,7 +4,7 @@ ghost use Rattle.decimal.specs.Numeral.{digit_of, plain};
 ghost use Rattle.decimal.specs.Read.{wrong, begun, checked, number_at, behind, ends_line};
 
 // A number, or nothing where it or one before it was wrong; and the index after it.
-#[derive(Drop)]
+#[derive(Clone, Copy)]
 pub struct Number {
     pub ok: bool,
     pub value: usize,

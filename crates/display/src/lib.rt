@@ -1,4 +1,6 @@
 // Lines of text: the one that shows a process, the one that answers a call, and the one that says why a request is refused.
+#![tactic(auto)]
+
 mod answer;
 mod entry;
 mod reason;

@@ -11,7 +11,7 @@ use crate::write::{Fields, write_fields};
 const FAILED_FLAG: u32 = 4294967295;
 
 // An answer: process and request as they were asked, whether it failed, and the response, which is the error number where it did.
-#[derive(Drop)]
+#[derive(Clone, Copy)]
 pub struct TextAnswer {
     pub pid: u32,
     pub letter: u8,
@@ -20,7 +20,7 @@ pub struct TextAnswer {
 }
 
 // What reading a text as an answer gives: whether it is one, and which; all 0 where it is none.
-#[derive(Drop)]
+#[derive(Clone, Copy)]
 pub struct AnswerLine {
     pub ok: bool,
     pub answer: TextAnswer,

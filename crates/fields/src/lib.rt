@@ -1,5 +1,7 @@
 // Lines of four fields as text: a number, a letter and two numbers, written and read. Numbers are `0x` and lower-case hex digits without
 // leading zeros, of 32 bits; one blank stands between two fields, and one newline at the end.
+#![tactic(auto)]
+
 mod answer;
 mod letters;
 mod number;

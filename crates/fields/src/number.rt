@@ -3,7 +3,7 @@ ghost use Rattle.std.specs.Prelude.{◌≡◌, ◌-◌, ◌≤◌, length, take,
 ghost use Rattle.fields.specs.Hex.{hex_value, plain, wrong, checked, digits_at, number_at, number_after};
 
 // A number, or nothing; and the index after it.
-#[derive(Drop)]
+#[derive(Clone, Copy)]
 pub struct Number {
     pub ok: bool,
     pub value: u32,

@@ -6,7 +6,7 @@ use crate::letters::is_known;
 use crate::number::Number;
 
 // The first two fields, or nothing; and the index after them.
-#[derive(Drop)]
+#[derive(Clone, Copy)]
 pub struct Head {
     pub ok: bool,
     pub pid: u32,
@@ -15,7 +15,7 @@ pub struct Head {
 }
 
 // What reading a text gives: whether the first two fields can be read, whether the text is a whole line, and the fields, 0 where not read.
-#[derive(Drop)]
+#[derive(Clone, Copy)]
 pub struct Line {
     pub headed: bool,
     pub whole: bool,

@@ -8,7 +8,7 @@ ghost use Rattle.fields.specs.Written.{Put, blank_numeral, written, line_bytes};
 pub const LINE_BYTES: usize = 35;
 
 // The four fields of a line: process, request, and two numbers.
-#[derive(Drop)]
+#[derive(Clone, Copy)]
 pub struct Fields {
     pub pid: u32,
     pub letter: u8,

@@ -9,7 +9,7 @@ use crate::sizes::HEADER_BYTES;
 use words::{high_byte, low_byte, word_of};
 
 // The fields of a message. HOST is the sender of a request, and the host that an answer is for.
-#[derive(Drop)]
+#[derive(Clone, Copy)]
 pub struct Header {
     pub host: u8,
     pub cmd: u8,
@@ -56,7 +56,7 @@ pub fn put_string(string: &[u8], buffer: &mut [u8])
     requires { header_bytes + length string.now ≤ length buffer.old }
     ensures { buffer.new ≡ paste buffer.old header_bytes string.now (length string.now) }
 {
-    bytes::copy(string, &mut buffer[HEADER_BYTES..]);
+    buffer[HEADER_BYTES..HEADER_BYTES + string.len()].copy_from_slice(string);
 }
 
 // TYPE, LINK and STYPE are right.

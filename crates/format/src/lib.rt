@@ -5,6 +5,8 @@
 //     byte   0     1     2     3      4    5    6 and 7  8 and 9  from 10
 //            TYPE  HOST  LINK  STYPE  CMD  PID  ARG1     ARG2     string
 //            0           255   0
+#![tactic(auto)]
+
 mod answer;
 mod header;
 mod outcome;

@@ -5,14 +5,14 @@ ghost use Rattle.format.specs.Outcome.{number_of};
 use crate::header::Header;
 
 // Granted with the length written, or refused with the number of the first test that failed.
-#[derive(Drop)]
+#[derive(Clone, Copy)]
 pub enum Outcome {
     Granted(usize),
     Refused(u8),
 }
 
 // What reading finds: a message's fields, or the number of the first test that failed.
-#[derive(Drop)]
+#[derive(Clone, Copy)]
 pub enum Reading {
     Message(Header),
     Refused(u8),

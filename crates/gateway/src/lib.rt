@@ -1,6 +1,8 @@
 // The gateway: what answers the requests of the network, the text lines of the bench, the packets of the Pup door and the reports of the machine. Its state is a lent buffer
 // of 785 bytes: a call tests them where they lie, reads the one process that it goes to, and writes that one back. All processes lie in one lent
 // memory, and the state says where each begins; only CREATE and DESTROY change that.
+#![tactic(auto)]
+
 mod fresh;
 mod gone;
 mod kept;

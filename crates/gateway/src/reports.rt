@@ -15,7 +15,7 @@ use service::{check_report, report_for_process};
 use state_bytes::read_process_at;
 
 // What a report returns: its outcome, with the length of the notice, and the length of the line that it answers beside it.
-#[derive(Drop)]
+#[derive(Clone, Copy)]
 pub struct Told {
     pub outcome: Outcome,
     pub line: usize,

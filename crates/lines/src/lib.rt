@@ -1,4 +1,6 @@
 // Text for people and pipes: bytes as hex pairs. Lines may be of any length and come in parts.
+#![tactic(auto)]
+
 mod count;
 mod print;
 mod scan;

@@ -4,7 +4,7 @@ ghost use Rattle.lines.specs.Hex.{value};
 ghost use Rattle.lines.specs.Scan.{opened, next, full, made, after, bytes_of, kept, filled};
 
 // Where in a line the reading stands.
-#[derive(Drop)]
+#[derive(Clone, Copy)]
 pub enum Phase {
     // At the start, or after a blank: a pair has to follow.
     Open,
@@ -17,7 +17,7 @@ pub enum Phase {
 }
 
 // A line read so far, and how many of its bytes are kept.
-#[derive(Drop)]
+#[derive(Clone, Copy)]
 pub struct Scan {
     pub phase: Phase,
     pub len: usize,

@@ -1,5 +1,5 @@
 -- Laws of sums and of the greatest of some numbers: what is known of each number below n gives what is known of the sum. Assumes nothing.
-use mathlib.Core.Path.{◌≡◌, refl}
+use mathlib.Core.Path.{◌≡◌, refl, sym, ap, ◌∙◌}
 use mathlib.Core.Bool.{Bool, true, false, cond}
 use mathlib.Core.Logic.{◌⊎◌, inl, inr, ⊎_elim}
 use Prim.Native.Nat.{ℕ, zero, suc, ◌+◌, ◌≤◌, ◌<◌}
@@ -86,7 +86,7 @@ unfolding total
 total-front f p zero h = let e : p ≡ 0 = omega arith in rw e
 total-front f p (suc n) h =
     ⊎_elim
-    (λ (e : p ≡ suc n). rw e (total-alike (λ (k : ℕ). cond (ltb k (suc n)) (f k) 0) f (suc n) (λ k l. rw (lt-ltb k (suc n) l))))
+    (λ (e : p ≡ suc n). total-alike (λ (k : ℕ). cond (ltb k p) (f k) 0) f (suc n) (λ k l. let i : k < p = omega arith in rw (lt-ltb k p i)) ∙ ap (total f) (sym e))
     (λ (l : p < suc n). rw (le-ltb n p (omega arith)) (omega (arith, total-front f p n (omega arith))))
     (eq-or-lt_of_le h)
 

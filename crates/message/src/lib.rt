@@ -1,4 +1,6 @@
 // How each end writes and reads the messages of RFC 643: the desk writes requests and reads answers, the gateway the other way round.
+#![tactic(auto)]
+
 mod answer;
 mod exchange;
 mod request;

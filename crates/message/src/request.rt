@@ -17,7 +17,7 @@ pub fn write_request(h: Header, string: &[u8], buffer: &mut [u8]) -> Outcome
 }
 
 // What the gateway finds in any bytes: a request, with the form of its op code, or the number of the first test that failed.
-#[derive(Drop)]
+#[derive(Clone, Copy)]
 pub enum Incoming {
     Request(Header, Form),
     Refused(u8),

@@ -27,6 +27,8 @@
 //    66                       PID ---- ---- 18     BPT, a notice
 //    67                       PID ---- ---- 18     TTRAP, a notice
 //   CAN'T: CMD + 128, the request's fields and no string; none for NOP.
+#![tactic(auto)]
+
 mod codes;
 mod table;
 

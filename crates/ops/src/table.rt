@@ -5,7 +5,7 @@ ghost use Rattle.ops.specs.Table.{row_of, request_form, answer_form, reply_form,
 use crate::codes::{CANT, NOP, NOTICE};
 
 // What stands after the ten bytes of the header.
-#[derive(Drop)]
+#[derive(Clone, Copy)]
 pub enum Carried {
     // No string.
     Nothing,
@@ -16,7 +16,7 @@ pub enum Carried {
 }
 
 // How a message uses ARG1.
-#[derive(Drop)]
+#[derive(Clone, Copy)]
 pub enum ArgUse {
     // It is zero.
     Unused,
@@ -27,7 +27,7 @@ pub enum ArgUse {
 }
 
 // Which fields a message uses, and what it carries. An unused field is zero.
-#[derive(Drop)]
+#[derive(Clone, Copy)]
 pub struct Form {
     pub pid: bool,
     pub arg1: ArgUse,
@@ -36,18 +36,18 @@ pub struct Form {
 }
 
 // One op code: the form of its request, and the form of the reply that grants it.
-#[derive(Drop)]
+#[derive(Clone, Copy)]
 pub struct Op(pub Form, pub Form);
 
 // What the table has for a CMD.
-#[derive(Drop)]
+#[derive(Clone, Copy)]
 pub enum Row {
     Listed(Op),
     Unlisted,
 }
 
 // The form that belongs to a CMD.
-#[derive(Drop)]
+#[derive(Clone, Copy)]
 pub enum Found {
     Known(Form),
     Unknown,

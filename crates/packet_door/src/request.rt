@@ -4,7 +4,7 @@ ghost use Rattle.packet_door.specs.At.{request_of};
 
 use packets::{FETCH, GO, STORE};
 
-#[derive(Drop)]
+#[derive(Clone, Copy)]
 pub enum PacketRequest {
     // A word is put into the memory.
     Store,

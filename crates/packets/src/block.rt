@@ -6,7 +6,7 @@ use crate::data::asked;
 use crate::units::{ByteCount, WordAddress, WordCount};
 
 // What an acknowledgement carries after its first two words.
-#[derive(Drop)]
+#[derive(Clone, Copy)]
 pub enum Block {
     // No block.
     Nothing,

@@ -1,5 +1,7 @@
 // Packets of the Pup door, by themselves: their types, words and bytes as units, the block that an acknowledgement carries, its words, and the IDs.
 // Knows nothing of processes and hosts.
+#![tactic(auto)]
+
 mod ack;
 mod block;
 mod data;

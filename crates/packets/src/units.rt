@@ -3,19 +3,19 @@ ghost use Rattle.std.specs.Prelude.{◌≡◌};
 ghost use Rattle.packets.specs.Units.{first_byte, second_byte, in_bytes, holds};
 
 // The number of a word of a process.
-#[derive(Drop)]
+#[derive(Clone, Copy)]
 pub struct WordAddress(pub u16);
 
 // So many words.
-#[derive(Drop)]
+#[derive(Clone, Copy)]
 pub struct WordCount(pub u16);
 
 // The number of a byte of a process.
-#[derive(Drop)]
+#[derive(Clone, Copy)]
 pub struct ByteAddress(pub usize);
 
 // So many bytes.
-#[derive(Drop)]
+#[derive(Clone, Copy)]
 pub struct ByteCount(pub usize);
 
 impl WordAddress {

@@ -15,7 +15,7 @@ impl Process {
     {
         let zeros = [0u8; MEMORY_BYTES];
         let count = size as usize;
-        bytes::copy(&zeros[..count], bytes);
+        bytes.copy_from_slice(&zeros[..count]);
         Process::fresh(true, host, Run::Stopped, size)
     }
 

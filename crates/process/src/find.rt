@@ -6,7 +6,7 @@ use crate::record::{ENTRIES, Process};
 use breakpoints::EntryQuery;
 
 // What a search among the entries finds.
-#[derive(Drop)]
+#[derive(Clone, Copy)]
 pub enum FoundEntry {
     Index(usize),
     Nowhere,

@@ -1,4 +1,6 @@
 // The record of one process: what is known of it, its breakpoints, and whether it is sound.
+#![tactic(auto)]
+
 mod break_requests;
 mod debug_requests;
 mod existence;

@@ -15,7 +15,7 @@ impl Process {
         ensures { out.new ≡ examined at (length out.old) (local self bytes.now) }
     {
         let end = at + out.len();
-        bytes::copy(&bytes[at..end], out);
+        out.copy_from_slice(&bytes[at..end]);
         self.overlay_saved_words(at, out);
     }
 
@@ -28,7 +28,7 @@ impl Process {
     {
         let p = self.exchange(bytes);
         let end = at + string.len();
-        bytes::copy(string, &mut bytes[at..end]);
+        bytes[at..end].copy_from_slice(string);
         p.exchange(bytes)
     }
 
@@ -40,7 +40,7 @@ impl Process {
         let vector = self.vector;
         let mut words = vector_bytes(vector);
         let end = at + string.len();
-        bytes::copy(string, &mut words[at..end]);
+        words[at..end].copy_from_slice(string);
         self.with_vector(vector_of(words))
     }
 }

@@ -18,7 +18,7 @@ pub const VECTOR_BYTES: usize = 18;
 
 // What is known of a process. Host 0 means nobody; its bytes are as many as its size says; the vector is R0 to R5, SP, PC, PS; the number is
 // that of its breakpoints.
-#[derive(Drop)]
+#[derive(Clone, Copy)]
 pub struct Process {
     pub there: bool,
     pub host: u8,

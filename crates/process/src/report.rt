@@ -14,7 +14,7 @@ use run_state::{BPT, Run};
 use session::Owed;
 
 // What a report comes to.
-#[derive(Drop)]
+#[derive(Clone, Copy)]
 pub enum Verdict {
     // The process stops, and this host is told; 0 is nobody.
     Stops(u8),
@@ -25,7 +25,7 @@ pub enum Verdict {
 }
 
 // A process after a report, the host that is told of it, 0 being nobody, and the owed answer that it gives.
-#[derive(Drop)]
+#[derive(Clone, Copy)]
 pub struct ReportResult {
     pub process: Process,
     pub told: u8,

@@ -1,9 +1,11 @@
 // Why a request is refused: the first test that fails, with the facts that go with it. Knows nothing of processes and messages.
+#![tactic(auto)]
+
 ghost use Rattle.std.specs.Prelude.{◌≡◌};
 ghost use Rattle.reasons.specs.Reason.{limit_number, reason_number, two_facts};
 
 // Which limit a request passes.
-#[derive(Drop)]
+#[derive(Clone, Copy)]
 pub enum Limit {
     // The end of the process's memory, or of the vector.
     End,
@@ -14,7 +16,7 @@ pub enum Limit {
 }
 
 // Granted, or the first test that fails and its facts.
-#[derive(Drop)]
+#[derive(Clone, Copy)]
 pub enum Reason {
     Granted,
     // 3: the length of the message.

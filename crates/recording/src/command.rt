@@ -5,7 +5,7 @@ ghost use Rattle.recording.specs.Command.{begins, short_command, command_of};
 use crate::LONGEST_LINE;
 
 // The first word of a line.
-#[derive(Drop)]
+#[derive(Clone, Copy)]
 pub enum Command {
     Start,
     Request,

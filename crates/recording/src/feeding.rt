@@ -12,14 +12,14 @@ use calls::{LONGEST_TEXT, MEMORY, STATE};
 use lines::at_most;
 
 // What was read of the line after one character, and how many bytes of text were put.
-#[derive(Drop)]
+#[derive(Clone, Copy)]
 pub struct Step {
     pub partial: Partial,
     pub len: usize,
 }
 
 // What was read of the line after a block; how much of the block was used; and how many bytes of text were put.
-#[derive(Drop)]
+#[derive(Clone, Copy)]
 pub struct Fed {
     pub partial: Partial,
     pub used: usize,

@@ -8,7 +8,7 @@ use gateway::fresh_start;
 use process::MEMORY_BYTES;
 
 // What the lines are.
-#[derive(Drop)]
+#[derive(Clone, Copy)]
 pub enum Language {
     // The pairs of a request each, to a gateway with process 2 alone.
     Bench,

@@ -2,6 +2,8 @@
 // line is a call, and that of the text door, where a line is a text line or a call. What a line does is carried out, and what came of it
 // printed; a line that is none prints a question mark and changes nothing. A text may come in blocks of any length. Nothing here reads or
 // writes: see `feed`.
+#![tactic(auto)]
+
 mod command;
 mod feeding;
 mod language;

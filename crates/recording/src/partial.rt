@@ -7,7 +7,7 @@ use crate::MOST_COUNTED;
 use lines::Phase;
 
 // What was read of a line: how many bytes of it are kept, how many characters it has, kept or not, and where its pairs led.
-#[derive(Drop)]
+#[derive(Clone, Copy)]
 pub struct Partial {
     pub len: usize,
     pub size: usize,

@@ -1,5 +1,7 @@
 // Prints a line for each kind of refusal: the request's fields, the number and the fact of the reason, and the sentence that says it. The
 // gate compares all of it with the stored output.
+#![tactic(auto)]
+
 mod cases;
 mod show;
 

@@ -1,5 +1,7 @@
 // The run state of a process: its cases, their numbers, every question that is asked of one, and what a machine report of each kind
 // makes of it. What is asked of a new run state is answered in this crate alone.
+#![tactic(auto)]
+
 ghost use Rattle.std.specs.Prelude.{◌≡◌};
 ghost use Rattle.run_state.specs.RunState.{run_number, is_run_number, run_of, moving, passing, stepping_or_passing, stopped_or_at_break, at_break, released, after_pass, goes_on, accepts, run_after};
 
@@ -16,7 +18,7 @@ pub const TTRAP: u8 = 3;
 pub const LAST_RUN_NUMBER: u8 = 5;
 
 // What a process is doing. Passing: it executes the one instruction under a breakpoint that was lifted, and then runs.
-#[derive(Drop)]
+#[derive(Clone, Copy)]
 pub enum Run {
     Running,
     Stepping,

@@ -1,4 +1,6 @@
 // Why a request is refused, as a sentence for people; and the names of the op codes and of the run states.
+#![tactic(auto)]
+
 mod count;
 mod name;
 mod op_name;

@@ -1,4 +1,6 @@
 // A request to one process, or a report about it: what its tests find, what it does, and what is answered.
+#![tactic(auto)]
+
 mod effect;
 mod reply;
 mod report;

@@ -5,7 +5,7 @@ ghost use Rattle.service.specs.At.{target_of};
 use format::Header;
 use ops::{CREATE, Form};
 
-#[derive(Drop)]
+#[derive(Clone, Copy)]
 pub enum Target {
     // The process with this number, which the request names.
     Named(usize),

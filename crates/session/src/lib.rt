@@ -1,5 +1,7 @@
 // What belongs to a debugging session of a process, and ends with it: the answer that is owed to the host of the text lines, the watcher, and the
 // Go that waits.
+#![tactic(auto)]
+
 ghost use Rattle.std.specs.Prelude.{◌≡◌, ◌<◌};
 ghost use Rattle.session.specs.Session.{owed_number, is_owed_number, owed_of, owed_letter, owes, no_go, new_go, ticked_go, waits_for, answers_go, is_last_tick, no_session, with_owed, with_watcher, with_go, owed_sound, watcher_sound, go_sound, session_sound};
 
@@ -15,7 +17,7 @@ pub const PUP_HOST: u8 = 254;
 pub const LAST_OWED_NUMBER: u8 = 2;
 
 // The answer that is owed: none, or the one to a `c` or an `s`.
-#[derive(Drop)]
+#[derive(Clone, Copy)]
 pub enum Owed {
     Nothing,
     Continue,
@@ -23,7 +25,7 @@ pub enum Owed {
 }
 
 // A Go that waits for its GoReply, with the ticks since the first of its ID came; or none.
-#[derive(Drop)]
+#[derive(Clone, Copy)]
 pub struct Go {
     pub waits: bool,
     pub ticks: u8,
@@ -31,7 +33,7 @@ pub struct Go {
 }
 
 // What belongs to the debugging session of a process.
-#[derive(Drop)]
+#[derive(Clone, Copy)]
 pub struct Session {
     pub owed: Owed,
     // The host that watches; 0 is nobody.

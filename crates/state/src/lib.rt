@@ -1,4 +1,6 @@
 // The state of the gateway as the definitions have it: eight process records, and where in the one memory each process's bytes lie.
+#![tactic(auto)]
+
 mod memory;
 mod sizes;
 pub mod theorems;

@@ -20,6 +20,8 @@
 //             6, 7     the saved word, as it stood in memory
 //     2 bytes for each of the eight processes, from byte 768 on: where it begins in memory
 //     1 byte, 784: the process of the Pup door
+#![tactic(auto)]
+
 mod door;
 mod entry;
 mod layout;

@@ -133,7 +133,7 @@ fn put_vector(vector: [u16; 9], bytes: &mut [u8])
     ensures bytes_after { bytes.new ≡ overlay (low_first vector) bytes.old }
 {
     let words = vector_bytes(vector);
-    bytes::copy(&words, bytes);
+    bytes[..words.len()].copy_from_slice(&words);
 }
 
 // Writes the record.

@@ -6,7 +6,7 @@ use fields::{
     CONTINUE, READ_CODE, READ_DATA, READ_REGISTER, WRITE_CODE, WRITE_DATA, WRITE_REGISTER,
 };
 
-#[derive(Drop)]
+#[derive(Clone, Copy)]
 pub enum TextRequest {
     // `i` and `d`: a word of memory.
     ReadWord,

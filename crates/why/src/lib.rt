@@ -1,4 +1,6 @@
 // Why a request to one process is refused: the first of the tests that fails, by its number, and the facts that go with it.
+#![tactic(auto)]
+
 mod decided;
 mod facts;
 

@@ -1,4 +1,6 @@
 // 16-bit words as bytes, the nine words of a state vector as 18 bytes, low byte first, and flags as bytes.
+#![tactic(auto)]
+
 ghost use Rattle.std.specs.Prelude.{◌≡◌};
 ghost use Rattle.lists.specs.Flag.{flag};
 ghost use Rattle.lists.specs.Word.{high, low, word, low_first, vector_of};

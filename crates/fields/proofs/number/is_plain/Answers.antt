@@ -1,0 +1,30 @@
+-- `fields::number::is_plain` meets its contract, by how many digits there are. Assumes nothing.
+use mathlib.Core.Path.{◌≡◌, sym, ap, ◌∙◌}
+use mathlib.Core.Bool.{not}
+use Prim.Native.Nat.{ℕ, ◌-◌}
+use native.Mathlib.Nat.{add-zero}
+use native.Mathlib.Omega.{arith}
+use borrow.Author.Rules.{rules}
+use lib.ListN.{drop, get_or, length-drop}
+use lib.Seq.{get_or-drop}
+use lib.Dec.{eqb}
+use Rattle.fields.proofs.ReadLaws.{plain-none, plain-single, plain-several}
+use Rattle.fields.proofs.number.is_plain.Goals as goal
+
+pub returns-then-end-at : goal.returns-then-end-at
+returns-then-end-at c =
+    let a = c.args in
+    sym (plain-none (drop c.args.at c.args.text.now) (c.args.end - c.args.at) (omega arith))
+
+pub returns-then-end-at-eq1 : goal.returns-then-end-at-eq1
+returns-then-end-at-eq1 c =
+    let a = c.args in
+    sym (plain-single (drop c.args.at c.args.text.now) _ c.if-end-at-eq1.true (omega (arith, length-drop c.args.at c.args.text.now, c.requires)))
+
+pub returns : goal.returns
+returns c =
+    let a = c.args in
+    let rest = drop c.args.at c.args.text.now in
+    let one : get_or c.args.text.now c.args.at 0 ≡ get_or rest 0 0 = sym (get_or-drop c.args.at c.args.text.now 0 0 ∙ ap (λ (k : ℕ). get_or c.args.text.now k 0) (add-zero c.args.at)) in
+    ap (λ (k : ℕ). not (eqb k 48)) one
+    ∙ sym (plain-several rest (c.args.end - c.args.at) (omega arith) (omega (arith, length-drop c.args.at c.args.text.now, c.requires)))

@@ -1,0 +1,11 @@
+-- `fields::read::Head::of` meets its contract: the number at the start, and what follows it. Assumes nothing.
+use mathlib.Core.Path.{ap, ◌∙◌}
+use borrow.Author.Rules.{rules}
+use Rattle.fields.specs.Read.{head_after, head_of}
+use Rattle.fields.proofs.read.Head.of.Goals as goal
+
+pub returns : goal.returns
+unfolding head_of
+returns c =
+    let a = c.args in
+    c.after.ensures ∙ ap (head_after c.args.text.now) c.at.ensures

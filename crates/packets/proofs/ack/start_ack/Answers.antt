@@ -1,0 +1,34 @@
+-- `packets::ack::start_ack` meets its contract, by the block. Assumes nothing.
+use mathlib.Core.Path.{sym, ap}
+use native.Mathlib.Omega.{arith}
+use borrow.Author.Rules.{rules}
+use lib.ListN.{length, length-set}
+use Rattle.packets.specs.Ack.{ack_start, ack_length}
+use Rattle.packets.proofs.AckLaws.{length-with, start-with, two-set, three-set}
+use Rattle.packets.proofs.ack.start_ack.Goals as goal
+
+pub bounds-out-1 : goal.bounds-out-1
+bounds-out-1 c = simp length-set (omega (arith, c.requires))
+
+pub bounds-out-2 : goal.bounds-out-2
+bounds-out-2 c = simp length-set (omega (arith, c.requires))
+
+pub overflow_add-result : goal.overflow_add-result
+overflow_add-result c = omega (arith, length-with c.in-Words.is, c.requires.block_bound)
+
+pub returns-in-Nothing : goal.returns-in-Nothing
+unfolding ack_length ack_start
+returns-in-Nothing c =
+    let a = c.args in
+    let none = c.in-Nothing.is in record {
+      result_value = sym (ap ack_length none);
+      out_after = rw none (two-set c.args.out.now c.args.at.0 c.args.second (omega (arith, c.requires.ack_words_in_bounds)));
+    }
+
+pub returns-in-Words : goal.returns-in-Words
+returns-in-Words c =
+    let a = c.args in
+    let some = c.in-Words.is in record {
+      result_value = omega (arith, length-with some);
+      out_after = rw (start-with c.args.at c.args.second some) (three-set c.args.out.now c.args.at.0 c.args.second _ (omega (arith, c.requires.ack_words_in_bounds)));
+    }

@@ -1,0 +1,51 @@
+-- `packets::block::halve_to_fit` meets its contract. The loop's invariant: the lengths that are left lead to the block. Assumes nothing.
+use mathlib.Core.Path.{◌≡◌, refl, sym, ap, ◌∙◌}
+use mathlib.Core.Bool.{true, false}
+use Prim.Native.Nat.{ℕ, ◌^◌, ◌<◌}
+use native.Mathlib.Omega.{arith}
+use borrow.Author.Rules.{rules}
+use Rattle.packets.specs.declared.units.WordAddress.{WordAddress}
+use Rattle.packets.specs.declared.units.WordCount.{WordCount}
+use Rattle.packets.specs.declared.block.Block.TheVariants.{Words}
+use Rattle.packets.specs.Units.{holds}
+use Rattle.packets.specs.Block.{none_or_sendable, base_of, half, halved_to_fit}
+use Rattle.packets.proofs.LengthLaws.{some-sendable, none-or-most, half-sendable}
+use Rattle.packets.proofs.BlockLaws.{halved_none, halved-fits, halved-next}
+use Rattle.packets.proofs.block.halve_to_fit.Goals as goal
+
+pub loop-count-init : goal.loop-count-init
+loop-count-init c = (6, omega (arith, none-or-most c.args.longest.0 c.requires), c.requires, refl)
+
+pub base_of-base-requires : goal.base_of-base-requires
+base_of-base-requires c =
+    let l = c.loop-count in
+    some-sendable c.loop-count.count.0 c.loop-count.invariant.2 c.loop-count-test.true
+
+pub returns-then-holds : goal.returns-then-holds
+returns-then-holds c =
+    let l = c.loop-count in
+    let a = c.args in
+    let fits : holds c.args.size (base_of c.args.at c.loop-count.count) c.loop-count.count ≡ true =
+    ap (λ (base : WordAddress). holds c.args.size base c.loop-count.count) (sym c.base_of-base.ensures) ∙ sym c.holds.ensures ∙ c.if-holds.true in
+    ap (λ (base : WordAddress). Words base c.loop-count.count) c.base_of-base.ensures
+    ∙ sym (halved-fits c.args.size c.args.at c.loop-count.count c.loop-count.invariant.0 c.loop-count-test.true c.loop-count.invariant.1 fits)
+    ∙ c.loop-count.invariant.3
+
+pub loop-count-smaller : goal.loop-count-smaller
+loop-count-smaller c = omega (arith, c.loop-count-test.true, ap (λ (n : WordCount). n.0) c.half-count.ensures)
+
+pub loop-count-preserved : goal.loop-count-preserved
+loop-count-preserved c =
+    let l = c.loop-count in
+    let a = c.args in
+    let past : holds c.args.size (base_of c.args.at c.loop-count.count) c.loop-count.count ≡ false =
+    ap (λ (base : WordAddress). holds c.args.size base c.loop-count.count) (sym c.base_of-base.ensures) ∙ sym c.holds.ensures ∙ c.if-holds.false in
+    let next = halved-next c.args.size c.args.at c.loop-count.count c.loop-count.invariant.0 c.loop-count-test.true c.loop-count.invariant.1 past in
+    let rest = half-sendable c.loop-count.count.0 (some-sendable c.loop-count.count.0 c.loop-count.invariant.2 c.loop-count-test.true) in
+    rw c.half-count.ensures (next.0, next.1, rest, next.2 ∙ c.loop-count.invariant.3)
+
+pub returns : goal.returns
+returns c =
+    let l = c.loop-count in
+    let a = c.args in
+    sym (halved_none c.args.size c.args.at c.loop-count.count c.loop-count.invariant.0 (omega (arith, c.loop-count-test.false))) ∙ c.loop-count.invariant.3
