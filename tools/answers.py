@@ -123,7 +123,7 @@ class Turner:
                 key = tuple(map(norm, fields[:n]))
                 if key in self.args:
                     return self.args[key] + fields[n:]
-            return fields
+            return ["well_formed"] + fields[1:] if fields[0] == "well-formed" else fields
         if arm:
             best = None
             for new, old, path in arm[2]:
