@@ -70,6 +70,10 @@ paste-within at ys buffer =
     let none : drop (length ys) (take (length ys) rest) ≡ [] = drop_of_length-le (take (length ys) rest) short in
     simp (size, none, append-nil, append_assoc, drop-drop)
 
+-- a list of the same length in place of a lent part within the buffer, in the shape in which the part comes back
+pub paste-lent : (at : ℕ) (ys buffer : List ℕ) → take at buffer ++ (ys ++ drop (at + length ys - at) (drop at buffer)) ≡ paste buffer at ys (length ys)
+paste-lent at ys buffer = let size : at + length ys - at ≡ length ys = omega arith in simp (size, take-length, append_assoc, drop-drop)
+
 -- a list copied over all of a buffer
 pub copy-whole : (xs buffer : List ℕ) → length buffer ≡ length xs → take (length xs) xs ++ drop (length xs) buffer ≡ xs
 copy-whole xs buffer e = rw (take-length xs, ← e, drop-length buffer) (append-nil xs)

@@ -1,0 +1,28 @@
+-- `process::record::Process::keeps_rules` meets its contract. The loop's invariant: every entry passed keeps the rules. Assumes nothing.
+use mathlib.Core.Bool.{true, ◌||◌}
+use mathlib.Core.Path.{◌≡◌, refl, sym, ap, ◌∙◌}
+use mathlib.Core.List.{List}
+use Prim.Native.Nat.{◌≤◌, ◌-◌}
+use native.Mathlib.Omega.{arith}
+use borrow.Author.Tests.{not-true, not-false, le-ltb}
+use borrow.Author.Rules.{rules}
+use lib.ListN.{length, get_or, length-map}
+use lib.Dec.{eqb, ltb}
+use Rattle.breakpoints.specs.declared.entry_query.EntryQuery.TheVariants.{Lifted}
+use Rattle.breakpoints.specs.EntryQuery.{matches}
+use Rattle.process.specs.Find.{find}
+use Rattle.process.proofs.FindLaws.{find-next}
+use Rattle.breakpoints.specs.declared.entry.Breakpoint.{Breakpoint}
+use Rattle.breakpoints.specs.Entry.{free}
+use Rattle.session.specs.Session.{session_sound}
+use Rattle.process.specs.Record.{count_used}
+use Rattle.process.specs.Sound.{absent_has_no_host, entry_sound, keeps_rules}
+use Rattle.lists.specs.Every.{below}
+use Rattle.lists.proofs.Every.{below_more, below_fails}
+use Rattle.process.proofs.record.Process.keeps_rules.Given as goal
+
+abbrev pub invariant-loop-k : goal.invariant-loop-k
+invariant-loop-k l = (l.k ≤ 8) × (length l.breaks ≡ 8) × (l.breaks ≡ l.self.breaks) × (absent_has_no_host l.self ≡ true) × (session_sound l.self.host l.self.session ≡ true) × (eqb l.self.number (count_used l.self.breaks) ≡ true) × (below (entry_sound l.self) l.k ≡ true) × (l.earlier ≡ ltb (find Lifted l.self) l.k)
+
+abbrev pub decreases-loop-k : goal.decreases-loop-k
+decreases-loop-k l = 8 - l.k
