@@ -16,6 +16,7 @@ import sys
 
 IDENT = r"[A-Za-z_α-ωΑ-Ω⊎][A-Za-z0-9_\-'₀-₉α-ω]*"
 PATH = re.compile(rf"(?<![A-Za-z0-9_\-'.₀-₉α-ω])({IDENT})((?:\.[A-Za-z0-9_][A-Za-z0-9_\-'₀-₉]*)*)")
+START = {"args", "requires", "ranges", "well-formed", "known"}
 TRIVIAL = {"search rules", "omega arith", "refl"}
 
 
@@ -137,24 +138,23 @@ class Turner:
         return None
 
     def resolve(self, place, fields):
-        """('place', P) or ('path', new fields) or None"""
-        k = 0
-        while k < len(fields) and fields[k] == "before":
-            if place == "Start" or place not in self.places:
-                return None
-            place = self.parent(place)
-            k += 1
-        if k == len(fields):
+        """('place', P), or ('path', new fields below c, place, old fields), or None. A step's name stands once among the places above a goal."""
+        n = 0
+        while n < len(fields) and fields[n] == "before":
+            n += 1
+        rest = fields[n:]
+        if not rest:
             return ("place", place)
-        if place not in self.places:
-            return None
-        rest = fields[k:]
-        new = self.field(place, rest)
-        if new is None:
-            return None
-        return ("path", self.refine(place, new, rest), place, rest)
+        at = place
+        while True:
+            new = self.field(at, rest)
+            if new is not None and (at != "Start" or norm(rest[0]) in START or rest[0].startswith(("told", "fits", "length"))):
+                return ("path", self.refine(at, new, rest), at, rest)
+            if at == "Start" or at not in self.places:
+                return None
+            at = self.parent(at)
 
-    def body(self, text, env, where):
+    def body(self, text, env, where, keep=False):
         """env: variable -> ('place', P) | ('steps', place, old fields)"""
         env = dict(env)
         out, k = [], 0
@@ -169,7 +169,7 @@ class Turner:
                     continue
                 if got and got[0] == "path":
                     env[m.group(1)] = ("steps", got[2], got[3])
-                    out.append(f"let {m.group(1)} = c.{'.'.join(got[1])} in{m.group(4)}")
+                    out.append(f"let {m.group(1)} = {m.group(2) if keep else 'c'}.{'.'.join(got[1])} in{m.group(4)}")
                     k = m.end()
                     continue
             m = PATH.match(text, k)
@@ -183,11 +183,9 @@ class Turner:
                         self.said.append(f"left: {where}: {var}{rest}")
                         out.append(var + rest)
                     elif got[0] == "place":
-                        if rest or env[var] != ("place", self.start):
-                            pass
-                        out.append("c")
+                        out.append(var if keep else "c")
                     else:
-                        out.append("c." + ".".join(got[1]))
+                        out.append((var if keep else "c") + "." + ".".join(got[1]))
                 else:
                     out.append(m.group(0))
                 k = m.end()
@@ -224,6 +222,20 @@ def parts_of(text):
     return out + ([last] if last else [])
 
 
+def wrapped(body, names):
+    """A lemma at the end of an answer that gives a tuple, as a record of the clauses' names."""
+    m = re.search(r"(?:^|(?<=\sin)\s)\s*((?!rw\b|let\b|simp\b|omega\b|search\b|elim\b|refl\b|cc\b|grind\b|subst\b|absurd\b|λ|c\.|record\b)[a-z][^\s]*(?:\s[^=]*)?)$", body)
+    if not m or " in " in m.group(1) or "\n" in m.group(1).strip() and "let " in m.group(1):
+        return None
+    lemma = m.group(1).rstrip()
+    path = ["0"]
+    fields = []
+    for k, n in enumerate(names):
+        fields.append(f"{n} = both." + ("1." * k)[:-1] + ("" if k == len(names) - 1 else ("." if k else "") + "0"))
+    fields = [re.sub(r"\.+", ".", f).rstrip(".") for f in fields]
+    return body[: m.start(1)] + f"let both = {lemma} in record {{ " + "; ".join(fields) + " }"
+
+
 def as_record(body, names):
     """A tuple at the end of an answer, as a record of the clauses' names."""
     text = body.rstrip()
@@ -242,6 +254,10 @@ def as_record(body, names):
     if before and not re.search(r"(\bin|=|\.|↦)$", before) and not re.search(r"(?:^|\s|\))(rw|simp) [^\n]*$", before):
         return None
     parts = parts_of(text[k + 1 : -1])
+    if len(parts) == 1:
+        inside = text[k + 1 : -1]
+        rec = as_record(inside, names) or wrapped(inside, names)
+        return text[:k] + "(" + rec + ")" if rec else None
     while len(parts) < len(names) and len(parts) > 1 and parts[-1].startswith("(") and parts[-1].endswith(")"):
         parts = parts[:-1] + parts_of(parts[-1][1:-1])
     if len(parts) != len(names):
@@ -347,6 +363,8 @@ def turn(folder, lib, func, spec, said, sources):
         if m:
             own, old = m.group(2), m.group(3)[len("Need-") :]
             got = by_order.get(own) or needs.get(norm(old))
+            if not got and old.startswith(("slice-aggregate", "slice_aggregate")):
+                continue
             if not got:
                 if norm(old) not in {norm(x) for x in spec["settled"]}:
                     said.append(f"left: {where}: no goal {old} ({own})")
@@ -376,7 +394,7 @@ def turn(folder, lib, func, spec, said, sources):
             if names is None and new.startswith("returns"):
                 names = spec["asked"].get("returns")
             if names and len(names) > 1:
-                rec = as_record(body, names)
+                rec = as_record(body, names) or wrapped(body, names)
                 if rec is None:
                     if body not in TRIVIAL and not body.startswith("search"):
                         said.append(f"left: {where}: {new} is no tuple of {names}")
@@ -388,6 +406,25 @@ def turn(folder, lib, func, spec, said, sources):
             continue
         whole = "\n".join(comments + lines)
         if "tie." in whole:
+            env = {}
+
+            def named(m):
+                at = norm(m.group(2))
+                k = [norm(x[0]) for x in spec["places"]].index(at)
+                env[m.group(1)] = ("place", at)
+                return f"({m.group(1)} : goal.{spec['places_by_name'][k]})"
+
+            try:
+                whole = re.sub(rf"\(({IDENT}) : tie\.([A-Za-z0-9_\-]+)[^)]*\)", named, whole)
+                head_line, _, tail = whole.partition("\n")
+                t.start = next(iter(env.values()))[1] if env else "Start"
+                for v in env:
+                    tail = re.sub(rf"(?m)^({re.escape(l0.split()[0] if not l0.startswith('pub ') else l0.split()[1])}) {re.escape(v)} =", r"\1 c =", tail)
+                whole = t.body(head_line, env, where, keep=True) + "\n" + t.body(tail, {"c": next(iter(env.values()))}, where) if env else whole
+                others += whole.split("\n") + [""]
+                continue
+            except (ValueError, StopIteration):
+                pass
             said.append(f"left: {where}: helper names a place: {l0[:80]}")
         others += comments + lines + [""]
     base = f"use {lib}.{func}"

@@ -109,7 +109,7 @@ getD-fresh_processes (t ∷ ts) ns (suc k) h = getD-fresh_processes ts (drop 1 n
 pub length-fresh_starts : (at : ℕ) (ts : List Bool) (ns : List ℕ) → length (fresh_starts at ts ns) ≡ length ts
 unfolding fresh_starts
 length-fresh_starts at [] ns = refl
-length-fresh_starts at (t ∷ ts) ns = ap suc (length-fresh_starts _ ts (drop 1 ns))
+length-fresh_starts at (t ∷ ts) ns = ap suc (length-fresh_starts (at + cond t (get_or ns 0 0) 0) ts (drop 1 ns))
 
 -- the size that process p has
 abbrev size_at : List Bool → List ℕ → ℕ → ℕ

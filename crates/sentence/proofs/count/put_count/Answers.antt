@@ -1,0 +1,33 @@
+-- `sentence::count::put_count` meets its contract: the number, then the word. Assumes nothing.
+use native.Mathlib.Omega.{arith}
+use borrow.Author.Rules.{rules}
+use borrow.Author.Tests.{eq-eqb, ne_eqb}
+use Rattle.lines.proofs.PutLaws.{put_then}
+use Rattle.decimal.specs.Numeral.{numeral}
+use Rattle.sentence.specs.Text.{text}
+use Rattle.sentence.specs.Count.{count_text}
+use Rattle.sentence.proofs.count.put_count.Goals as goal
+
+pub returns-then-n-eq1 : goal.returns-then-n-eq1
+unfolding count_text
+returns-then-n-eq1 c =
+    let a = c.args in
+    let out1 = c.put_wide-at.new.out in
+    let out2 = c.put.new.out in
+    let both = put_then c.args.from c.put_wide-at.result c.put.result (numeral c.args.n) (text " byte") c.args.out.now out1 out2 c.put_wide-at.ensures.put c.put.ensures in
+    record {
+      put = rw (eq-eqb c.args.n 1 c.if-n-eq1.true) both;
+      upper_bound = omega (arith, c.put_wide-at.ensures.upper_bound, c.put.ensures.0);
+    }
+
+pub returns : goal.returns
+unfolding count_text
+returns c =
+    let a = c.args in
+    let out1 = c.put_wide-at.new.out in
+    let out2 = c.put-2.new.out in
+    let both = put_then c.args.from c.put_wide-at.result c.put-2.result (numeral c.args.n) (text " bytes") c.args.out.now out1 out2 c.put_wide-at.ensures.put c.put-2.ensures in
+    record {
+      put = rw (ne_eqb c.args.n 1 c.if-n-eq1.false) both;
+      upper_bound = omega (arith, c.put_wide-at.ensures.upper_bound, c.put-2.ensures.0);
+    }

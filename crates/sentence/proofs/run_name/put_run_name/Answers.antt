@@ -1,0 +1,16 @@
+-- `sentence::run_name::put_run_name` meets its contract: no name of the table is too long. Assumes nothing.
+use mathlib.Core.Path.{refl}
+use native.Mathlib.Omega.{arith}
+use borrow.Author.Rules.{rules}
+use Rattle.sentence.specs.Name.{first_word, name_room}
+use Rattle.sentence.specs.RunName.{run_name}
+use Rattle.sentence.proofs.NameLaws.{short, words-short}
+use Rattle.sentence.proofs.run_name.put_run_name.Goals as goal
+
+pub put_name-requires : goal.put_name-requires
+unfolding short first_word
+put_name-requires c = record { by_index = words-short name_room _ refl; other_len_bound = search rules; name_room_in_bounds = search rules }
+
+pub returns : goal.returns
+unfolding run_name
+returns c = c.put_name.ensures
