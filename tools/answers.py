@@ -22,6 +22,8 @@ TRIVIAL = {"search rules", "omega arith", "refl"}
 
 def norm(name):
     name = name.replace("_", "-")
+    name = {"type-size": "size-of"}.get(name, name)
+    name = name[: -len("-lem")] if name.endswith("-lem") else name
     for op in ("overflow", "nonzero", "bounds", "offset-bounds", "slice-bounds"):
         if name.startswith(op + "-"):
             name = name[len(op) + 1 :]
@@ -82,7 +84,9 @@ class Turner:
             if f == "ensures" and k and clauses and clauses.get("fields"):
                 names = clauses["fields"]
                 return new[: k + 1] + self.pick(names, new[k + 1 :])
-            if f == "new" and p and p[3]:
+            if f in ("last", "kept") and k and p and p[3] and k + 1 < len(new) and new[k + 1] in ("0", "1"):
+                f = new[k] = {"last": "new", "kept": "auto"}[f]
+            if f in ("new", "auto") and p and p[3]:
                 names = self.spec["params"].get(p[3])
                 rest = new[k + 1 :]
                 if names and rest and rest[0] in ("0", "1"):
@@ -158,8 +162,26 @@ class Turner:
         """env: variable -> ('place', P) | ('steps', place, old fields)"""
         env = dict(env)
         out, k = [], 0
+        depth, hidden = 0, []
+        binder = re.compile(rf"λ ((?:{IDENT}|\((?:[^():]+):[^()]*(?:\([^()]*\)[^()]*)*\)|\s)+)\.")
         let = re.compile(rf"let ({IDENT}) = ({IDENT})((?:\.[A-Za-z0-9_][A-Za-z0-9_\-'₀-₉]*)*) in(\s+|$)")
         while k < len(text):
+            if text[k] in "([{":
+                depth += 1
+            elif text[k] in ")]}":
+                depth -= 1
+            ends_let = re.match(r"\sin\s", text[k : k + 4])
+            while hidden and (depth < hidden[-1][0] or (ends_let and depth == hidden[-1][0])):
+                env.update(hidden.pop()[1])
+            b = binder.match(text, k)
+            if b:
+                names = re.findall(IDENT, re.sub(r":[^)]*\)", ")", b.group(1)))
+                taken = {n: env.pop(n) for n in names if n in env}
+                if taken:
+                    hidden.append((depth, taken))
+                out.append(text[k : b.end()])
+                k = b.end()
+                continue
             m = let.match(text, k)
             if m and (k == 0 or not re.match(r"[\w\-]", text[k - 1])) and m.group(2) in env:
                 got = self.path(env, m.group(2), m.group(3), where)
@@ -298,6 +320,7 @@ def turn(folder, lib, func, spec, said, sources):
     where = f"{folder}"
     t = Turner(spec, said)
     needs = {norm(o): (n, norm(spec["asked_at"][k][0])) for k, (o, n) in enumerate(spec["needs"])}
+    older = {n: o for o, n in spec["needs"]}
     parts = blocks(text)
     uses, head, inv, ans, others = [], [], [], [], []
     order = []
@@ -390,9 +413,7 @@ def turn(folder, lib, func, spec, said, sources):
                 said.append(f"left: {where}: {own} has parameters {extra}")
             body = NOT.sub(lambda m: m.group(0) if is_field(m.group(2), sources) else m.group(2), body)
             body = re.sub(r"\((c\.if[A-Za-z0-9_\-.]*)\)", r"\1", body)
-            names = spec["asked"].get(new)
-            if names is None and new.startswith("returns"):
-                names = spec["asked"].get("returns")
+            names = spec["asked"].get(older[new])
             if names and len(names) > 1:
                 rec = as_record(body, names) or wrapped(body, names)
                 if rec is None:
@@ -428,14 +449,42 @@ def turn(folder, lib, func, spec, said, sources):
             said.append(f"left: {where}: helper names a place: {l0[:80]}")
         others += comments + lines + [""]
     base = f"use {lib}.{func}"
+    uses_answers = []
     os.remove(path)
     title = [re.sub(r"^-- ", "-- ", h) for h in head]
     if inv:
-        helper = [] if not others else []
+        helper, rest, moved = [], [], []
+        block = []
+        for l in others + [""]:
+            if l != "":
+                block.append(l)
+                continue
+            named = [re.match(rf"(?:pub |abbrev |unfoldable )*({IDENT})", x) for x in block if not x.startswith("--")]
+            own = named[0].group(1) if named and named[0] else None
+            if own and re.search(rf"(?<![\w\-']){re.escape(own)}(?![\w\-'])", "\n".join(inv)) and "tie." not in "\n".join(block):
+                moved.append(own)
+                done = False
+                for x in block:
+                    if not done and not x.startswith("--"):
+                        done = True
+                        if "pub " not in x.split(":")[0]:
+                            x = re.sub(r"^(abbrev |unfoldable )?", lambda m: (m.group(1) or "") + "pub ", x)
+                    helper.append(x)
+                helper.append("")
+            else:
+                rest += block + [""]
+            block = []
+        others = [l for l in rest]
+        while others and others[-1] == "":
+            others.pop()
+        if others:
+            others.append("")
+        if moved:
+            uses_answers = [base + ".Invariants.{" + ", ".join(moved) + "}"]
         with open(os.path.join(folder, "Invariants.antt"), "w", encoding="utf-8") as f:
             f.write("\n".join(title + uses + [base + ".Given as goal", ""] + helper + inv).rstrip() + "\n")
     if ans or others:
-        extra = [base + ".Goals as goal"]
+        extra = uses_answers + [base + ".Goals as goal"]
         with open(os.path.join(folder, "Answers.antt"), "w", encoding="utf-8") as f:
             f.write("\n".join(title + uses + extra + [""] + others + ans).rstrip() + "\n")
     if not os.listdir(folder):

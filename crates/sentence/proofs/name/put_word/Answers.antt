@@ -9,6 +9,7 @@ use lib.ListN.{length, drop, length-set}
 use Rattle.sentence.specs.Name.{word_at}
 use Rattle.sentence.proofs.NameLaws.{Rest, rest-as, rest-one, rest-none, word-ends, word-skips, word-takes, word-passes, word_none}
 use Rattle.sentence.proofs.name.put_word.Goals as goal
+use Rattle.sentence.proofs.name.put_word.Goals.{then-c-eq-COMMA+else-before-eq0, else-c-eq-COMMA+then-before-eq0-2, else-c-eq-COMMA+else-before-eq0-2}
 
 -- where a character is put, the word is not at its end
 inside : (c : goal.Then-before-eq0-2) → let a = c.args in c.loop-i.at < c.args.from + length (word_at c.args.number c.args.words.now)
@@ -47,25 +48,24 @@ loop-i-preserved c =
     let whole = word_at c.args.number words in
     let n = c.loop-i.before in
     let here = word_at n (drop i words) in
-    ⊎_elim
-    (λ w. rw (w.2, w.3, w.4) (
-      omega arith,
-      c.loop-i.invariant.1,
-      rest-as c.args.from whole c.args.out.now c.loop-i.at here c.loop-i.out _ (word-skips n words i low w.0.taken w.1.left) c.loop-i.invariant.2,
-    ))
-    (⊎_elim
-    (λ w. rw (w.2, w.3, w.4) (
-      omega arith,
-      simp length-set c.loop-i.invariant.1,
-      rest-one c.args.from whole c.args.out.now c.loop-i.at _ c.loop-i.out _
-          (rest-as c.args.from whole c.args.out.now c.loop-i.at here c.loop-i.out _ (word-takes n words i low w.0.left w.1.taken) c.loop-i.invariant.2),
-    ))
-    (λ w. rw (w.2, w.3, w.4) (
-      omega arith,
-      c.loop-i.invariant.1,
-      rest-as c.args.from whole c.args.out.now c.loop-i.at here c.loop-i.out _ (word-passes n words i low w.0.left w.1.left) c.loop-i.invariant.2,
-    )))
-    c.if-c-eq-COMMA.branch
+    elim c.if-c-eq-COMMA.branch [
+      then-c-eq-COMMA+else-before-eq0 w ↦ rw (w.out-is, w.before-is, w.at-is) (
+        omega arith,
+        c.loop-i.invariant.1,
+        rest-as c.args.from whole c.args.out.now c.loop-i.at here c.loop-i.out _ (word-skips n words i low w.if-c-eq-COMMA.true w.if-before-eq0.false) c.loop-i.invariant.2,
+      )
+      | else-c-eq-COMMA+then-before-eq0-2 w ↦ rw (w.out-is, w.before-is, w.at-is) (
+        omega arith,
+        simp length-set c.loop-i.invariant.1,
+        rest-one c.args.from whole c.args.out.now c.loop-i.at _ c.loop-i.out _
+            (rest-as c.args.from whole c.args.out.now c.loop-i.at here c.loop-i.out _ (word-takes n words i low w.if-c-eq-COMMA.false w.if-before-eq0-2.true) c.loop-i.invariant.2),
+      )
+      | else-c-eq-COMMA+else-before-eq0-2 w ↦ rw (w.out-is, w.before-is, w.at-is) (
+        omega arith,
+        c.loop-i.invariant.1,
+        rest-as c.args.from whole c.args.out.now c.loop-i.at here c.loop-i.out _ (word-passes n words i low w.if-c-eq-COMMA.false w.if-before-eq0-2.false) c.loop-i.invariant.2,
+      )
+    ]
 
 pub shape_of-out : goal.shape_of-out
 shape_of-out c = c.loop-i.invariant.1

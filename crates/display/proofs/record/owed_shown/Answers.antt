@@ -1,0 +1,12 @@
+-- `display::record::owed_shown` meets its contract, by whether an answer is owed. Assumes nothing.
+use borrow.Author.Rules.{rules}
+use Rattle.display.specs.Line.{owed_shown}
+use Rattle.display.proofs.record.owed_shown.Goals as goal
+
+pub returns-then-owes : goal.returns-then-owes
+unfolding owed_shown
+returns-then-owes c = rw (← c.owes.ensures, c.if-owes.true) c.letter.ensures
+
+pub returns : goal.returns
+unfolding owed_shown
+returns c = rw (← c.owes.ensures, c.if-owes.false)

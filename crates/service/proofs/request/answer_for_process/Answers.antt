@@ -1,0 +1,39 @@
+-- `service::request::answer_for_process` meets its contract, by what the request is to do. Assumes nothing.
+use mathlib.Core.Path.{ap₂, refl, sym, ◌∙◌}
+use Rattle.process.specs.Local.{local}
+use Rattle.checks.specs.declared.decision.Decision.TheVariants.{Allow, Refuse}
+use Rattle.service.specs.At.{leaving, named_at, named_by}
+use Rattle.checks.proofs.DecisionLaws.{says}
+use Rattle.service.proofs.AtLaws.{named-refused}
+use borrow.Author.Rules.{rules}
+use Rattle.service.proofs.request.answer_for_process.Goals as goal
+
+pub grant-requires : goal.grant-requires
+grant-requires c =
+    let a = c.args in
+    let d = says c.args.h c.args.process (Allow _) (sym c.in-Allow.is ∙ c.decide-decision.ensures) in
+    (record { tested = c.requires.tested; there = d.there }, (d.rule, (d.entry, c.requires.1)))
+
+pub refuse-requires : goal.refuse-requires
+refuse-requires c =
+    let a = c.args in
+    let d = says c.args.h c.args.process (Refuse _) (sym c.in-Refuse.is ∙ c.decide-decision.ensures) in
+    record {
+      fact = d.1;
+      message_bytes_in_bounds = c.requires.message_bytes_in_bounds;
+    }
+
+pub returns-in-Allow : goal.returns-in-Allow
+unfolding named_at named_by
+returns-in-Allow c =
+    let a = c.args in
+    let d = says c.args.h c.args.process (Allow _) (sym c.in-Allow.is ∙ c.decide-decision.ensures) in
+    rw d.passed c.grant.ensures
+
+pub returns-in-Refuse : goal.returns-in-Refuse
+unfolding named_at
+returns-in-Refuse c =
+    let a = c.args in
+    let d = says c.args.h c.args.process (Refuse _) (sym c.in-Refuse.is ∙ c.decide-decision.ensures) in
+    rw (← d.0, named-refused _ d.1 c.args.h c.args.string.now c.args.reply.now (local c.args.process c.args.bytes.now))
+    (ap₂ leaving c.refuse.ensures refl)

@@ -1,0 +1,18 @@
+-- `state_bytes::layout::start_is_unique` meets its contract. The loop's invariant: none of the processes passed begins there. Assumes nothing.
+use mathlib.Core.Path.{◌≡◌, refl, sym, ap, ◌∙◌}
+use mathlib.Core.Bool.{true, not}
+use Prim.Native.Nat.{ℕ, ◌-◌, ◌≤◌}
+use native.Mathlib.Omega.{arith}
+use borrow.Author.Rules.{rules}
+use Rattle.lists.specs.Every.{below}
+use Rattle.lists.proofs.Every.{below_more, below_fails}
+use Rattle.state.specs.Layout.{start_is_unique}
+use Rattle.state_bytes.specs.Layout.{begins_at}
+use Rattle.state_bytes.specs.State.{state_of}
+use Rattle.state_bytes.proofs.layout.start_is_unique.Given as goal
+
+abbrev pub invariant-loop-q : goal.invariant-loop-q
+invariant-loop-q l = (l.q ≤ l.p) × (below (λ (k : ℕ). not (begins_at (state_of l.state) l.start k)) l.q ≡ true)
+
+abbrev pub decreases-loop-q : goal.decreases-loop-q
+decreases-loop-q l = l.p - l.q

@@ -1,0 +1,25 @@
+-- `state_bytes::state_form::put_fresh_processes` meets its contract. The loop's invariant: the processes passed are laid over the bytes. Assumes nothing.
+use mathlib.Core.Path.{◌≡◌, refl, sym, ap, ◌∙◌}
+use mathlib.Core.List.{List}
+use Prim.Native.Nat.{ℕ, ◌-◌, ◌*◌, ◌≤◌, ◌<◌}
+use native.Mathlib.Omega.{arith}
+use borrow.Author.Rules.{rules}
+use lib.ListN.{length, take, drop, length-drop}
+use lib.Seq.{length-take-le, take_all}
+use Rattle.lists.specs.Buffer.{overlay}
+use Rattle.lists.specs.Joined.{joined}
+use Rattle.lists.proofs.Buffer.{length-overlay}
+use Rattle.process.specs.declared.record.Process.{Process}
+use Rattle.state.specs.Fresh.{fresh_processes}
+use Rattle.state.specs.Records.{nobody}
+use Rattle.state_bytes.specs.Process.{process_bytes}
+use Rattle.state_bytes.specs.Widths.{process_count, process_width, starts_at}
+use Rattle.state_bytes.proofs.ChunkLaws.{joined_step, length-joined-more}
+use Rattle.state.proofs.FreshLaws.{length-fresh_processes, getD-fresh_processes}
+use Rattle.state_bytes.proofs.state_form.put_fresh_processes.Given as goal
+
+abbrev pub invariant-loop-p : goal.invariant-loop-p
+invariant-loop-p l = (l.p ≤ process_count) × (length l.there ≡ process_count) × (length l.state ≡ length l.initial.state) × (l.at ≡ process_width * l.p) × (length (joined process_bytes (take l.p (fresh_processes l.there l.sizes))) ≡ l.at) × (l.state ≡ overlay (joined process_bytes (take l.p (fresh_processes l.there l.sizes))) l.initial.state)
+
+abbrev pub decreases-loop-p : goal.decreases-loop-p
+decreases-loop-p l = process_count - l.p

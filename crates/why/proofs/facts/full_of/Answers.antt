@@ -1,0 +1,23 @@
+-- `why::facts::full_of` meets its contract, by whether a free entry was found. Assumes nothing.
+use mathlib.Core.Path.{sym, ◌∙◌}
+use borrow.Author.Tests.{lt-ltb, le-ltb}
+use Rattle.breakpoints.specs.declared.entry_query.EntryQuery.TheVariants.{Free}
+use Rattle.process.specs.Find.{find}
+use Rattle.process.specs.Request.{has_room}
+use Rattle.process.proofs.FindLaws.{found-index, found_nowhere}
+use Rattle.rules.specs.Why.{full_of}
+use borrow.Author.Rules.{rules}
+use Rattle.process.proofs.record.Process.find.Reads as find-reads
+use Rattle.why.proofs.facts.full_of.Goals as goal
+
+pub returns-in-Index : goal.returns-in-Index
+unfolding full_of has_room
+returns-in-Index c =
+    let at = found-index (find Free c.args.process) _ (sym c.find-found.ensures ∙ c.in-Index.is) in
+    rw (lt-ltb _ _ at.low)
+
+pub returns-in-Nowhere : goal.returns-in-Nowhere
+unfolding full_of has_room
+returns-in-Nowhere c =
+    let none = found_nowhere (find Free c.args.process) (sym c.find-found.ensures ∙ c.in-Nowhere.is) in
+    rw (le-ltb _ _ none)

@@ -1,0 +1,35 @@
+-- `why::facts::who_set` meets its contract, by whether a breakpoint was found. Assumes nothing.
+use mathlib.Core.Path.{sym, ◌∙◌, ap}
+use native.Mathlib.Omega.{arith}
+use lib.ListN.{length-map, get_or-eq_default}
+use Rattle.breakpoints.specs.declared.entry.Breakpoint.{Breakpoint}
+use Rattle.breakpoints.specs.declared.entry_query.EntryQuery.TheVariants.{At}
+use Rattle.breakpoints.specs.Entry.{free}
+use Rattle.process.specs.Find.{find}
+use Rattle.process.proofs.FindLaws.{found-index, found_nowhere}
+use Rattle.rules.specs.Why.{who_set}
+use borrow.Author.Rules.{rules}
+use Rattle.process.proofs.record.Process.find.Reads as find-reads
+use Rattle.why.proofs.facts.setter_in.Reads as setter-in-reads
+use Rattle.why.proofs.facts.who_set.Goals as goal
+
+pub setter_in-requires : goal.setter_in-requires
+setter_in-requires c =
+    let a = c.args in
+    let at = found-index (find (At c.args.h.arg1) c.args.process) _ (sym c.find-found.ensures ∙ c.in-Index.is) in
+    rw at.same at at.low
+
+pub returns-in-Index : goal.returns-in-Index
+unfolding who_set
+returns-in-Index c =
+    let a = c.args in
+    let at = found-index (find (At c.args.h.arg1) c.args.process) _ (sym c.find-found.ensures ∙ c.in-Index.is) in
+    rw at.same c.setter_in.ensures
+
+pub returns-in-Nowhere : goal.returns-in-Nowhere
+unfolding who_set
+returns-in-Nowhere c =
+    let a = c.args in
+    let eight = simp length-map at c.well_formed.1.0.1.1.1.1.1.1.0.1.0.1 in
+    let none = found_nowhere (find (At c.args.h.arg1) c.args.process) (sym c.find-found.ensures ∙ c.in-Nowhere.is) in
+    sym (ap (λ (b : Breakpoint). b.setter) (get_or-eq_default c.args.process.breaks free (omega (arith, eight, none))))
