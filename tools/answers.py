@@ -22,7 +22,7 @@ TRIVIAL = {"search rules", "omega arith", "refl"}
 
 def norm(name):
     name = name.replace("_", "-")
-    name = {"type-size": "size-of"}.get(name, name)
+    name = {"type-size": "size-of", "Store-word": "store-word"}.get(name, name)
     name = name[: -len("-lem")] if name.endswith("-lem") else name
     for op in ("overflow", "nonzero", "bounds", "offset-bounds", "slice-bounds"):
         if name.startswith(op + "-"):

@@ -1,8 +1,8 @@
 -- `service::effect::perform` meets its contract, by the op code. Assumes nothing.
-use mathlib.Core.Path.{refl}
+use mathlib.Core.Path.{refl, ◌≡◌}
 use borrow.Author.Rules.{rules}
 use borrow.Author.Tests.{ne_eqb}
-use lib.ListN.{length-map}
+use lib.ListN.{length-map, length}
 use Rattle.lists.specs.Buffer.{overlay}
 use Rattle.process.specs.Request.{break_removed}
 use Rattle.process.proofs.TestedLaws.{tested-inside, tested-counted}
@@ -27,7 +27,7 @@ set_break-requires c =
 
 pub remove_from-requires : goal.remove_from-requires
 remove_from-requires c =
-    let a = c.args in (unbreak-low c.args.h c.args.process c.requires.process_value c.args.k c.requires.k_value c.in-9.is, tested-inside c.args.process c.args.bytes.now c.requires.present.tested, tested-counted c.args.process c.args.bytes.now c.requires.present.tested, unbreak-used c.args.h c.args.process c.requires.process_value c.args.k c.requires.k_value (simp length-map at c.well_formed.1.1.0.1.1.1.1.1.1.0.1.0.1) c.in-9.is)
+    let eight : length c.args.process.breaks ≡ 8 = search rules in (unbreak-low c.args.h c.args.process c.requires.process_value c.args.k c.requires.k_value c.in-9.is, tested-inside c.args.process c.args.bytes.now c.requires.present.tested, tested-counted c.args.process c.args.bytes.now c.requires.present.tested, unbreak-used c.args.h c.args.process c.requires.process_value c.args.k c.requires.k_value eight c.in-9.is)
 
 pub returns-in-1 : goal.returns-in-1
 unfolding rule_of

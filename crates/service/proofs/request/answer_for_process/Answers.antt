@@ -12,7 +12,13 @@ pub grant-requires : goal.grant-requires
 grant-requires c =
     let a = c.args in
     let d = says c.args.h c.args.process (Allow _) (sym c.in-Allow.is ∙ c.decide-decision.ensures) in
-    (record { tested = c.requires.tested; there = d.there }, (d.rule, (d.entry, c.requires.1)))
+    record {
+      present = record { tested = c.requires.tested; there = d.there };
+      process_value = d.rule;
+      k_value = d.entry;
+      string_len_bound = c.requires.string_len_bound;
+      message_bytes_in_bounds = c.requires.message_bytes_in_bounds;
+    }
 
 pub refuse-requires : goal.refuse-requires
 refuse-requires c =

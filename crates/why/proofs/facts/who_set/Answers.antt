@@ -1,7 +1,7 @@
 -- `why::facts::who_set` meets its contract, by whether a breakpoint was found. Assumes nothing.
-use mathlib.Core.Path.{sym, ◌∙◌, ap}
+use mathlib.Core.Path.{sym, ◌∙◌, ap, ◌≡◌}
 use native.Mathlib.Omega.{arith}
-use lib.ListN.{length-map, get_or-eq_default}
+use lib.ListN.{length-map, get_or-eq_default, length}
 use Rattle.breakpoints.specs.declared.entry.Breakpoint.{Breakpoint}
 use Rattle.breakpoints.specs.declared.entry_query.EntryQuery.TheVariants.{At}
 use Rattle.breakpoints.specs.Entry.{free}
@@ -30,6 +30,6 @@ pub returns-in-Nowhere : goal.returns-in-Nowhere
 unfolding who_set
 returns-in-Nowhere c =
     let a = c.args in
-    let eight = simp length-map at c.well_formed.1.0.1.1.1.1.1.1.0.1.0.1 in
+    let eight : length c.args.process.breaks ≡ 8 = search rules in
     let none = found_nowhere (find (At c.args.h.arg1) c.args.process) (sym c.find-found.ensures ∙ c.in-Nowhere.is) in
     sym (ap (λ (b : Breakpoint). b.setter) (get_or-eq_default c.args.process.breaks free (omega (arith, eight, none))))

@@ -1,0 +1,28 @@
+-- `gateway::lengths::line_length` meets its contract, by the cases. Assumes nothing.
+use mathlib.Core.Path.{sym, ap, ◌∙◌}
+use mathlib.Core.Bool.{Bool, cond}
+use borrow.Author.Tests.{lt-ltb, le-ltb}
+use borrow.Author.Rules.{rules}
+use native.Mathlib.Omega.{arith}
+use Rattle.format.specs.declared.outcome.Outcome.{Outcome}
+use Rattle.format.specs.Outcome.{number_of, length_of}
+use Rattle.gateway.specs.Lengths.{after_newline, line_length}
+use Rattle.gateway.proofs.lengths.line_length.Goals as goal
+
+pub returns-in-Granted : goal.returns-in-Granted
+unfolding line_length number_of length_of
+returns-in-Granted c = sym (ap (λ (o : Outcome). line_length o c.args.buffer.now) c.in-Granted.is)
+
+pub returns-then-n-lt100 : goal.returns-then-n-lt100
+unfolding line_length number_of length_of
+returns-then-n-lt100 c =
+    let b = c.args.buffer.now in
+    let low = lt-ltb c.in-Refused.n 100 (omega arith) in
+    sym (ap (λ (o : Outcome). line_length o b) c.in-Refused.is ∙ ap (λ (t : Bool). cond t 0 (after_newline b)) low)
+
+pub returns-else-n-lt100 : goal.returns-else-n-lt100
+unfolding line_length number_of length_of
+returns-else-n-lt100 c =
+    let b = c.args.buffer.now in
+    let high = le-ltb c.in-Refused.n 100 (omega arith) in
+    c.after_newline.ensures ∙ sym (ap (λ (o : Outcome). line_length o b) c.in-Refused.is ∙ ap (λ (t : Bool). cond t 0 (after_newline b)) high)

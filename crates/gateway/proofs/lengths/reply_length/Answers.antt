@@ -1,0 +1,25 @@
+-- `gateway::lengths::reply_length` meets its contract, by the cases. Assumes nothing.
+use mathlib.Core.Path.{sym, ap, ◌∙◌}
+use mathlib.Core.Bool.{Bool, cond}
+use borrow.Author.Tests.{lt-ltb, le-ltb}
+use borrow.Author.Rules.{rules}
+use native.Mathlib.Omega.{arith}
+use Rattle.format.specs.Outcome.{number_of, length_of}
+use Rattle.gateway.specs.Lengths.{reply_length}
+use Rattle.gateway.proofs.lengths.reply_length.Goals as goal
+
+pub returns-in-Granted : goal.returns-in-Granted
+unfolding reply_length number_of length_of
+returns-in-Granted c = sym (ap reply_length c.in-Granted.is)
+
+pub returns-then-n-lt7 : goal.returns-then-n-lt7
+unfolding reply_length number_of length_of
+returns-then-n-lt7 c =
+    let low = lt-ltb c.in-Refused.n 7 (omega arith) in
+    sym (ap reply_length c.in-Refused.is ∙ ap (λ (t : Bool). cond t 0 10) low)
+
+pub returns-else-n-lt7 : goal.returns-else-n-lt7
+unfolding reply_length number_of length_of
+returns-else-n-lt7 c =
+    let high = le-ltb c.in-Refused.n 7 (omega arith) in
+    sym (ap reply_length c.in-Refused.is ∙ ap (λ (t : Bool). cond t 0 10) high)

@@ -1,0 +1,30 @@
+-- `gateway::queries::why` meets its contract, by the state and by what was read. Assumes nothing.
+use mathlib.Core.Path.{sym, ◌∙◌}
+use borrow.Author.Tests.{not-true, not-false}
+use Rattle.gateway.proofs.AskedLaws.{refused-found}
+use Rattle.gateway.proofs.WhyLaws.{why-unsound, why-refused}
+use borrow.Author.Rules.{rules}
+use Rattle.gateway.proofs.queries.why_read.Reads as why-read-reads
+use Rattle.message.proofs.read_request.Reads as read-request-reads
+use Rattle.state_bytes.proofs.state_sound.Reads as state-sound-reads
+use Rattle.why.proofs.reason_without_process.Reads as reason-without-process-reads
+use Rattle.gateway.proofs.queries.why.Goals as goal
+
+pub returns-then-not-state_sound : goal.returns-then-not-state_sound
+returns-then-not-state_sound c =
+    let a = c.args in
+    sym (why-unsound c.args.state.now c.args.message.now (sym c.state_sound.ensures ∙ c.if-not-state_sound.true))
+
+pub why_read-requires : goal.why_read-requires
+why_read-requires c =
+    record {
+      form_value = sym c.in-Request.is ∙ c.read_request-incoming.ensures;
+      state_value = sym c.state_sound.ensures ∙ c.if-not-state_sound.false;
+    }
+
+pub returns-in-Refused : goal.returns-in-Refused
+returns-in-Refused c =
+    let a = c.args in
+    let sound = sym c.state_sound.ensures ∙ c.if-not-state_sound.false in
+    let read = refused-found c.args.message.now _ (sym c.in-Refused.is ∙ c.read_request-incoming.ensures) in
+    c.reason_without_process.ensures ∙ sym (why-refused c.args.state.now c.args.message.now sound _ (sym read))
