@@ -22,7 +22,7 @@ TRIVIAL = {"search rules", "omega arith", "refl"}
 
 def norm(name):
     name = name.replace("_", "-")
-    name = {"type-size": "size-of", "Store-word": "store-word"}.get(name, name)
+    name = {"type-size": "size-of", "Store-word": "store-word", "Each-right": "each-right"}.get(name, name)
     name = name[: -len("-lem")] if name.endswith("-lem") else name
     for op in ("overflow", "nonzero", "bounds", "offset-bounds", "slice-bounds"):
         if name.startswith(op + "-"):
@@ -409,8 +409,6 @@ def turn(folder, lib, func, spec, said, sources):
             env = {params[0]: ("place", place)} if params and params[0] != "_" else {}
             body = t.body(body, env, where + " " + new)
             extra = [p for p in params[1:] if p != "κs"]
-            if extra:
-                said.append(f"left: {where}: {own} has parameters {extra}")
             body = NOT.sub(lambda m: m.group(0) if is_field(m.group(2), sources) else m.group(2), body)
             body = re.sub(r"\((c\.if[A-Za-z0-9_\-.]*)\)", r"\1", body)
             names = spec["asked"].get(older[new])
@@ -423,7 +421,7 @@ def turn(folder, lib, func, spec, said, sources):
                     body = rec
             multi = "\n" in body or len(body) > 130
             ans += comments + [f"pub {new} : goal.{new}"] + un
-            ans += [f"{new} c =" + ("\n    " if multi else " ") + body, ""]
+            ans += [" ".join([new, "c", *extra, "="]) + ("\n    " if multi else " ") + body, ""]
             continue
         whole = "\n".join(comments + lines)
         if "tie." in whole:

@@ -6,8 +6,8 @@ use Rattle.gateway.proofs.fresh.sizes_right.Goals as goal
 
 pub returns-then-not-each_right : goal.returns-then-not-each_right
 unfolding sizes_right
-returns-then-not-each_right c = let e = c.before.Each-right in rw (← e.ensures, c.if-not-each_right.true)
+returns-then-not-each_right c = let e = c.each_right in rw (← e.ensures, c.if-not-each_right.true)
 
 pub returns : goal.returns
 unfolding sizes_right
-returns c = let e = c.before.before.Each-right in rw (← e.ensures, c.if-not-each_right.false, ← c.needed.ensures)
+returns c = let e = c.each_right in rw (← e.ensures, c.if-not-each_right.false, ← c.needed.ensures)

@@ -8,7 +8,6 @@ use Rattle.gateway.proofs.gone.remove.Goals as goal
 pub take_out-requires : goal.take_out-requires
 unfolding is_granted
 take_out-requires c =
-    let o = c.enum_told-1 in
     let granted : is_granted c.args.outcome ≡ true = rw c.in-Granted.is refl in
     record {
       pid_bound = (c.requires.pid_value.1, c.requires.pid_value.0 granted);

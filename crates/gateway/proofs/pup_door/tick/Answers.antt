@@ -14,7 +14,7 @@ use Rattle.gateway.proofs.pup_door.tick.Goals as goal
 
 pub returns-then-number-ne0 : goal.returns-then-number-ne0
 unfolding Did
-returns-then-number-ne0 c =
+returns-then-number-ne0 c memory =
     let a = c.args in
     (refl, tick-unfit c.args.state.now memory (door_of c.args.state.now) _ c.check_state_alone-number.ensures c.if-number-ne0.true)
 
@@ -32,7 +32,7 @@ tick_at-requires c =
 
 pub returns-then-door-lt8 : goal.returns-then-door-lt8
 unfolding Did
-returns-then-door-lt8 c =
+returns-then-door-lt8 c memory =
     let a = c.args in
     let zero = sym c.check_state_alone-number.ensures ∙ c.if-number-ne0.false in
     let bytes : Bytes c.args.state.now = λ i. omega (arith, c.slice_known-1.given i) in
@@ -42,7 +42,7 @@ returns-then-door-lt8 c =
 
 pub returns-else-door-lt8 : goal.returns-else-door-lt8
 unfolding Did
-returns-else-door-lt8 c =
+returns-else-door-lt8 c memory =
     let a = c.args in
     let zero = sym c.check_state_alone-number.ensures ∙ c.if-number-ne0.false in
     let bytes : Bytes c.args.state.now = λ i. omega (arith, c.slice_known-1.given i) in

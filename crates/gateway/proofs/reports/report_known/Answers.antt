@@ -61,7 +61,11 @@ report_for_process-served-requires c =
     let st = lent (state_of c.args.state.now) c.args.memory.now in
     let low = report-low c.args.pid c.args.kind c.args.reason c.requires.reason_value in
     let fit = report-fits c.args.state.now c.args.memory.now c.args.notice.now c.args.line.now c.requires.line_value in
-    (tested-part st fit.ready c.args.pid c.start_of-start.result c.extent.result c.read_process_at-process.result low c.start_of-start.ensures c.read_process_at-process.ensures c.extent.ensures, fit.room)
+    record {
+      tested = tested-part st fit.ready c.args.pid c.start_of-start.result c.extent.result c.read_process_at-process.result low c.start_of-start.ensures c.read_process_at-process.ensures c.extent.ensures;
+      message_bytes_in_bounds = fit.room.0;
+      line_bytes_in_bounds = fit.room.1;
+    }
 
 pub keep-requires : goal.keep-requires
 keep-requires c =
