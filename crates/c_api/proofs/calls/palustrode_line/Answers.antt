@@ -1,0 +1,24 @@
+-- `c_api::calls::palustrode_line` meets its contract: that of the gateway's text line. Assumes nothing.
+use mathlib.Core.Path.{◌≡◌, ◌∙◌}
+use native.Mathlib.Omega.{arith}
+use mir.Syntax.{w64}
+use mir.Val.{to_z, of_z}
+use Rattle.rules.specs.Step.{text_line}
+use Rattle.c_api.proofs.ReturnLaws.{call-short, call_returns}
+use Rattle.gateway.specs.Called.{Did}
+use borrow.Author.Rules.{rules}
+use Rattle.c_api.proofs.calls.palustrode_line.Goals as goal
+
+pub signed-requires : goal.signed-requires
+unfolding Did
+signed-requires c =
+    let a = c.args in
+    let v = c.text_line-outcome in
+    call-short _ _ _ _ _ _ (text_line c.args.text.now c.args.line.now) c.text_line-outcome.ensures (omega (arith, c.text_line-outcome.auto.out))
+
+pub returns : goal.returns
+unfolding Did
+returns c =
+    let a = c.args in
+    let same : to_z w64 (of_z w64 c.signed.result) ≡ c.signed.result = search rules in
+    call_returns _ _ _ _ _ _ (text_line c.args.text.now c.args.line.now) c.text_line-outcome.ensures _ (same ∙ c.signed.ensures)

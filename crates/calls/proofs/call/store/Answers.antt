@@ -1,0 +1,8 @@
+-- `calls::call::store` meets its contract, by whether memory reaches so far. Assumes nothing.
+use mathlib.Core.Path.{sym}
+use lib.Seq.{set_out}
+use borrow.Author.Rules.{rules}
+use Rattle.calls.proofs.call.store.Goals as goal
+
+pub returns-else-at-memory : goal.returns-else-at-memory
+returns-else-at-memory c = let a = c.args in sym (set_out c.args.memory.now c.args.at c.args.byte c.if-at-memory.false)
