@@ -1,0 +1,15 @@
+-- `recording::command::begins` meets its contract. The loop's invariant: what is left of the text decides. Assumes nothing.
+use mathlib.Core.Path.{◌≡◌, refl, ◌∙◌}
+use Prim.Native.Nat.{◌-◌, ◌≤◌}
+use native.Mathlib.Omega.{arith}
+use borrow.Author.Rules.{rules}
+use lib.ListN.{length, drop}
+use Rattle.recording.specs.Command.{begins}
+use Rattle.recording.proofs.CommandLaws.{begins-short, begins-next, begins-other, begins-end}
+use Rattle.recording.proofs.command.begins.Given as goal
+
+abbrev pub invariant-loop-i : goal.invariant-loop-i
+invariant-loop-i l = (l.i ≤ length l.text) × (length l.text ≤ length l.line) × (begins (drop l.i l.text) (drop l.i l.line) ≡ begins l.text l.line)
+
+abbrev pub decreases-loop-i : goal.decreases-loop-i
+decreases-loop-i l = length l.text - l.i

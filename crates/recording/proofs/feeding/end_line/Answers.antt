@@ -1,0 +1,12 @@
+-- `recording::feeding::end_line` meets its contract. Assumes nothing.
+use mathlib.Core.Path.{◌≡◌, refl, sym, ap, ◌∙◌}
+use Prim.Native.Nat.{ℕ}
+use lib.ListN.{take}
+use Rattle.calls.proofs.MeaningLaws.{take-at-most}
+use borrow.Author.Rules.{rules}
+use Rattle.recording.proofs.feeding.end_line.Goals as goal
+
+pub returns : goal.returns
+returns c =
+    let a = c.args in
+    rw (ap (λ (j : ℕ). take j c.args.line.now) c.at_most-n.ensures.0 ∙ take-at-most c.args.partial.len c.args.line.now) at c.answer_line.ensures

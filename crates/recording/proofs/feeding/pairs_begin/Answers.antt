@@ -1,0 +1,14 @@
+-- `recording::feeding::pairs_begin` meets its contract. Assumes nothing.
+use mathlib.Core.Path.{◌≡◌, refl, sym, ap, ◌∙◌}
+use mathlib.Core.List.{List}
+use Prim.Native.Nat.{ℕ}
+use lib.ListN.{take}
+use Rattle.recording.specs.Line.{pairs_from}
+use Rattle.calls.proofs.MeaningLaws.{take-at-most}
+use borrow.Author.Rules.{rules}
+use Rattle.recording.proofs.feeding.pairs_begin.Goals as goal
+
+pub returns : goal.returns
+returns c =
+    let a = c.args in
+    c.pairs_from.ensures ∙ ap (pairs_from c.args.language) (ap (λ (j : ℕ). take j c.args.line.now) c.at_most-n.ensures.0 ∙ take-at-most c.args.partial.len c.args.line.now)
