@@ -1,4 +1,4 @@
-# make test      the gate: format of the files, every proof, wrong program and program, then a recording and the library from outside
+# make test      the gate: every proof, wrong program and program, the layout of the files, then recordings and the library from outside
 # make edits     the wrong programs that the gate leaves out; CRATES="process rules" or SINCE=HEAD~3 (the crates changed since then) for some
 # make harmless  harmless changes at the places of the wrong programs, each of which has to be proved; CRATES and SINCE as for `make edits`
 # make model     the library against the model; CALLS=2000000 SEED=7 for a longer run
@@ -40,7 +40,7 @@ PREFIX = /usr/local
 INCLUDE = $(DESTDIR)$(PREFIX)/include
 LIB = $(DESTDIR)$(PREFIX)/lib
 ARCHIVE = target/staticlib/libpalustrode.a
-SOURCES := crates.txt $(shell find crates -type f ! -name '*.edit')
+SOURCES := crates.txt $(shell find crates -type f ! -name '*.edit' ! -path '*/out/*')
 
 $(ARCHIVE): $(SOURCES)
 	@echo "make install: $@ is not built yet, or older than its sources; 'make library' builds it now, which takes minutes"

@@ -1,6 +1,8 @@
 // The bench program. Its stored test is the session of document 01.
 #![tactic(auto)]
 
-fn main() {
-    console::bench();
+use std::io;
+
+fn main(rt: HostRuntime) -> io::Result<()> {
+    console::bench(&rt)
 }

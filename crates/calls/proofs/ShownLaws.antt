@@ -3,7 +3,7 @@ use mathlib.Core.Path.{◌≡◌, refl, sym, ap, ◌∙◌}
 use mathlib.Core.List.{List, [], ◌∷◌, ◌++◌}
 use Prim.Native.Nat.{ℕ, ◌+◌, ◌-◌, ◌*◌, ◌≤◌, ◌<◌, min}
 use native.Mathlib.Omega.{arith}
-use lib.ListN.{length, take, set, length-append, length-take}
+use lib.ListN.{length, take, length-append}
 use lib.Seq.{set-set}
 use Rattle.lists.specs.Buffer.{overlay}
 use Rattle.format.specs.declared.outcome.Outcome.{Outcome}
@@ -11,7 +11,7 @@ use Rattle.format.specs.Outcome.{number_of}
 use Rattle.lines.specs.Hex.{spaced_or_dash}
 use Rattle.lines.specs.Scan.{Put, kept}
 use Rattle.lines.proofs.PrintLaws.{body-short}
-use Rattle.lines.proofs.PutLaws.{kept_append, kept-overlay, put_then, put_as}
+use Rattle.lines.proofs.PutLaws.{kept_append, kept-overlay}
 use Rattle.decimal.specs.Numeral.{numeral}
 use Rattle.decimal.proofs.NumeralLaws.{five-digits}
 use Rattle.display.specs.Answer.{answer_line}
@@ -20,7 +20,7 @@ use Rattle.gateway.specs.Lengths.{notice_length, line_length}
 use Rattle.calls.specs.declared.text.Shown.{Shown}
 use Rattle.calls.specs.declared.text.Shown.TheVariants.{Recorded, Alone}
 use Rattle.calls.specs.Shown.{line_or_dash, text_shown, mark_of, beside_notice, report_shown}
-use Rattle.calls.specs.Effect.{Effect, Prints, Does}
+use Rattle.calls.specs.Effect.{Does}
 use Rattle.calls.specs.Meaning.{report_answered, text_answered}
 use Rattle.calls.proofs.MeaningLaws.{take-at-most, prints-put, prints-as}
 

@@ -1,6 +1,5 @@
 -- What each line does to state and memory, and what it prints. The numbers of a line are read by their bounds.
 use Rattle.std.specs.Prelude.{Bool, cond, ◌&&◌, List, [], ◌∷◌, ◌++◌, ℕ, ◌+◌, length, take, drop, replicate, eqb, leb}
-use Rattle.format.specs.declared.outcome.Outcome.{Outcome}
 use Rattle.format.specs.Outcome.{number_of, length_of}
 use Rattle.state.specs.Records.{process_at, start_of}
 use Rattle.state.specs.Layout.{capacity, extent_at, slot}

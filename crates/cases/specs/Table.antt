@@ -1,5 +1,5 @@
 -- The table of all cases.
-use Rattle.std.specs.Prelude.{◌≡◌, List, [], ◌∷◌, map}
+use Rattle.std.specs.Prelude.{◌≡◌, List, map}
 use Rattle.cases.specs.Case.{Case, outcomes}
 use Rattle.cases.specs.Cases.{cases}
 use Rattle.cases.specs.LineCases.{line_cases}

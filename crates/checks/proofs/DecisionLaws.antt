@@ -1,7 +1,7 @@
 -- What a decision says of the request that it came from. Assumes nothing.
 use mathlib.Core.Path.{◌≡◌, refl, sym, subst}
 use mathlib.Core.Bool.{Bool, true, false, not, cond, ◌&&◌, ◌||◌}
-use mathlib.Core.List.{List, [], ◌∷◌}
+use mathlib.Core.List.{[], ◌∷◌}
 use Prim.Native.Nat.{ℕ, zero, suc}
 use native.Mathlib.Omega.{arith}
 use borrow.Author.Tests.{ltb-false, not-false}
@@ -10,7 +10,7 @@ use lib.Dec.{eqb, ltb}
 use Rattle.format.specs.declared.header.Header.{Header}
 use Rattle.ops.specs.declared.table.Found.{Found}
 use Rattle.ops.specs.declared.table.Found.TheVariants.{Known, Unknown}
-use Rattle.format.specs.Outcome.{Test, test, first_failing}
+use Rattle.format.specs.Outcome.{test, first_failing}
 use Rattle.ops.specs.Table.{bare, row, ops, row_of, request_form}
 use Rattle.format.proofs.OutcomeLaws.{first_passes, rest-passes}
 use Rattle.process.specs.declared.record.Process.{Process}

@@ -1,24 +1,37 @@
-// Standard input, fed block by block, and what comes of it written out. Here are the program's system calls: what they read and write no
+// A reader, fed block by block, and what comes of it written to a writer. They are standard input and output, and what these give or take no
 // contract can say.
-ghost use Rattle.std.specs.Prelude.{◌≡◌, ◌≤◌, length};
-ghost use Rattle.io.specs.Counts.{IsPrefixLen};
+ghost use Rattle.std.specs.Prelude.{◌≡◌, ◌≤◌, IfOk, length};
 ghost use Rattle.calls.specs.Effect.{longest_text};
 ghost use Rattle.recording.specs.Session.{reading, session, through};
 
 use calls::{MEMORY, STATE};
 use lines::at_most;
 use recording::{KEPT, Language, Partial, begin, feed};
+use std::io;
+use std::io::{ErrorKind, Read, Write};
 
-// Some of standard input: how many bytes, and none at its end.
-fn read(block: &mut [u8]) -> usize
-    ensures { IsPrefixLen result block.new }
+// How much is read at a time, if so much is there, and how much text is put before it is written out.
+const BLOCK: usize = 65536;
+
+// Some of the input: how many bytes, and none at its end. A read that a signal interrupts is made again.
+fn read<R: Read>(input: &mut R, block: &mut [u8]) -> io::Result<usize>
+    ensures { IfOk result (λ n. n ≤ length block.new) }
 {
-    let got = libc::read(0, block);
-    io::count(got, block)
+    for _ in 0..u64::MAX {
+        match input.read(block) {
+            Err(e) => {
+                if e.kind() != ErrorKind::Interrupted {
+                    return Err(e);
+                }
+            }
+            Ok(n) => return Ok(n),
+        }
+    }
+    Ok(0)
 }
 
 // Feeds all of a block, and writes out what it prints.
-fn play(
+fn play<W: Write>(
     language: Language,
     partial: Partial,
     state: &mut [u8; STATE],
@@ -26,54 +39,74 @@ fn play(
     line: &mut [u8; KEPT],
     block: &[u8],
     out: &mut [u8],
-) -> Partial
+    output: &mut W,
+) -> io::Result<Partial>
     requires { longest_text ≤ length out.old }
-    ensures { session (reading result line.new) state.new memory.new ≡ through language (session (reading partial line.old) state.old memory.old) block.now }
+    ensures { IfOk result (λ now. session (reading now line.new) state.new memory.new ≡ through language (session (reading partial line.old) state.old memory.old) block.now) }
 {
     let mut now = partial;
     let mut at = 0;
     while at < block.len() {
         let fed = feed(language, now, state, memory, line, &block[at..], out);
         let n = at_most(fed.len, out);
-        io::write_all(1, &out[..n]);
+        output.write_all(&out[..n])?;
         now = fed.partial;
         at += fed.used;
     }
-    now
+    Ok(now)
 }
 
-// Plays blocks of standard input until it ends.
-fn play_input(
+// Plays blocks of the input until it ends.
+fn play_input<R: Read, W: Write>(
     language: Language,
     state: &mut [u8; STATE],
     memory: &mut [u8; MEMORY],
     line: &mut [u8; KEPT],
     out: &mut [u8],
-) -> Partial
+    input: &mut R,
+    output: &mut W,
+) -> io::Result<Partial>
     requires { longest_text ≤ length out.old }
 {
-    let mut block = io::large_buffer();
+    let mut block = [0u8; BLOCK];
     let mut partial = Partial::new();
-    let mut turns = 18446744073709551615u64;
-    while 0 < turns {
-        let n = read(&mut block);
+    for _ in 0..u64::MAX {
+        let n = read(input, &mut block)?;
         if n == 0 {
-            return partial;
+            return Ok(partial);
         }
-        partial = play(language, partial, state, memory, line, &block[..n], out);
-        turns -= 1;
+        partial = play(
+            language,
+            partial,
+            state,
+            memory,
+            line,
+            &block[..n],
+            out,
+            output,
+        )?;
     }
-    partial
+    Ok(partial)
 }
 
 // Plays all of standard input; a last line needs no newline.
-fn run(language: Language) {
+fn run<R: Input + Print>(rt: &R, language: Language) -> io::Result<()> {
     let mut state = [0u8; STATE];
     let mut memory = [0u8; MEMORY];
     let mut line = [0u8; KEPT];
-    let mut out = io::large_buffer();
+    let mut out = [0u8; BLOCK];
+    let mut input = rt.reader();
+    let mut output = io::writer(rt);
     begin(language, &mut state);
-    let last = play_input(language, &mut state, &mut memory, &mut line, &mut out);
+    let last = play_input(
+        language,
+        &mut state,
+        &mut memory,
+        &mut line,
+        &mut out,
+        &mut input,
+        &mut output,
+    )?;
     if last.len != 0 {
         play(
             language,
@@ -83,21 +116,23 @@ fn run(language: Language) {
             &mut line,
             b"\n",
             &mut out,
-        );
+            &mut output,
+        )?;
     }
+    Ok(())
 }
 
 // Each line is a request.
-pub fn bench() {
-    run(Language::Bench);
+pub fn bench<R: Input + Print>(rt: &R) -> io::Result<()> {
+    run(rt, Language::Bench)
 }
 
 // Each line is a call of a recording.
-pub fn replay() {
-    run(Language::Recording);
+pub fn replay<R: Input + Print>(rt: &R) -> io::Result<()> {
+    run(rt, Language::Recording)
 }
 
 // Each line is a text line, or a call of a recording.
-pub fn text_door() {
-    run(Language::TextDoor);
+pub fn text_door<R: Input + Print>(rt: &R) -> io::Result<()> {
+    run(rt, Language::TextDoor)
 }

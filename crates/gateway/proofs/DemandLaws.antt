@@ -31,11 +31,11 @@ use Rattle.rules.proofs.BreakLifeLaws.{watching}
 use Rattle.rules.proofs.StatusLaws.{how-many-set}
 use Rattle.rules.proofs.WaitingLaws.{waiting}
 use Rattle.rules.specs.Why.{why_of}
-use Rattle.rules.specs.WhyRight.{Shaped, told_number, told_facts, WhyRight}
+use Rattle.rules.specs.WhyRight.{Shaped, told_number, told_facts}
 use Rattle.rules.proofs.WhyLaws.{number_is, why-right}
 use Rattle.reasons.specs.declared.Reason.{Reason}
 use Rattle.reasons.specs.Reason.{reason_number, facts_of}
-use Rattle.state_bytes.specs.State.{state_of, state_formed, state_sound}
+use Rattle.state_bytes.specs.State.{state_formed, state_sound}
 use Rattle.gateway.specs.Called.{Called, report_called, finished, badly_lent, lent_on, refused_by, call_on, machine_stored, why_on, why_called, Did}
 use Rattle.gateway.specs.Sequence.{Begins, Made, read_from}
 use Rattle.gateway.specs.Demands.{TotalOnBytes, SameNumber, TellsRight, ListsOnBytes, Demands}

@@ -29,7 +29,7 @@ use Rattle.gateway.specs.Stage.{lent_number}
 use Rattle.gateway.specs.Called.{called, report_called, lent_on, badly_lent, finished, call_on}
 use Rattle.gateway.proofs.ReadyLaws.{formed-long, sound-formed, sound-ready}
 use Rattle.gateway.proofs.StageLaws.{silent, request-lent}
-use Rattle.gateway.proofs.ReportLaws.{both, report-lent}
+use Rattle.gateway.proofs.ReportLaws.{report-lent}
 use Rattle.gateway.proofs.TextLaws.{line-lent}
 use Rattle.gateway.proofs.PacketLaws.{packet-lent}
 use Rattle.gateway.proofs.TickLaws.{tick-lent}

@@ -36,7 +36,7 @@ use Rattle.state_bytes.specs.Theorems.{Sized}
 use Rattle.state_bytes.specs.Widths.{state_width}
 use Rattle.state_bytes.proofs.StateLaws.{inverse, eight-at}
 use Rattle.rules.specs.Why.{why_of}
-use Rattle.reasons.specs.Reason.{reason_number, facts_of}
+use Rattle.reasons.specs.Reason.{facts_of}
 use Rattle.rules.proofs.WhyLaws.{reason-number}
 use Rattle.gateway.specs.Called.{Called, finished, call_on, machine_stored, why_on, why_called, lent_on, start_on, Did}
 use Rattle.gateway.specs.Sequence.{Begins, Done, AllTyped, item, items, read_from}

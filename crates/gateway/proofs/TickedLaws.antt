@@ -1,5 +1,5 @@
 -- What a tick does to the bytes of a sound state: nothing where the Pup door is at no process, else it puts the process back a tick later. Assumes nothing.
-use mathlib.Core.Path.{◌≡◌, refl, sym, ap, ◌∙◌}
+use mathlib.Core.Path.{◌≡◌, refl, sym, ◌∙◌}
 use mathlib.Core.Bool.{true, false}
 use mathlib.Core.List.{List, []}
 use Prim.Native.Nat.{ℕ, ◌≤◌, ◌<◌}
@@ -7,8 +7,6 @@ use Rattle.lists.specs.Buffer.{Bytes}
 use Rattle.lists.proofs.Bool.{&&-right}
 use Rattle.format.specs.declared.outcome.Outcome.TheVariants.{Granted}
 use Rattle.format.specs.Outcome.{outcome, is_granted}
-use Rattle.process.specs.Local.{Local}
-use Rattle.process.specs.Request.{on_record}
 use Rattle.process.specs.Packet.{go_of, ticked}
 use Rattle.process.proofs.KeptLaws.{same-there}
 use Rattle.process.proofs.PacketLaws.{shape-ticked}

@@ -1,5 +1,5 @@
 -- Why a request is refused, stage by stage: by the state, by its layout, or by what is asked of the state. Assumes nothing.
-use mathlib.Core.Path.{◌≡◌, refl, sym, ap, ◌∙◌}
+use mathlib.Core.Path.{◌≡◌, refl, sym, ◌∙◌}
 use mathlib.Core.Bool.{Bool, true, false, cond}
 use mathlib.Core.List.{List, []}
 use Prim.Native.Nat.{ℕ}
@@ -18,7 +18,6 @@ use Rattle.reasons.specs.declared.Reason.TheVariants.{Granted, Other}
 use Rattle.reasons.specs.Reason.{reason_number, facts_of, fact_count}
 use Rattle.process.specs.declared.record.Process.{Process}
 use Rattle.state.specs.Records.{process_at}
-use Rattle.state.specs.Sound.{sound_test}
 use Rattle.rules.specs.Tests.{State, lent, record_of, unsound, no_place, asked_tests}
 use Rattle.rules.specs.Why.{reason_for, reason_without_process, why_number, why_of}
 use Rattle.rules.proofs.NumberLaws.{or_else, by-test}

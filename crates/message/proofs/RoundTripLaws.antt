@@ -5,24 +5,22 @@ use mathlib.Core.Path.{◌≡◌, sym, ap, ◌∙◌}
 use mathlib.Core.Bool.{true}
 use mathlib.Core.List.{List}
 use Prim.Native.Nat.{ℕ, ◌+◌, ◌≤◌}
-use native.Mathlib.Omega.{arith}
 use borrow.Author.Tests.{le-ltb}
-use lib.ListN.{length, take, drop, length-drop}
-use lib.Seq.{length-take-le, take-append-add}
-use Rattle.lists.specs.Buffer.{Bytes, overlay}
+use lib.ListN.{length, take}
+use Rattle.lists.specs.Buffer.{Bytes}
 use Rattle.lists.proofs.Buffer.{take-overlay}
 use Rattle.format.specs.declared.header.Header.{Header}
 use Rattle.format.specs.declared.outcome.Outcome.TheVariants.{Granted}
 use Rattle.format.specs.declared.outcome.Reading.TheVariants.{Message}
 use Rattle.format.specs.Outcome.{first_failing}
-use Rattle.format.specs.Layout.{header, written, header_of, string_of, fixed_right}
+use Rattle.format.specs.Layout.{written, header_of, string_of, fixed_right}
 use Rattle.format.specs.Refusal.{layout_tests}
 use Rattle.message.specs.Exchange.{Forms, write_number, answered, read_number, writes, reads}
 use Rattle.message.specs.RoundTrip.{ReadAs, WrittenAs, RoundTrip}
 use Rattle.format.proofs.OutcomeLaws.{granted-zero, granted-length, reading-zero, message-zero, message-header, rest-passes}
 use Rattle.format.proofs.TestLaws.{zero-passed, sized-between, headed-fixed}
 use Rattle.format.proofs.LayoutLaws.{header_of-written, string_of-written, fixed_right-written, length-written, written-header_of, length-string_of}
-use Rattle.message.proofs.ExchangeLaws.{write_number-room, answered-granted}
+use Rattle.message.proofs.ExchangeLaws.{answered-granted}
 
 module _ (forms : Forms) where
   -- the written form of fields and a string whose number is 0 is read as they are

@@ -7,10 +7,15 @@ mod show;
 mod table;
 mod written;
 
-fn main() {
-    table::show_table();
-    written::show_ops();
-    written::show_notices();
-    refused::show_writer();
-    refused::show_readers();
+use std::io;
+use std::io::{BufWriter, Write};
+
+fn main(rt: HostRuntime) -> io::Result<()> {
+    let mut out = BufWriter::new(rt.alloc(), io::writer(&rt))?;
+    table::show_table(&mut out)?;
+    written::show_ops(&mut out)?;
+    written::show_notices(&mut out)?;
+    refused::show_writer(&mut out)?;
+    refused::show_readers(&mut out)?;
+    out.flush()
 }

@@ -6,21 +6,23 @@ ghost use Rattle.format.specs.Sizes.{header_bytes};
 use crate::show;
 use format::{Header, MESSAGE_BYTES, Outcome};
 use ops::{ArgUse, Carried, Form, Found};
+use std::io;
+use std::io::Write;
 
 // Of each op code the request, the reply that grants it and, but for NOP, the CAN'T.
-pub(crate) fn show_ops() {
+pub(crate) fn show_ops<W: Write>(out: &mut W) -> io::Result<()> {
     show::text(
+        out,
         b"\nOf each op code the request, the reply and the CAN'T, each with what the other end reads of it:\n",
-    );
-    ops();
+    )?;
+    ops(out)
 }
 
-fn ops() {
-    let mut cmd: u8 = 0;
-    while cmd < 128 {
-        op(cmd);
-        cmd += 1;
+fn ops<W: Write>(out: &mut W) -> io::Result<()> {
+    for cmd in 0..128u8 {
+        op(out, cmd)?;
     }
+    Ok(())
 }
 
 fn sample(f: Form, cmd: u8) -> Header {
@@ -46,23 +48,23 @@ fn carried(f: Form, h: Header) -> usize {
 }
 
 // Each is written into the same buffer: what stands after the ten bytes of EXAMINE's reply is then its string.
-fn op(cmd: u8) {
+fn op<W: Write>(out: &mut W, cmd: u8) -> io::Result<()> {
     let Found::Known(f) = ops::request_form(cmd) else {
-        return;
+        return Ok(());
     };
     let h = sample(f, cmd);
     let mut buffer = [97u8; MESSAGE_BYTES];
-    show::character(10);
+    show::character(out, 10)?;
     let string = show::front(b"abc", carried(f, h));
     let request = message::write_request(h, string, &mut buffer);
-    show::written(request, &buffer, false);
+    show::written(out, request, &buffer, false)?;
     let reply = write_reply(h, &mut buffer);
-    show::written(reply, &buffer, true);
+    show::written(out, reply, &buffer, true)?;
     if cmd == ops::NOP {
-        return;
+        return Ok(());
     }
     let cant = message::write_reply(h.cant(), &mut buffer);
-    show::written(cant, &buffer, true);
+    show::written(out, cant, &buffer, true)
 }
 
 // CREATE's reply has the number of the new process, and that of STATUS the number of breakpoints and the run state.
@@ -78,17 +80,17 @@ fn write_reply(h: Header, buffer: &mut [u8]) -> Outcome
     }
 }
 
-pub(crate) fn show_notices() {
-    show::text(b"\nThe notices:\n");
-    notice(0, 4);
-    notice(1, 0);
-    notice(2, 0);
-    notice(3, 0);
+pub(crate) fn show_notices<W: Write>(out: &mut W) -> io::Result<()> {
+    show::text(out, b"\nThe notices:\n")?;
+    notice(out, 0, 4)?;
+    notice(out, 1, 0)?;
+    notice(out, 2, 0)?;
+    notice(out, 3, 0)
 }
 
-fn notice(kind: u8, reason: u16) {
+fn notice<W: Write>(out: &mut W, kind: u8, reason: u16) -> io::Result<()> {
     let mut buffer = [0u8; MESSAGE_BYTES];
     let vector: [u16; 9] = [1, 2, 3, 4, 5, 6, 4094, 256, 61440];
     let written = message::write_notice(5, kind, 2, reason, vector, &mut buffer);
-    show::written(written, &buffer, true);
+    show::written(out, written, &buffer, true)
 }

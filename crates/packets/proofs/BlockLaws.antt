@@ -11,7 +11,6 @@ use lib.Dec.{eqb}
 use Rattle.packets.specs.declared.units.WordAddress.{WordAddress}
 use Rattle.packets.specs.declared.units.WordCount.{WordCount}
 use Rattle.packets.specs.declared.units.ByteCount.{ByteCount}
-use Rattle.packets.specs.declared.block.Block.{Block}
 use Rattle.packets.specs.declared.block.Block.TheVariants.{Nothing, Words}
 use Rattle.packets.specs.Units.{word_count, holds}
 use Rattle.packets.specs.Data.{asked}

@@ -8,7 +8,7 @@ use lib.Dec.{eqb, leb}
 use Rattle.lists.proofs.Every.{below_at}
 use Rattle.packets.specs.declared.units.WordCount.{WordCount}
 use Rattle.packets.specs.Units.{word_count}
-use Rattle.packets.specs.Block.{sendable, none_or_sendable, may_ask, length_to_send, half}
+use Rattle.packets.specs.Block.{sendable, none_or_sendable, may_ask, length_to_send}
 
 -- a number that is k, or passes another test
 one-of : (P : ℕ → Type 0) (n k : ℕ) (rest : Bool) → P k → (rest ≡ true → P n) → eqb n k || rest ≡ true → P n

@@ -9,7 +9,7 @@ use native.Mathlib.Omega.{arith}
 use lib.ListN.{length, take, get_or, set, length-map}
 use lib.Seq.{get_or-set_other, get_or-take, length-take-le}
 use Rattle.breakpoints.specs.declared.entry.Breakpoint.{Breakpoint}
-use Rattle.breakpoints.specs.Entry.{free, with_saved, in_use}
+use Rattle.breakpoints.specs.Entry.{free, with_saved}
 use Rattle.breakpoints.specs.Seen.{put_word, is_planted, restored, seen, saved_from}
 use Rattle.process.specs.Record.{count_used}
 use Rattle.process.specs.Request.{sheltered}

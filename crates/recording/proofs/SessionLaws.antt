@@ -6,7 +6,7 @@ use Prim.Native.Nat.{ℕ, suc, ◌+◌, ◌-◌, ◌≤◌, ◌<◌}
 use native.Mathlib.Numerals.{add-one}
 use native.Mathlib.Omega.{arith}
 use borrow.Author.Tests.{ltb-false, le-ltb, eq-eqb}
-use lib.ListN.{length, take, drop, get_or, set, length-append, length-take, length-drop, take-append-drop, drop_of_length-le}
+use lib.ListN.{length, take, drop, get_or, set, length-append, length-drop, take-append-drop, drop_of_length-le}
 use lib.Seq.{take_all, take-append_seam, take-suc-set, length-take-le, drop-append_seam, drop-cons, drop-drop}
 use lib.Dec.{eqb}
 use Rattle.lists.specs.Buffer.{overlay}
@@ -17,7 +17,6 @@ use Rattle.recording.specs.declared.language.Language.{Language}
 use Rattle.recording.specs.declared.language.Language.TheVariants.{Bench, Recording, TextDoor}
 use Rattle.recording.specs.declared.partial.Partial.{Partial}
 use Rattle.recording.specs.declared.feeding.Step as code_step
-use Rattle.recording.specs.declared.feeding.Fed as code
 use Rattle.recording.specs.Command.{begins, raw_word, why_word}
 use Rattle.recording.specs.Line.{pairs_behind, pairs_from, capped}
 use Rattle.recording.specs.Session.{Reading, reading, nothing_read, phase_after, typed, Session, session, line_ended, stepped, waits, Fed, fed_to, fed, through, Steps, Feeds}

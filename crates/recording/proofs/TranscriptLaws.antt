@@ -1,25 +1,23 @@
 -- Laws of transcripts: a session that keeps a transcript, one character more. Assumes nothing.
 use mathlib.Core.Path.{◌≡◌, refl, sym, ap, ◌∙◌}
-use mathlib.Core.Bool.{Bool, true, false, cond, ◌&&◌, ◌||◌}
+use mathlib.Core.Bool.{Bool, true, false, cond, ◌||◌}
 use mathlib.Core.List.{List, [], ◌∷◌, ◌++◌, append-nil}
 use mathlib.Core.Logic.{inl, inr}
 use Prim.Native.Nat.{ℕ, ◌+◌, ◌-◌, ◌≤◌, ◌<◌}
 use native.Mathlib.Omega.{arith}
-use borrow.Author.Tests.{ltb-true, ltb-false, lt-ltb, le-ltb, leb-true, leb-false}
+use borrow.Author.Tests.{ltb-true, ltb-false, le-ltb, leb-true, leb-false}
 use lib.ListN.{length, take, drop, length-append, length-take, drop_of_length-le}
 use lib.Seq.{take_all, take-take, take-nil, drop-nil, take-append-le, drop-append-le, length-take-le}
 use lib.Dec.{leb, ltb}
 use Rattle.lists.proofs.Bool.{&&-right}
-use Rattle.lines.specs.declared.scan.Phase.{Phase}
 use Rattle.lines.specs.declared.scan.Phase.TheVariants.{Open}
 use Rattle.lines.specs.Scan.{next, after, is_newline}
 use Rattle.lines.proofs.ScanLaws.{in_parts}
-use Rattle.calls.specs.Effect.{Effect}
 use Rattle.recording.specs.declared.language.Language.{Language}
 use Rattle.recording.specs.declared.language.Language.TheVariants.{Bench, Recording, TextDoor}
 use Rattle.recording.specs.Command.{begins, raw_word, why_word}
 use Rattle.recording.specs.Line.{pairs_behind, pairs_from, capped, line_effect, whole_effect}
-use Rattle.recording.specs.Session.{Reading, nothing_read, phase_after, typed, session, line_ended, stepped, waits, Fed, fed_to, fed}
+use Rattle.recording.specs.Session.{phase_after, typed, session, line_ended, stepped, waits, fed_to, fed}
 use Rattle.recording.specs.Transcript.{Transcript, answered, character, transcribed, keeps, Follows, FollowsLines, InBlocks}
 use Rattle.recording.proofs.CommandLaws.{begins-short, begins-take, begins-more}
 use Rattle.recording.proofs.SessionLaws.{pairs-within}

@@ -5,12 +5,20 @@
 mod cases;
 mod show;
 
-fn main() {
-    show::text(b"HOST CMD PID ARG1 ARG2, reason, fact: sentence\n");
-    cases::show_form();
-    cases::show_hosts();
-    cases::show_run_states();
-    cases::show_limits();
-    cases::show_breakpoints();
-    cases::show_others();
+use std::io;
+use std::io::{BufWriter, Write};
+
+fn main(rt: HostRuntime) -> io::Result<()> {
+    let mut out = BufWriter::new(rt.alloc(), io::writer(&rt))?;
+    show::text(
+        &mut out,
+        b"HOST CMD PID ARG1 ARG2, reason, fact: sentence\n",
+    )?;
+    cases::show_form(&mut out)?;
+    cases::show_hosts(&mut out)?;
+    cases::show_run_states(&mut out)?;
+    cases::show_limits(&mut out)?;
+    cases::show_breakpoints(&mut out)?;
+    cases::show_others(&mut out)?;
+    out.flush()
 }

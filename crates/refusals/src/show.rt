@@ -3,13 +3,14 @@ ghost use Rattle.std.specs.Prelude.{◌+◌, ◌≤◌, length};
 
 use decimal::{put_field, put_number, put_wide};
 use format::Header;
-use libc::STDOUT_FILENO;
 use lines::put;
 use reasons::Reason;
 use sentence::put_sentence;
+use std::io;
+use std::io::Write;
 
-pub(crate) fn text(bytes: &[u8]) {
-    io::write_all(STDOUT_FILENO, bytes);
+pub(crate) fn text<W: Write>(out: &mut W, bytes: &[u8]) -> io::Result<()> {
+    out.write_all(bytes)
 }
 
 // The fact that a sentence is told with; 0 where there is none.
@@ -52,10 +53,10 @@ fn put_case(h: Header, reason: Reason, out: &mut [u8]) -> usize
     put(b": ", known, out)
 }
 
-pub(crate) fn show(h: Header, reason: Reason) {
+pub(crate) fn show<W: Write>(out: &mut W, h: Header, reason: Reason) -> io::Result<()> {
     let mut line = [0u8; 221];
     let at = put_case(h, reason, &mut line);
     let end = put_sentence(h, reason, at, &mut line);
     let all = put(b"\n", end, &mut line);
-    text(&line[..all]);
+    text(out, &line[..all])
 }

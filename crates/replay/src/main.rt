@@ -2,6 +2,8 @@
 // breakpoint that is passed and met again, how processes lie in the one memory and move in it, and packets and ticks of the Pup door.
 #![tactic(auto)]
 
-fn main() {
-    console::replay();
+use std::io;
+
+fn main(rt: HostRuntime) -> io::Result<()> {
+    console::replay(&rt)
 }

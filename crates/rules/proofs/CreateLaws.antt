@@ -1,32 +1,32 @@
 -- What CREATE does to the memory: when it is refused with 13, where the new process lies, and that its bytes are zero. Assumes nothing.
-use mathlib.Core.Path.{◌≡◌, refl, sym, ap, ◌∙◌, subst}
+use mathlib.Core.Path.{◌≡◌, refl, sym, ap, ◌∙◌}
 use mathlib.Core.Bool.{Bool, true, false, not, cond, ◌||◌, true≢false}
 use mathlib.Core.List.{List, [], ◌∷◌}
 use mathlib.Core.Logic.{◌⊎◌, inl, inr}
 use Prim.Native.Nat.{ℕ, ◌+◌, ◌≤◌, ◌<◌}
 use native.Mathlib.Omega.{arith}
-use borrow.Author.Tests.{eq-eqb, eqb-true, ltb-true, ltb-false, lt-ltb, not-true, not-false}
-use lib.ListN.{length, get_or, replicate}
+use borrow.Author.Tests.{eq-eqb, ltb-true, ltb-false, lt-ltb, not-false}
+use lib.ListN.{replicate}
 use lib.Seq.{get_or-set_same}
-use lib.Dec.{eqb, ltb}
+use lib.Dec.{ltb}
 use Rattle.lists.specs.Buffer.{overlay}
-use Rattle.lists.proofs.First.{first-≤, first-before, first_passes}
+use Rattle.lists.proofs.First.{first-before}
 use Rattle.ops.specs.Codes.{CREATE}
 use Rattle.format.specs.declared.header.Header.{Header}
-use Rattle.format.specs.Outcome.{outcome, number_of, test, first_failing}
+use Rattle.format.specs.Outcome.{number_of, test, first_failing}
 use Rattle.format.specs.Layout.{written, header_of}
 use Rattle.format.specs.Answer.{created_of}
-use Rattle.format.proofs.OutcomeLaws.{number_of-outcome, rest-passes}
+use Rattle.format.proofs.OutcomeLaws.{rest-passes}
 use Rattle.process.specs.declared.record.Process.{Process}
 use Rattle.process.specs.Record.{fresh}
-use Rattle.process.specs.Local.{Local, extent, Proper}
+use Rattle.process.specs.Local.{Local, extent}
 use Rattle.process.specs.Request.{created}
 use Rattle.state.specs.Records.{start_of, lowest_absent}
 use Rattle.state.specs.Records.{nobody as no_process}
 use Rattle.state.specs.Layout.{used, free_bytes}
 use Rattle.state.proofs.LayoutLaws.{used-last}
 use Rattle.rules.specs.Rule.{public, names, creates, size_asked}
-use Rattle.rules.specs.Tests.{State, record_of, no_place, asked_tests, request_number}
+use Rattle.rules.specs.Tests.{State, no_place, asked_tests, request_number}
 use Rattle.rules.specs.Window.{put_last, put}
 use Rattle.rules.specs.Step.{granted_create, granted, refused, request_step, local_of}
 use Rattle.rules.specs.Turn.{message_tests}
@@ -34,9 +34,9 @@ use Rattle.rules.specs.Ready.{Ready}
 use Rattle.rules.specs.Isolation.{is_granted}
 use Rattle.rules.specs.OneMemory.{Creating, AllTaken, TooFewFree, number_given, created_in, CreateRule}
 use Rattle.rules.proofs.ProperLaws.{new-proper, create-size}
-use Rattle.rules.proofs.StateLaws.{layout_of, Changed, Fits, put_is, put-changed}
+use Rattle.rules.proofs.StateLaws.{layout_of, Changed, put_is, put-changed}
 use Rattle.rules.proofs.NumberLaws.{first-append, layout-sent}
-use Rattle.rules.proofs.RequestLaws.{asked-right, created_then, lowest-absent, has-place, fits-created}
+use Rattle.rules.proofs.RequestLaws.{asked-right, lowest-absent, has-place, fits-created}
 
 module _ (s : State) (r : Ready s) (m buffer : List ℕ) (c : Creating s m buffer) where
   abbrev h : Header

@@ -1,29 +1,26 @@
 -- What DESTROY does to the memory: the others move down unchanged, what is freed is zero, and nothing is left of the one that goes. Assumes
 -- nothing.
-use mathlib.Core.Path.{◌≡◌, refl, sym, ap, ap₂, ◌∙◌, subst}
-use mathlib.Core.Bool.{Bool, true, false, not, cond, ◌&&◌, true≢false}
-use mathlib.Core.List.{List, [], ◌∷◌, ◌++◌}
+use mathlib.Core.Path.{◌≡◌, refl, sym, ap, ap₂, ◌∙◌}
+use mathlib.Core.Bool.{Bool, true, false, cond, true≢false}
+use mathlib.Core.List.{List, []}
 use mathlib.Core.Logic.{◌⊎◌, inl, inr}
 use Prim.Native.Nat.{ℕ, zero, suc, ◌+◌, ◌-◌, ◌≤◌, ◌<◌}
 use native.Mathlib.Omega.{arith}
-use borrow.Author.Tests.{eqb-true, eqb-false, ltb-true, not-true, not-false}
-use lib.ListN.{length, get_or, set, replicate, length-set}
+use borrow.Author.Tests.{eqb-true, eqb-false, ltb-true, not-false}
+use lib.ListN.{get_or, set, replicate, length-set}
 use lib.Seq.{ext_get_or, get_or-set_same, get_or-set_other}
 use lib.Dec.{eqb, ltb}
-use Rattle.lists.specs.Elements.{elements}
 use Rattle.lists.proofs.Elements.{elements-alike}
 use Rattle.lists.proofs.Bool.{&&-left, &&-right}
-use Rattle.ops.specs.Codes.{DESTROY}
-use Rattle.format.specs.Outcome.{outcome, number_of, Test, test, first_failing}
-use Rattle.format.specs.Layout.{header_of, string_of}
-use Rattle.format.proofs.OutcomeLaws.{rest-passes}
+use Rattle.format.specs.Outcome.{outcome, first_failing}
+use Rattle.format.specs.Layout.{header_of}
 use Rattle.format.proofs.OutcomeLaws.{first_passes as head-passes}
 use Rattle.process.specs.declared.record.Process.{Process}
 use Rattle.process.specs.Record.{fresh}
-use Rattle.process.specs.Local.{Local, local, extent, Proper}
-use Rattle.process.specs.Request.{cleared, destroyed}
+use Rattle.process.specs.Local.{Local, local}
+use Rattle.process.specs.Request.{cleared}
 use Rattle.process.specs.Theorems.{seen_of}
-use Rattle.state.specs.Records.{Records, nobody, process_at, start_of, with_process}
+use Rattle.state.specs.Records.{Records, nobody, start_of}
 use Rattle.state.specs.Layout.{extent_at, used, slot, closed, start_without, starts_without}
 use Rattle.state.proofs.LayoutLaws.{start-inside, starts_apart, start-above, start_under, used-without}
 use Rattle.state.proofs.MemoryLaws.{closed-freed, closed-alike}
@@ -37,7 +34,7 @@ use Rattle.rules.specs.Run.{run}
 use Rattle.rules.specs.Isolation.{is_granted, public_of}
 use Rattle.rules.specs.OneMemory.{Destroying, DestroyRule, DifferOnlyIn, NothingIsLeft}
 use Rattle.rules.proofs.ProperLaws.{destroy-proper}
-use Rattle.rules.proofs.StateLaws.{layout_of, sized_of, Changed, Fits, used-shown, put_is, put-changed}
+use Rattle.rules.proofs.StateLaws.{layout_of, Changed, used-shown, put_is, put-changed}
 use Rattle.rules.proofs.NumberLaws.{or_else-zero, first-append}
 
 -- what is left of a process that is destroyed

@@ -1,9 +1,9 @@
 -- Free bytes are not read, nor is the order in which processes lie; only a CREATE changes a free byte. Assumes nothing.
 use mathlib.Core.Path.{◌≡◌, refl, sym, ap, ap₂, ◌∙◌}
-use mathlib.Core.Bool.{Bool, true, false, cond}
+use mathlib.Core.Bool.{Bool, true, false}
 use mathlib.Core.List.{List, [], ◌∷◌}
 use mathlib.Core.Logic.{inr}
-use Prim.Native.Nat.{ℕ, ◌+◌, ◌≤◌, ◌<◌}
+use Prim.Native.Nat.{ℕ, ◌≤◌, ◌<◌}
 use native.Mathlib.Omega.{arith}
 use borrow.Author.Tests.{eqb-true}
 use lib.ListN.{length, get_or, take-append-drop}
@@ -17,7 +17,7 @@ use Rattle.state.proofs.LayoutLaws.{start-inside}
 use Rattle.state.proofs.MemoryLaws.{with_slot-outside, closed-free}
 use Rattle.rules.specs.Rule.{public}
 use Rattle.rules.specs.Tests.{State, record_of}
-use Rattle.rules.specs.Access.{Access, Place, nowhere, at_process, Turn, number_at, reached, taken}
+use Rattle.rules.specs.Access.{Place, nowhere, at_process, Turn, reached, taken}
 use Rattle.rules.specs.Window.{put_in_place, taken_out, put}
 use Rattle.rules.specs.Step.{Answer, Call, step, local_of}
 use Rattle.rules.specs.Turn.{turn_of, buffers_of}
@@ -26,9 +26,9 @@ use Rattle.rules.specs.Run.{run, final}
 use Rattle.rules.specs.Isolation.{Apart, fields_of, public_of}
 use Rattle.rules.specs.OneMemory.{SameProcesses, answers_of, FreeBytes}
 use Rattle.rules.proofs.ProperLaws.{sound-of}
-use Rattle.rules.proofs.StateLaws.{extent_of, inside, layout_of, sized_of, absent_none, none_of, put_is, put-stays}
+use Rattle.rules.proofs.StateLaws.{extent_of, inside, layout_of, absent_none, none_of, put_is, put-stays}
 use Rattle.rules.proofs.AccessLaws.{said_at}
-use Rattle.rules.proofs.CallLaws.{There, Placed}
+use Rattle.rules.proofs.CallLaws.{Placed}
 use Rattle.rules.proofs.LawfulLaws.{lawful}
 use Rattle.rules.proofs.StepLaws.{Done, stays, idles, acts, done, step-ready, left-proper}
 use Rattle.rules.proofs.IsolationLaws.{reached-answer, both}

@@ -3,11 +3,10 @@
 use mathlib.Core.Path.{◌≡◌, refl, sym, ap, ◌∙◌}
 use mathlib.Core.Bool.{Bool, true, false, cond, ◌&&◌}
 use mathlib.Core.List.{List, [], ◌∷◌}
-use Prim.Native.Nat.{ℕ, ◌+◌, ◌-◌, ◌<◌}
+use Prim.Native.Nat.{ℕ, ◌+◌, ◌<◌}
 use native.Mathlib.Omega.{arith}
 use lib.ListN.{length, get_or}
 use lib.Dec.{eqb}
-use Rattle.lists.specs.Sum.{total}
 use Rattle.lists.proofs.Sum.{total-alike}
 use Rattle.process.specs.Record.{fresh}
 use Rattle.process.specs.Request.{cleared}
@@ -17,7 +16,7 @@ use Rattle.state.specs.Theorems.{FreshIsSound}
 use Rattle.state.proofs.LayoutLaws.{last-ends}
 use Rattle.state.proofs.SoundLaws.{state-passes}
 use Rattle.state.proofs.FreshLaws.{length-fresh_processes, getD-fresh_processes, length-fresh_starts, fresh-is-sound}
-use Rattle.state.specs.Records.{nobody, process_at}
+use Rattle.state.specs.Records.{process_at}
 use Rattle.rules.specs.Rule.{Public, public, names, creates, size_asked}
 use Rattle.rules.specs.Tests.{State, lent}
 use Rattle.rules.specs.Step.{Answer, Call, step}

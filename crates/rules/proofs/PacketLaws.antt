@@ -18,7 +18,7 @@ use Rattle.run_state.specs.RunState.{stopped_or_at_break}
 use Rattle.session.specs.Session.{pup_host, waits_for, answers_go, is_last_tick}
 use Rattle.process.specs.declared.record.Process.{Process}
 use Rattle.process.specs.Local.{Local, Proper}
-use Rattle.process.specs.Request.{on_record, deposited}
+use Rattle.process.specs.Request.{deposited}
 use Rattle.process.specs.Packet.{go_of, without_go, go_asked, go_ended, go_replied, ticked, word_stored}
 use Rattle.process.proofs.ProperLaws.{abandon-go-proper, ask-go-proper, reply-go-proper, tick-proper}
 use Rattle.process.proofs.ProperLaws.{store-proper as word-proper}
@@ -28,8 +28,8 @@ use Rattle.rules.specs.Tests.{State, packet_tests, packet_number, tick_tests, ti
 use Rattle.rules.specs.Access.{nobody, by, insider, number_at}
 use Rattle.rules.specs.Step.{Call, packet, tick, step}
 use Rattle.rules.specs.Turn.{packet_access, packet_turn, tick_access, tick_turn, turn_of, buffers_of}
-use Rattle.rules.specs.Ready.{Ready, NineWords}
-use Rattle.rules.specs.Isolation.{Processes, without_stored, asker, subject, event, passed_over, fields_of, is_granted, told_of}
+use Rattle.rules.specs.Ready.{Ready}
+use Rattle.rules.specs.Isolation.{without_stored, asker, subject, event, passed_over, fields_of, is_granted, told_of}
 use Rattle.rules.specs.Total.{tests_of, numbers_of, one_of}
 use Rattle.rules.proofs.StateLaws.{fits_kept}
 use Rattle.rules.proofs.RuleLaws.{host-in, turns-kept, whole}

@@ -1,6 +1,6 @@
 -- The law of a query: it makes the tests of the request that it is about, changes nothing, and tells a stranger what is public alone. Assumes nothing.
 use mathlib.Core.Path.{◌≡◌, refl, sym, ap, ◌∙◌, subst}
-use mathlib.Core.Bool.{Bool, true, false, not, cond, ◌&&◌, true≢false}
+use mathlib.Core.Bool.{Bool, true, false, not, ◌&&◌, true≢false}
 use mathlib.Core.List.{List, [], ◌∷◌, ◌++◌}
 use mathlib.Core.Logic.{◌⊎◌, inl, inr}
 use Prim.Native.Nat.{ℕ, ◌<◌}
@@ -26,7 +26,7 @@ use Rattle.rules.specs.Rule.{Rule, Public, public, rule_of, names, creates}
 use Rattle.rules.specs.Tests.{State, tests_from2, record_of, unsound, no_place, asked_tests}
 use Rattle.rules.specs.Why.{reason_for, reason_without_process, why_number, why_of}
 use Rattle.rules.specs.Access.{by, insider, alone, Access, Place, nowhere, at_process, Turn, number_at, grants, refuses, reached, taken}
-use Rattle.rules.specs.Step.{StepResult, local_of, Call, query, query_step, step}
+use Rattle.rules.specs.Step.{local_of, query, query_step, step}
 use Rattle.rules.specs.Turn.{rule_access, create_access, place_tests, request_place, query_access, query_turn, single, turn_of, buffers_of}
 use Rattle.rules.specs.Ready.{Ready}
 use Rattle.rules.specs.Isolation.{Processes, names_one, deposits, without_string, asker, subject, event, passed_over, fields_of, is_granted, told_of}
@@ -37,7 +37,7 @@ use Rattle.rules.proofs.RuleLaws.{Taking as RowTaking}
 use Rattle.rules.proofs.NumberLaws.{or_else, by-test, same_cond, first-listed, or_else-zero, or_else-assoc, first-append, Sent, layout-sent}
 use Rattle.rules.proofs.TurnLaws.{place_number, turn_number, asked-number}
 use Rattle.rules.proofs.AccessLaws.{Taking, May, Discreet, Fair, outer_number}
-use Rattle.rules.proofs.CallLaws.{Shown, Silent, There, Nowhere, Placed, Lawful}
+use Rattle.rules.proofs.CallLaws.{Shown, Silent, There, Placed, Lawful}
 use Rattle.rules.proofs.RequestLaws.{same-absent, over-host, over-cmd, over-pid, over-long}
 use Rattle.rules.proofs.ReportLaws.{kept}
 

@@ -1,10 +1,10 @@
 -- A state with another process in one place: what changes, what stays, and that it is still sound, whether the process stays where it lies,
 -- comes last, or goes. Assumes nothing.
 use mathlib.Core.Path.{◌≡◌, refl, sym, ap, ap₂, ◌∙◌, subst}
-use mathlib.Core.Bool.{Bool, true, false, cond, true≢false}
+use mathlib.Core.Bool.{Bool, true, false, cond}
 use mathlib.Core.List.{List, [], ◌∷◌}
 use mathlib.Core.Logic.{◌⊎◌, inl, inr}
-use Prim.Native.Nat.{ℕ, ◌+◌, ◌-◌, ◌≤◌, ◌<◌}
+use Prim.Native.Nat.{ℕ, ◌+◌, ◌≤◌, ◌<◌}
 use native.Mathlib.Omega.{arith}
 use borrow.Author.Tests.{eqb-true, eqb-false}
 use lib.ListN.{length, get_or, length-set, get_or-eq_default, take-append-drop}
@@ -14,8 +14,8 @@ use Rattle.lists.specs.Buffer.{overlay}
 use Rattle.process.specs.declared.record.Process.{Process}
 use Rattle.process.specs.Sound.{Sound}
 use Rattle.process.specs.Local.{Local, local, extent, Proper}
-use Rattle.state.specs.Records.{Records, nobody, process_at, start_of, with_process}
-use Rattle.state.specs.Layout.{capacity, extent_at, used, LaidOut, slot, with_slot, closed}
+use Rattle.state.specs.Records.{nobody, start_of, with_process}
+use Rattle.state.specs.Layout.{capacity, extent_at, used, LaidOut, slot, with_slot}
 use Rattle.state.proofs.LayoutLaws.{Sized, start-inside, starts_apart, layout-kept, layout-last, layout-without, start-above, start_under, length-starts_without}
 use Rattle.state.proofs.MemoryLaws.{length-slot, length-with_slot, with_slot-slot, with_slot-over, slot_same, slot-other, length-closed, closed-below, closed-above}
 use Rattle.state.proofs.SoundLaws.{state-sound, state-passes}

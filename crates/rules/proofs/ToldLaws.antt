@@ -20,7 +20,7 @@ use Rattle.run_state.specs.ReportKind.{BPT}
 use Rattle.run_state.specs.RunState.{moving, accepts, goes_on}
 use Rattle.session.specs.Session.{text_host, owes}
 use Rattle.breakpoints.specs.declared.entry_query.EntryQuery.TheVariants.{At}
-use Rattle.breakpoints.specs.Entry.{free, in_use}
+use Rattle.breakpoints.specs.Entry.{free}
 use Rattle.breakpoints.specs.EntryQuery.{matches}
 use Rattle.process.specs.declared.record.Process.{Process}
 use Rattle.process.specs.declared.report.Verdict.{Verdict}

@@ -20,7 +20,7 @@ use Rattle.rules.specs.TextRule.{failure}
 use Rattle.rules.specs.Tests.{State, request_number, report_number, text_number, packet_number}
 use Rattle.rules.specs.Window.{Buffers}
 use Rattle.rules.specs.Access.{Output, Place, nowhere, at_process, Turn, number_at, grants, refuses, reached, taken}
-use Rattle.rules.specs.Step.{StepResult, local_of, put, granted, refused, request_step, report_step, text_step, packet_step, Call, request, report, text_line, packet, step}
+use Rattle.rules.specs.Step.{StepResult, local_of, put, refused, request_step, report_step, text_step, packet_step, Call, request, report, text_line, packet, step}
 use Rattle.rules.specs.Turn.{turn_of, buffers_of}
 use Rattle.rules.specs.Isolation.{is_granted}
 use Rattle.rules.specs.Total.{tests_of, First, cant_over, Total}

@@ -1,5 +1,5 @@
 -- When a Go that waits lets the process run: what each packet and each tick leaves of the record, and an induction over lists. Assumes nothing.
-use mathlib.Core.Path.{◌≡◌, refl, sym, ap, ◌∙◌, subst}
+use mathlib.Core.Path.{◌≡◌, refl, sym, ap, ◌∙◌}
 use mathlib.Core.Bool.{Bool, true, false, not, cond, true≢false}
 use mathlib.Core.List.{List, [], ◌∷◌}
 use mathlib.Core.Logic.{◌⊎◌, inl, inr}
@@ -7,7 +7,6 @@ use native.Mathlib.Omega.{arith}
 use Prim.Native.Nat.{ℕ, ◌+◌, ◌≤◌, ◌<◌}
 use borrow.Author.Tests.{eqb-true, eq-eqb, ne_eqb, lt-ltb, not-false}
 use lib.Dec.{eqb, ltb}
-use Rattle.lists.proofs.Bool.{&&-left, &&-right}
 use Rattle.ops.specs.Codes.{END-DEBUG, DESTROY}
 use Rattle.format.specs.Outcome.{first_failing}
 use Rattle.format.proofs.OutcomeLaws.{first_passes, rest-passes}
@@ -24,17 +23,16 @@ use Rattle.process.specs.Request.{on_record, resumed, end_debugged, cleared, dep
 use Rattle.process.specs.Packet.{go_of, without_go, go_asked, go_ended, go_replied, ticked, word_stored}
 use Rattle.process.proofs.PacketLaws.{ticked-last, ticked-on}
 use Rattle.rules.specs.Rule.{public, rule_of, names}
-use Rattle.rules.specs.PacketRule.{PacketRule, store_row, fetch_row, go_row, go_reply_row, packet_row_of}
-use Rattle.rules.specs.Tests.{State, record_of, asked_tests, unsound, tick_number}
-use Rattle.rules.specs.Access.{number_at}
-use Rattle.rules.specs.Step.{StepResult, local_of, Call, request, report, store, text_line, packet, tick, query, tick_step, step}
+use Rattle.rules.specs.PacketRule.{PacketRule, go_row, go_reply_row, packet_row_of}
+use Rattle.rules.specs.Tests.{State, record_of, asked_tests, tick_number}
+use Rattle.rules.specs.Step.{local_of, Call, request, report, store, text_line, packet, tick, query, tick_step, step}
 use Rattle.rules.specs.Turn.{packet_access, packet_turn, tick_access, tick_turn, turn_of}
 use Rattle.rules.specs.Ready.{Ready}
 use Rattle.rules.specs.Run.{final}
-use Rattle.rules.specs.Isolation.{is_granted, fields_of}
+use Rattle.rules.specs.Isolation.{is_granted}
 use Rattle.rules.specs.Owed.{Granted}
 use Rattle.rules.specs.Watch.{GrantedRequest}
-use Rattle.rules.specs.Waiting.{go_at, waiting_go, Waits, resume_number, go_resumed, is_tick, GoOf, tick_count, ticks_at, OnlyGos, AllOnlyGos, Timed, Waiting}
+use Rattle.rules.specs.Waiting.{go_at, waiting_go, Waits, resume_number, go_resumed, is_tick, tick_count, ticks_at, OnlyGos, AllOnlyGos, Timed, Waiting}
 use Rattle.rules.proofs.NumberLaws.{by-test}
 use Rattle.rules.proofs.StateLaws.{each-sound}
 use Rattle.rules.proofs.PacketLaws.{packet-passing}

@@ -1,9 +1,9 @@
 -- The test that a query names is the request's own, and each fact is right. Assumes nothing.
 use mathlib.Core.Path.{◌≡◌, refl, sym, ap, ◌∙◌, subst}
-use mathlib.Core.Bool.{Bool, true, false, not, cond, ◌&&◌, ◌||◌, true≢false}
+use mathlib.Core.Bool.{Bool, true, false, not, ◌&&◌, ◌||◌, true≢false}
 use mathlib.Core.List.{List, [], ◌∷◌, ◌++◌}
 use mathlib.Core.Logic.{◌⊎◌, inl, inr}
-use Prim.Native.Nat.{ℕ, zero, suc, ◌+◌, ◌-◌, ◌≤◌, ◌<◌, ◌%◌}
+use Prim.Native.Nat.{ℕ, suc, ◌+◌, ◌-◌, ◌≤◌, ◌<◌, ◌%◌}
 use native.Mathlib.Omega.{arith}
 use borrow.Author.Tests.{eqb-true, eqb-false, not-false, eq-eqb, ne_eqb, leb-true, leb-false, le-leb, lt-leb, ltb-true, ltb-false, not-true}
 use lib.ListN.{length, replicate, length-replicate, get_or-eq_default}
@@ -36,7 +36,7 @@ use Rattle.breakpoints.specs.Entry.{valid_break_address}
 use Rattle.format.specs.Layout.{fixed_right}
 use Rattle.format.specs.Refusal.{layout_tests}
 use Rattle.rules.specs.Rule.{Rule, public, up_to, examine_rule, no_rule, rules, rule_of, names, creates}
-use Rattle.rules.specs.Tests.{State, lent, record_of, absent, unsound, no_place, no_room, outer_tests, rule_tests, asked_tests, request_tests}
+use Rattle.rules.specs.Tests.{State, lent, record_of, absent, unsound, no_place, no_room, outer_tests, rule_tests, asked_tests}
 use Rattle.rules.specs.Why.{end_for, limit_passed, excess_over, full_of, who_set, reason_for, why_number, why_of}
 use Rattle.rules.specs.Step.{local_of, request, query, request_step, query_step, step}
 use Rattle.rules.specs.Total.{tests_of, one_of}

@@ -1,5 +1,5 @@
 -- One call: what is answered, and state, memory and output buffer after it.
-use Rattle.std.specs.Prelude.{Bool, not, cond, ◌&&◌, List, [], ℕ, ◌+◌, length, set, eqb, ltb}
+use Rattle.std.specs.Prelude.{Bool, not, cond, List, [], ℕ, ◌+◌, length, set, eqb, ltb}
 use Rattle.lists.specs.Buffer.{overlay}
 use Rattle.lists.specs.Word.{low_first}
 use Rattle.format.specs.declared.header.Header.{Header}

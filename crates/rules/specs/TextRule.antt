@@ -2,7 +2,6 @@
 -- and source document 002's.
 use Rattle.std.specs.Prelude.{Bool, true, cond, ◌&&◌, ◌||◌, List, [], ◌∷◌, ℕ, ◌+◌, ◌-◌, ◌*◌, ◌/◌, ◌%◌, get_or, eqb, leb, ltb}
 use Rattle.fields.specs.declared.read.Line.{Line}
-use Rattle.fields.specs.declared.write.Fields.{Fields}
 use Rattle.fields.specs.Letters.{READ-CODE, READ-DATA, WRITE-CODE, WRITE-DATA, READ-REGISTER, WRITE-REGISTER, CONTINUE}
 use Rattle.fields.specs.Written.{written}
 use Rattle.fields.specs.Answer.{failed_flag}

@@ -3,10 +3,8 @@ use Rattle.std.specs.Prelude.{not, cond, List, [], ◌∷◌, ◌++◌, ℕ, len
 use Rattle.lists.specs.Word.{low_first}
 use Rattle.format.specs.declared.header.Header.{Header}
 use Rattle.format.specs.Outcome.{Test, test}
-use Rattle.format.specs.Layout.{written, header_of, string_of, fixed_right}
+use Rattle.format.specs.Layout.{written, header_of, string_of}
 use Rattle.format.specs.Answer.{cant_of, created_of, notice_of}
-use Rattle.format.specs.Refusal.{layout_tests}
-use Rattle.ops.specs.Table.{request_form}
 use Rattle.process.specs.Local.{Local, local}
 use Rattle.process.specs.Request.{created, on_record}
 use Rattle.run_state.specs.RunState.{accepts}

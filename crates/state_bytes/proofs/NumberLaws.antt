@@ -15,7 +15,7 @@ use Rattle.lists.specs.Flag.{flag}
 use Rattle.lists.specs.Word.{low, high}
 use Rattle.lists.proofs.Bool.{same_truth}
 use Rattle.lists.proofs.Elements.{take-elements}
-use Rattle.state_bytes.specs.Number.{u32_le, u32_le_bytes, u64_le, u64_le_bytes, flag_of}
+use Rattle.state_bytes.specs.Number.{u32_le, u32_le_bytes, u64_le_bytes, flag_of}
 use Rattle.state_bytes.specs.Entry.{flags_formed}
 
 -- ---- flags

@@ -1,5 +1,5 @@
 -- The bytes of a process: its head, the nine words, the eight entries.
-use Rattle.std.specs.Prelude.{Bool, ◌&&◌, ◌||◌, List, [], ◌∷◌, ◌++◌, ℕ, ◌+◌, take, drop, get_or, eqb, leb}
+use Rattle.std.specs.Prelude.{Bool, ◌&&◌, ◌||◌, List, ◌∷◌, ◌++◌, ℕ, ◌+◌, take, drop, get_or, eqb, leb}
 use Rattle.lists.specs.Flag.{flag}
 use Rattle.lists.specs.Joined.{joined}
 use Rattle.lists.specs.Word.{high, low, word, low_first, vector_of}

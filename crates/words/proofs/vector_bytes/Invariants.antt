@@ -1,15 +1,9 @@
 -- `words::vector_bytes` meets its contract. The loop's invariant: the bytes of the words passed lie over the array's start. Assumes nothing.
-use mathlib.Core.Path.{◌≡◌, refl, ap, ◌∙◌}
-use mathlib.Core.List.{List}
-use Prim.Native.Nat.{ℕ, ◌+◌, ◌≤◌, ◌<◌, ◌-◌, ◌*◌}
-use native.Mathlib.Omega.{arith}
-use borrow.Author.Rules.{rules}
-use lib.ListN.{length, take, get_or, set, replicate}
-use lib.Seq.{take_all}
-use Rattle.lists.specs.Word.{high, low, low_first}
+use mathlib.Core.Path.{◌≡◌}
+use Prim.Native.Nat.{◌≤◌, ◌-◌}
+use lib.ListN.{length, take}
+use Rattle.lists.specs.Word.{low_first}
 use Rattle.lists.specs.Buffer.{overlay}
-use Rattle.lists.proofs.Word.{low_first-step, length-low_first}
-use Rattle.lists.proofs.Buffer.{overlay-all}
 use Rattle.words.proofs.vector_bytes.Given as goal
 
 abbrev pub invariant-loop-i : goal.invariant-loop-i

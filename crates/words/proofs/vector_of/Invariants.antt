@@ -1,15 +1,10 @@
 -- `words::vector_of` meets its contract. The loop's invariant: the words made so far lie over the array's start. Assumes nothing.
-use mathlib.Core.Path.{◌≡◌, refl}
-use mathlib.Core.List.{List}
+use mathlib.Core.Path.{◌≡◌}
 use Prim.Native.Nat.{ℕ, ◌+◌, ◌*◌, ◌≤◌, ◌-◌}
-use native.Mathlib.Omega.{arith}
-use borrow.Author.Rules.{rules}
-use lib.ListN.{length, get_or, replicate}
-use Rattle.lists.specs.Word.{word, vector_of}
+use lib.ListN.{length, get_or}
+use Rattle.lists.specs.Word.{word}
 use Rattle.lists.specs.Elements.{elements}
 use Rattle.lists.specs.Buffer.{overlay}
-use Rattle.lists.proofs.Elements.{elements-step}
-use Rattle.lists.proofs.Buffer.{overlay-all}
 use Rattle.words.proofs.vector_of.Given as goal
 
 abbrev pub invariant-loop-i : goal.invariant-loop-i

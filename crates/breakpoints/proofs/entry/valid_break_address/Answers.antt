@@ -1,6 +1,5 @@
 -- `breakpoints::entry::valid_break_address` meets its contract, by the two cases. Assumes nothing.
 use borrow.Author.Tests.{eq-eqb, ne_eqb}
-use borrow.Author.Rules.{rules}
 use Rattle.breakpoints.specs.Entry.{valid_break_address}
 use Rattle.breakpoints.proofs.entry.valid_break_address.Goals as goal
 

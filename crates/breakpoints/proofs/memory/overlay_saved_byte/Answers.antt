@@ -1,7 +1,6 @@
 -- `breakpoints::memory::overlay_saved_byte` meets its contract: a byte outside the part is not laid, and a store past the end changes nothing. Assumes nothing.
 use mathlib.Core.Path.{sym}
 use borrow.Author.Tests.{le-leb, lt-leb}
-use borrow.Author.Rules.{rules}
 use lib.Seq.{set_out}
 use Rattle.breakpoints.specs.Seen.{overlay_saved_byte}
 use Rattle.breakpoints.proofs.memory.overlay_saved_byte.Goals as goal

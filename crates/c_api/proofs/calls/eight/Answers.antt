@@ -1,6 +1,5 @@
 -- `c_api::calls::eight` meets its contract, element by element. Assumes nothing.
 use Rattle.c_api.proofs.StartLaws.{eight-elements}
-use borrow.Author.Rules.{rules}
 use Rattle.c_api.proofs.calls.eight.Goals as goal
 
 pub returns : goal.returns

@@ -1,6 +1,5 @@
 -- `c_api::calls::hand_facts` meets its contract: two numbers, each put in its place. Assumes nothing.
 use Rattle.c_api.proofs.QueryLaws.{two-put}
-use borrow.Author.Rules.{rules}
 use Rattle.c_api.proofs.calls.hand_facts.Goals as goal
 
 pub returns : goal.returns

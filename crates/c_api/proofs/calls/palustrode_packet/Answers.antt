@@ -3,8 +3,6 @@ use mathlib.Core.Path.{◌≡◌, ◌∙◌}
 use native.Mathlib.Omega.{arith}
 use mir.Syntax.{w64}
 use mir.Val.{to_z, of_z}
-use Rattle.rules.specs.Step.{packet}
-use Rattle.state_bytes.specs.State.{door_of}
 use Rattle.gateway.specs.Called.{Did}
 use Rattle.c_api.specs.Called.{packet_on}
 use Rattle.c_api.proofs.ReturnLaws.{call-short, call_returns}

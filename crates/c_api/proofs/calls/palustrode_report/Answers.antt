@@ -5,7 +5,6 @@ use lib.ListN.{length}
 use mir.Syntax.{w64}
 use mir.Val.{to_z, of_z}
 use Rattle.format.specs.Outcome.{number_of, is_granted}
-use Rattle.rules.specs.Step.{report}
 use Rattle.c_api.specs.Called.{signed, Short, both_lengths, byte_of, report_on}
 use Rattle.c_api.proofs.ShortLaws.{nine_words, report-small}
 use Rattle.c_api.proofs.ReturnLaws.{told-short, report-returns}

@@ -7,7 +7,6 @@ use Rattle.format.specs.Outcome.{first_failing}
 use Rattle.state.specs.Fresh.{sizes_right}
 use Rattle.state_bytes.specs.Widths.{process_count, state_width}
 use Rattle.c_api.specs.Called.{bits_of, start_number}
-use borrow.Author.Rules.{rules}
 use Rattle.c_api.proofs.calls.start_refusal.Goals as goal
 
 pub returns-then-state-ne-STATE_BYTES : goal.returns-then-state-ne-STATE_BYTES

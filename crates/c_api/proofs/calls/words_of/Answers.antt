@@ -1,8 +1,6 @@
 -- `c_api::calls::words_of` meets its contract: the copy is the 18 bytes. Assumes nothing.
-use mathlib.Core.Path.{sym, ap, ◌∙◌}
+use mathlib.Core.Path.{ap, ◌∙◌}
 use Rattle.lists.specs.Word.{vector_of}
-use Rattle.lists.proofs.Buffer.{copy-whole}
-use borrow.Author.Rules.{rules}
 use Rattle.c_api.proofs.calls.words_of.Goals as goal
 
 pub returns : goal.returns

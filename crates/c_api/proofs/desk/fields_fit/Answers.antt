@@ -1,7 +1,6 @@
 -- `c_api::desk::fields_fit` meets its contract, test by test. Assumes nothing.
 use borrow.Author.Tests.{lt-ltb, le-ltb}
 use Rattle.c_api.specs.Desk.{arguments_fit, fields_fit}
-use borrow.Author.Rules.{rules}
 use Rattle.c_api.proofs.desk.fields_fit.Goals as goal
 
 pub returns-then-host-ge256 : goal.returns-then-host-ge256

@@ -2,7 +2,6 @@
 use native.Mathlib.Omega.{arith}
 use lib.ListN.{length-set}
 use Rattle.c_api.proofs.DeskLaws.{five-put}
-use borrow.Author.Rules.{rules}
 use Rattle.c_api.proofs.desk.hand_over.Goals as goal
 
 pub bounds-fields-4 : goal.bounds-fields-4

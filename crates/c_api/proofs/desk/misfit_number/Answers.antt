@@ -9,7 +9,6 @@ use Rattle.format.specs.Outcome.{first_failing}
 use Rattle.format.specs.Refusal.{wrong_length}
 use Rattle.c_api.specs.Desk.{misfit_number}
 use Rattle.c_api.proofs.DeskLaws.{form-byte, or-true}
-use borrow.Author.Rules.{rules}
 use Rattle.c_api.proofs.desk.misfit_number.Goals as goal
 
 pub returns-then-request-lt-MESSAGE_BYTES : goal.returns-then-request-lt-MESSAGE_BYTES

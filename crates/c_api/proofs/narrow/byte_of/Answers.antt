@@ -1,7 +1,6 @@
 -- `c_api::narrow::byte_of` meets its contract, by its test. Assumes nothing.
 use borrow.Author.Tests.{lt-ltb, le-ltb}
 use Rattle.c_api.specs.Called.{byte_of}
-use borrow.Author.Rules.{rules}
 use Rattle.c_api.proofs.narrow.byte_of.Goals as goal
 
 pub returns-then-n-lt256 : goal.returns-then-n-lt256

@@ -1,7 +1,6 @@
 -- `c_api::narrow::type_of` meets its contract, by its test. Assumes nothing.
 use borrow.Author.Tests.{lt-ltb, le-ltb}
 use Rattle.c_api.specs.Called.{type_of}
-use borrow.Author.Rules.{rules}
 use Rattle.c_api.proofs.narrow.type_of.Goals as goal
 
 pub returns-then-id-lt4294967296 : goal.returns-then-id-lt4294967296

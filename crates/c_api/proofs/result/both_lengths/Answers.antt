@@ -4,7 +4,6 @@ use native.Mathlib.Omega.{arith}
 use Rattle.format.specs.declared.outcome.Outcome.{Outcome}
 use Rattle.format.specs.Outcome.{length_of}
 use Rattle.c_api.specs.Called.{Short, both_lengths}
-use borrow.Author.Rules.{rules}
 use Rattle.c_api.proofs.result.both_lengths.Goals as goal
 
 pub overflow_mul-result : goal.overflow_mul-result

@@ -1,6 +1,5 @@
 -- `c_api::result::minus` meets its contract. Assumes nothing.
 use native.Mathlib.Omega.{arith}
-use borrow.Author.Rules.{rules}
 use Rattle.c_api.proofs.SignLaws.{minus-small, minus-read}
 use Rattle.c_api.proofs.result.minus.Goals as goal
 

@@ -1,9 +1,8 @@
 -- `calls::call::answer_report` meets its contract, by whether the numbers are right. Assumes nothing.
-use mathlib.Core.Path.{◌≡◌, refl, sym, ap, ◌∙◌}
+use mathlib.Core.Path.{sym, ◌∙◌}
 use borrow.Author.Tests.{not-true, not-false}
 use Rattle.calls.specs.Meaning.{report_effect}
 use Rattle.calls.proofs.MeaningLaws.{does-right, does-wrong}
-use borrow.Author.Rules.{rules}
 use Rattle.calls.proofs.call.answer_report.Goals as goal
 
 pub returns-then-not-read : goal.returns-then-not-read

@@ -1,10 +1,8 @@
 -- `calls::call::answer_request` meets its contract, by whether the line may end after its pairs. Assumes nothing.
-use mathlib.Core.Path.{◌≡◌, refl, sym, ap, ◌∙◌}
-use borrow.Author.Tests.{not-true, not-false}
+use mathlib.Core.Path.{sym, ◌∙◌}
 use native.Mathlib.Omega.{arith}
 use Rattle.calls.specs.Meaning.{request_made, request_effect}
 use Rattle.calls.proofs.MeaningLaws.{does-as, does-right, does-wrong, made-front, pairs_made}
-use borrow.Author.Rules.{rules}
 use Rattle.calls.proofs.call.answer_request.Goals as goal
 
 pub returns-then-not-is_full : goal.returns-then-not-is_full

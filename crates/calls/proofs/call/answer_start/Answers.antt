@@ -1,13 +1,11 @@
 -- `calls::call::answer_start` meets its contract, by whether the line may end. Assumes nothing.
-use mathlib.Core.Path.{◌≡◌, refl, sym, ap, ◌∙◌}
-use borrow.Author.Tests.{not-true, not-false}
-use mathlib.Core.Bool.{Bool, true, false}
+use mathlib.Core.Path.{◌≡◌, sym, ap, ◌∙◌}
+use mathlib.Core.Bool.{true, false}
 use native.Mathlib.Omega.{arith}
 use Rattle.calls.specs.declared.listing.Listing.{Listing}
 use Rattle.calls.specs.Listing.{complete}
 use Rattle.calls.specs.Meaning.{start_listing, start_effect}
 use Rattle.calls.proofs.MeaningLaws.{does-right, does-wrong, start-listing}
-use borrow.Author.Rules.{rules}
 use Rattle.calls.proofs.call.answer_start.Goals as goal
 
 pub part-listing-requires : goal.part-listing-requires

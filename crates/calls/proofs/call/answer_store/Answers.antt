@@ -1,6 +1,5 @@
 -- `calls::call::answer_store` meets its contract, by whether the numbers are right. Assumes nothing.
 use mathlib.Core.Path.{◌≡◌, refl, sym, ap, ◌∙◌}
-use borrow.Author.Tests.{not-true, not-false}
 use mathlib.Core.List.{List, [], ◌∷◌}
 use Prim.Native.Nat.{ℕ, ◌+◌}
 use native.Mathlib.Omega.{arith}
@@ -9,7 +8,6 @@ use Rattle.decimal.specs.Read.{behind}
 use Rattle.gateway.specs.Called.{machine_stored}
 use Rattle.calls.specs.Meaning.{ends_within, store_p, store_address, store_byte, store_effect}
 use Rattle.calls.proofs.MeaningLaws.{does-right, does-wrong, prints-put}
-use borrow.Author.Rules.{rules}
 use Rattle.calls.proofs.call.answer_store.Goals as goal
 
 pub returns-then-not-ends_within : goal.returns-then-not-ends_within

@@ -1,10 +1,9 @@
 -- `calls::call::clear` meets its contract. The loop's invariant: the bytes passed are zero. Assumes nothing.
-use mathlib.Core.Path.{◌≡◌, refl, ap, ◌∙◌}
+use mathlib.Core.Path.{refl, ap, ◌∙◌}
 use mathlib.Core.List.{List}
-use Prim.Native.Nat.{ℕ, ◌-◌, ◌≤◌, ◌<◌}
+use Prim.Native.Nat.{ℕ, ◌<◌}
 use native.Mathlib.Omega.{arith}
-use borrow.Author.Rules.{rules}
-use lib.ListN.{length, set, length-set, replicate}
+use lib.ListN.{length, set, length-set}
 use Rattle.lists.specs.Buffer.{overlay}
 use Rattle.calls.proofs.MeaningLaws.{zero_turn, zero-all}
 use Rattle.calls.proofs.call.clear.Goals as goal

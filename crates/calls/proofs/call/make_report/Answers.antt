@@ -1,11 +1,10 @@
 -- `calls::call::make_report` meets its contract: what is put is the notice of the call and the line that it answers. Assumes nothing.
 use native.Mathlib.Omega.{arith}
-use lib.ListN.{length, take, length-take}
+use lib.ListN.{take, length-take}
 use Rattle.rules.specs.Step.{report}
 use Rattle.gateway.specs.Called.{call_on, Did}
 use Rattle.calls.specs.Meaning.{report_made}
 use Rattle.calls.proofs.ShownLaws.{answer-short, does-report}
-use borrow.Author.Rules.{rules}
 use Rattle.calls.proofs.call.make_report.Goals as goal
 
 pub overflow_sub-end : goal.overflow_sub-end

@@ -3,7 +3,6 @@ use Rattle.rules.specs.Step.{request}
 use Rattle.gateway.specs.Called.{call_on, Did}
 use Rattle.calls.specs.Meaning.{request_made}
 use Rattle.calls.proofs.MeaningLaws.{does-answer}
-use borrow.Author.Rules.{rules}
 use Rattle.calls.proofs.call.make_request.Goals as goal
 
 pub returns : goal.returns

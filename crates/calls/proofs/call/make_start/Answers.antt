@@ -1,5 +1,4 @@
 -- `calls::call::make_start` meets its contract, by whether the fresh start is granted. Assumes nothing.
-use borrow.Author.Rules.{rules}
 use Rattle.calls.specs.Meaning.{number_line}
 use Rattle.calls.proofs.MeaningLaws.{start-refused, start-granted}
 use Rattle.calls.proofs.call.make_start.Goals as goal

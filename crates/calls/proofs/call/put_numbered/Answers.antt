@@ -2,7 +2,6 @@
 use mathlib.Core.List.{◌++◌}
 use native.Mathlib.Omega.{arith}
 use lib.ListN.{length-append}
-use borrow.Author.Rules.{rules}
 use Rattle.lines.proofs.PutLaws.{put_then}
 use Rattle.decimal.specs.Numeral.{numeral}
 use Rattle.decimal.proofs.NumeralLaws.{five-digits}

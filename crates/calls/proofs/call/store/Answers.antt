@@ -1,7 +1,6 @@
 -- `calls::call::store` meets its contract, by whether memory reaches so far. Assumes nothing.
 use mathlib.Core.Path.{sym}
 use lib.Seq.{set_out}
-use borrow.Author.Rules.{rules}
 use Rattle.calls.proofs.call.store.Goals as goal
 
 pub returns-else-at-memory : goal.returns-else-at-memory

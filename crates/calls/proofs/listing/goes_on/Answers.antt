@@ -1,8 +1,6 @@
 -- `calls::listing::goes_on` meets its contract, by the three tests. Assumes nothing.
 use mathlib.Core.Path.{sym, ◌∙◌}
 use native.Mathlib.Omega.{arith}
-use borrow.Author.Tests.{not-true, not-false}
-use borrow.Author.Rules.{rules}
 use Rattle.calls.proofs.ListingLaws.{digit-range, zero-ends, other-ends, digit-goes}
 use Rattle.calls.proofs.listing.goes_on.Goals as goal
 

@@ -1,6 +1,5 @@
 -- `calls::number::read_report` meets its contract. Assumes nothing.
 use mathlib.Core.Path.{◌≡◌, ap, ◌∙◌}
-use borrow.Author.Rules.{rules}
 use Rattle.decimal.specs.declared.number.Number.{Number}
 use Rattle.decimal.specs.Read.{behind, ends_line}
 use Rattle.calls.specs.Words.{last_of, words_of, process_in, kind_in, reason_in, report_in}

@@ -1,11 +1,8 @@
 -- `calls::number::words_behind` meets its contract. The loop's invariant: the words passed, and those that are left, are all. Assumes nothing.
-use mathlib.Core.Path.{◌≡◌, refl, sym, ◌∙◌}
-use mathlib.Core.List.{◌++◌}
-use Prim.Native.Nat.{◌+◌, ◌-◌, ◌≤◌, ◌<◌}
+use mathlib.Core.Path.{refl, sym, ◌∙◌}
+use Prim.Native.Nat.{◌≤◌, ◌<◌}
 use native.Mathlib.Omega.{arith}
-use borrow.Author.Rules.{rules}
-use lib.ListN.{length, take, length-set}
-use Rattle.calls.specs.Words.{last_of, words_of}
+use lib.ListN.{length-set}
 use Rattle.calls.proofs.WordsLaws.{last_turn, words-turn, last_end, words-end}
 use Rattle.calls.proofs.number.words_behind.Goals as goal
 

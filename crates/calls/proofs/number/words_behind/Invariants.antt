@@ -1,12 +1,9 @@
 -- `calls::number::words_behind` meets its contract. The loop's invariant: the words passed, and those that are left, are all. Assumes nothing.
-use mathlib.Core.Path.{◌≡◌, refl, sym, ◌∙◌}
+use mathlib.Core.Path.{◌≡◌}
 use mathlib.Core.List.{◌++◌}
-use Prim.Native.Nat.{◌+◌, ◌-◌, ◌≤◌, ◌<◌}
-use native.Mathlib.Omega.{arith}
-use borrow.Author.Rules.{rules}
-use lib.ListN.{length, take, length-set}
+use Prim.Native.Nat.{◌-◌, ◌≤◌}
+use lib.ListN.{length, take}
 use Rattle.calls.specs.Words.{last_of, words_of}
-use Rattle.calls.proofs.WordsLaws.{last_turn, words-turn, last_end, words-end}
 use Rattle.calls.proofs.number.words_behind.Given as goal
 
 abbrev pub invariant-loop-i : goal.invariant-loop-i

@@ -1,6 +1,5 @@
 -- `calls::packet::ack_length` meets its contract, by the cases. Assumes nothing.
 use mathlib.Core.Path.{sym, ap}
-use borrow.Author.Rules.{rules}
 use Rattle.format.specs.Outcome.{length_of}
 use Rattle.calls.proofs.packet.ack_length.Goals as goal
 

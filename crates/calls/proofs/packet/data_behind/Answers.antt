@@ -1,11 +1,8 @@
 -- `calls::packet::data_behind` meets its contract. The loop's invariant: the words passed, and those that are left, are all. Assumes nothing.
-use mathlib.Core.Path.{◌≡◌, refl, sym, ◌∙◌}
-use mathlib.Core.List.{◌++◌}
-use Prim.Native.Nat.{◌+◌, ◌-◌, ◌≤◌, ◌<◌}
+use mathlib.Core.Path.{refl, sym, ◌∙◌}
+use Prim.Native.Nat.{◌-◌, ◌≤◌, ◌<◌}
 use native.Mathlib.Omega.{arith}
-use borrow.Author.Rules.{rules}
-use lib.ListN.{length, take, length-set}
-use Rattle.calls.specs.Packet.{last_in, data_in}
+use lib.ListN.{length-set}
 use Rattle.calls.proofs.PacketLaws.{last_turn, data-turn, last-stops, data-stops, last-full, data-full, all-passed}
 use Rattle.calls.proofs.packet.data_behind.Goals as goal
 

@@ -1,12 +1,9 @@
 -- `calls::packet::data_behind` meets its contract. The loop's invariant: the words passed, and those that are left, are all. Assumes nothing.
-use mathlib.Core.Path.{◌≡◌, refl, sym, ◌∙◌}
+use mathlib.Core.Path.{◌≡◌}
 use mathlib.Core.List.{◌++◌}
-use Prim.Native.Nat.{◌+◌, ◌-◌, ◌≤◌, ◌<◌}
-use native.Mathlib.Omega.{arith}
-use borrow.Author.Rules.{rules}
-use lib.ListN.{length, take, length-set}
+use Prim.Native.Nat.{◌-◌, ◌≤◌}
+use lib.ListN.{length, take}
 use Rattle.calls.specs.Packet.{last_in, data_in}
-use Rattle.calls.proofs.PacketLaws.{last_turn, data-turn, last-stops, data-stops, last-full, data-full, all-passed}
 use Rattle.calls.proofs.packet.data_behind.Given as goal
 
 abbrev pub invariant-loop-i : goal.invariant-loop-i

@@ -4,7 +4,6 @@ use Rattle.state_bytes.specs.State.{door_of}
 use Rattle.gateway.specs.Called.{call_on, Did}
 use Rattle.calls.specs.Meaning.{packet_made}
 use Rattle.calls.proofs.PacketLaws.{does-packet}
-use borrow.Author.Rules.{rules}
 use Rattle.calls.proofs.packet.make_packet.Goals as goal
 
 pub returns : goal.returns

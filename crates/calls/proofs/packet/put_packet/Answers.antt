@@ -1,5 +1,4 @@
 -- `calls::packet::put_packet` meets its contract, by whether the packet is acknowledged. Assumes nothing.
-use borrow.Author.Rules.{rules}
 use Rattle.calls.specs.Packet.{silent_line, packet_shown}
 use Rattle.calls.proofs.packet.put_packet.Goals as goal
 

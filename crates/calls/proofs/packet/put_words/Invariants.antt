@@ -1,12 +1,9 @@
 -- `calls::packet::put_words` meets its contract. The loop's invariant: what was passed is put, in 6 bytes each at most. Assumes nothing.
-use mathlib.Core.Path.{◌≡◌, refl}
+use mathlib.Core.Path.{◌≡◌}
 use Prim.Native.Nat.{◌+◌, ◌-◌, ◌*◌, ◌≤◌}
-use native.Mathlib.Omega.{arith}
-use borrow.Author.Rules.{rules}
 use lib.ListN.{length, take}
 use Rattle.lists.specs.Joined.{joined}
 use Rattle.lines.specs.Scan.{Put}
-use Rattle.lines.proofs.PutLaws.{put-more, put-joined-none, put-joined-all}
 use Rattle.calls.specs.Packet.{word_text}
 use Rattle.calls.proofs.packet.put_words.Given as goal
 

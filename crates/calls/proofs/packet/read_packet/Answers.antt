@@ -1,6 +1,5 @@
 -- `calls::packet::read_packet` meets its contract. Assumes nothing.
 use mathlib.Core.Path.{◌≡◌, ap, ◌∙◌}
-use borrow.Author.Rules.{rules}
 use Rattle.decimal.specs.declared.number.Number.{Number}
 use Rattle.decimal.specs.Read.{behind, ends_line}
 use Rattle.calls.specs.Packet.{most_words, most_id, last_in, data_in, type_in, id_in, packet_in}

@@ -1,11 +1,9 @@
 -- `calls::query::answer_why` meets its contract, by whether the line may end after its pairs. Assumes nothing.
 use mathlib.Core.Path.{sym, ◌∙◌}
-use borrow.Author.Tests.{not-true, not-false}
 use native.Mathlib.Omega.{arith}
 use Rattle.calls.specs.Meaning.{why_made, why_effect}
 use Rattle.calls.proofs.MeaningLaws.{does-as, does-right, does-wrong, pairs_made}
 use Rattle.calls.proofs.WhyLaws.{why-front}
-use borrow.Author.Rules.{rules}
 use Rattle.calls.proofs.query.answer_why.Goals as goal
 
 pub returns-then-not-is_full : goal.returns-then-not-is_full

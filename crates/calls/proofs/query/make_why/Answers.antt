@@ -1,11 +1,9 @@
 -- `calls::query::make_why` meets its contract: the line is what the query says. Assumes nothing.
 use mathlib.Core.Path.{◌≡◌, refl, ap, ◌∙◌}
-use Rattle.reasons.specs.declared.Reason.{Reason}
 use Rattle.gateway.specs.Called.{why_on}
 use Rattle.display.specs.Reason.{why_line}
 use Rattle.calls.specs.Meaning.{recounted, why_made}
 use Rattle.calls.proofs.MeaningLaws.{prints-as}
-use borrow.Author.Rules.{rules}
 use Rattle.calls.proofs.query.make_why.Goals as goal
 
 pub returns : goal.returns

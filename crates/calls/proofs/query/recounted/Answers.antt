@@ -1,7 +1,6 @@
 -- `calls::query::recounted` meets its contract, by whether the number is 3. Assumes nothing.
 use borrow.Author.Tests.{eq-eqb, ne_eqb}
 use Rattle.calls.specs.Meaning.{recounted}
-use borrow.Author.Rules.{rules}
 use Rattle.calls.proofs.query.recounted.Goals as goal
 
 pub returns-then-number-eq3 : goal.returns-then-number-eq3

@@ -1,13 +1,11 @@
 -- `calls::show::answer_memory` meets its contract, by whether the numbers are right. Assumes nothing.
 use mathlib.Core.Path.{◌≡◌, refl, sym, ap, ◌∙◌}
-use borrow.Author.Tests.{not-true, not-false}
 use Prim.Native.Nat.{ℕ, ◌+◌}
 use Rattle.decimal.specs.Read.{behind}
 use Rattle.lines.specs.Hex.{pairs_line}
 use Rattle.state.specs.Layout.{slot}
 use Rattle.calls.specs.Meaning.{ends_within, memory_p, memory_address, memory_count, memory_effect}
 use Rattle.calls.proofs.MeaningLaws.{does-right, does-wrong, prints-as}
-use borrow.Author.Rules.{rules}
 use Rattle.calls.proofs.show.answer_memory.Goals as goal
 
 pub returns-then-not-ends_within : goal.returns-then-not-ends_within

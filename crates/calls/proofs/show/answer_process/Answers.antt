@@ -1,12 +1,10 @@
 -- `calls::show::answer_process` meets its contract, by whether the number is right. Assumes nothing.
 use mathlib.Core.Path.{◌≡◌, refl, sym, ap, ◌∙◌}
-use borrow.Author.Tests.{not-true, not-false}
 use Rattle.decimal.specs.Read.{behind}
 use Rattle.process.specs.declared.record.Process.{Process}
 use Rattle.display.specs.Line.{process_line}
 use Rattle.calls.specs.Meaning.{shown_p, process_effect}
 use Rattle.calls.proofs.MeaningLaws.{does-right, does-wrong, prints-as}
-use borrow.Author.Rules.{rules}
 use Rattle.calls.proofs.show.answer_process.Goals as goal
 
 pub returns-then-not-ends : goal.returns-then-not-ends

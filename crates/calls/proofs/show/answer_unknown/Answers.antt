@@ -4,7 +4,6 @@ use mathlib.Core.List.{[], ◌∷◌}
 use native.Mathlib.Omega.{arith}
 use Rattle.calls.specs.Meaning.{unknown_effect}
 use Rattle.calls.proofs.MeaningLaws.{prints-put}
-use borrow.Author.Rules.{rules}
 use Rattle.calls.proofs.show.answer_unknown.Goals as goal
 
 pub returns : goal.returns

@@ -1,10 +1,8 @@
 -- `calls::show::answer_whole` meets its contract, by whether the numbers are right. Assumes nothing.
 use mathlib.Core.Path.{◌≡◌, refl, sym, ap, ◌∙◌}
-use borrow.Author.Tests.{not-true, not-false}
 use Rattle.decimal.specs.Read.{behind}
 use Rattle.calls.specs.Meaning.{whole_address, whole_count, whole_memory_effect}
 use Rattle.calls.proofs.MeaningLaws.{does-right, does-wrong}
-use borrow.Author.Rules.{rules}
 use Rattle.calls.proofs.show.answer_whole.Goals as goal
 
 pub returns-then-not-ends_within : goal.returns-then-not-ends_within

@@ -1,8 +1,6 @@
 -- `calls::show::ends_within` meets its contract, by whether the line ends. Assumes nothing.
 use mathlib.Core.Path.{refl, sym, ◌∙◌}
-use borrow.Author.Tests.{not-true, not-false}
 use Rattle.calls.specs.Meaning.{ends_within}
-use borrow.Author.Rules.{rules}
 use Rattle.calls.proofs.show.ends_within.Goals as goal
 
 pub returns-then-not-ends : goal.returns-then-not-ends

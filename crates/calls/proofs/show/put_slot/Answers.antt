@@ -2,7 +2,6 @@
 use mathlib.Core.Path.{ap}
 use Rattle.lines.specs.Hex.{pairs_line}
 use Rattle.calls.proofs.MeaningLaws.{prints-as, part-slot}
-use borrow.Author.Rules.{rules}
 use Rattle.calls.proofs.show.put_slot.Goals as goal
 
 pub returns : goal.returns

@@ -1,12 +1,10 @@
 -- `calls::text::answer_raw` meets its contract, by whether the line may end after its pairs. Assumes nothing.
-use mathlib.Core.Path.{◌≡◌, refl, sym, ap, ◌∙◌}
-use borrow.Author.Tests.{not-true, not-false}
+use mathlib.Core.Path.{sym, ◌∙◌}
 use native.Mathlib.Omega.{arith}
 use Rattle.calls.specs.declared.text.Shown.TheVariants.{Recorded}
 use Rattle.calls.specs.Meaning.{text_made, raw_effect}
 use Rattle.calls.proofs.MeaningLaws.{does-as, does-right, does-wrong, pairs_made}
 use Rattle.calls.proofs.TextLaws.{text-front}
-use borrow.Author.Rules.{rules}
 use Rattle.calls.proofs.text.answer_raw.Goals as goal
 
 pub returns-then-not-is_full : goal.returns-then-not-is_full

@@ -3,10 +3,9 @@ use mathlib.Core.List.{List}
 use Prim.Native.Nat.{ℕ}
 use Rattle.calls.specs.Meaning.{text_made, text_effect}
 use Rattle.calls.proofs.MeaningLaws.{does-as, printed}
-use mathlib.Core.Path.{◌≡◌, refl, sym, ap, ◌∙◌}
+use mathlib.Core.Path.{ap, ◌∙◌}
 use native.Mathlib.Omega.{arith}
 use Rattle.calls.proofs.TextLaws.{ended-front}
-use borrow.Author.Rules.{rules}
 use Rattle.calls.proofs.text.answer_text.Goals as goal
 
 pub returns : goal.returns

@@ -1,11 +1,10 @@
 -- `calls::text::make_text` meets its contract: what is put is the answer of the call. Assumes nothing.
 use native.Mathlib.Omega.{arith}
-use lib.ListN.{length, take, length-take}
+use lib.ListN.{length-take}
 use Rattle.rules.specs.Step.{text_line}
 use Rattle.gateway.specs.Called.{call_on, Did}
 use Rattle.calls.specs.Meaning.{text_made}
 use Rattle.calls.proofs.ShownLaws.{does-text}
-use borrow.Author.Rules.{rules}
 use Rattle.calls.proofs.text.make_text.Goals as goal
 
 pub returns : goal.returns

@@ -2,7 +2,6 @@
 use mathlib.Core.Path.{sym}
 use Rattle.lines.proofs.PutLaws.{put_then, put_as}
 use Rattle.calls.proofs.ShownLaws.{beside_none, beside-some}
-use borrow.Author.Rules.{rules}
 use Rattle.calls.proofs.text.put_beside.Goals as goal
 
 pub returns-then-line-eq0 : goal.returns-then-line-eq0

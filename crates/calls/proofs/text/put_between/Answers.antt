@@ -1,7 +1,6 @@
 -- `calls::text::put_between` meets its contract, by how the line is shown. Assumes nothing.
 use native.Mathlib.Omega.{arith}
 use Rattle.calls.specs.Shown.{mark_of}
-use borrow.Author.Rules.{rules}
 use Rattle.calls.proofs.text.put_between.Goals as goal
 
 pub returns-in-Recorded : goal.returns-in-Recorded

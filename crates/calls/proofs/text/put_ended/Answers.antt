@@ -6,7 +6,6 @@ use native.Mathlib.Omega.{arith}
 use lib.ListN.{take, length-append, length-take}
 use Rattle.lines.proofs.PutLaws.{put_then, put_as}
 use Rattle.calls.proofs.MeaningLaws.{take-at-most, prints-put}
-use borrow.Author.Rules.{rules}
 use Rattle.calls.proofs.text.put_ended.Goals as goal
 
 pub returns : goal.returns

@@ -4,7 +4,6 @@ use mathlib.Core.List.{[], ◌∷◌, ◌++◌}
 use Rattle.lines.proofs.PutLaws.{put_then, put_as}
 use Rattle.decimal.specs.Numeral.{numeral}
 use Rattle.calls.proofs.ShownLaws.{recorded-none, recorded-some}
-use borrow.Author.Rules.{rules}
 use Rattle.calls.proofs.text.put_recorded.Goals as goal
 
 pub returns-then-line-eq0 : goal.returns-then-line-eq0

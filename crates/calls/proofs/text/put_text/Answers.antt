@@ -1,6 +1,5 @@
 -- `calls::text::put_text` meets its contract, by how the line is shown. Assumes nothing.
 use Rattle.calls.specs.Shown.{text_shown}
-use borrow.Author.Rules.{rules}
 use Rattle.calls.proofs.text.put_text.Goals as goal
 
 pub returns-in-Recorded : goal.returns-in-Recorded

@@ -1,6 +1,5 @@
 -- `calls::tick::answer_tick` meets its contract, by whether the line is the word alone. Assumes nothing.
 use borrow.Author.Tests.{eq-eqb, ne_eqb}
-use borrow.Author.Rules.{rules}
 use Rattle.calls.specs.Meaning.{tick_effect}
 use Rattle.calls.proofs.MeaningLaws.{does-right, does-wrong}
 use Rattle.calls.proofs.tick.answer_tick.Goals as goal

@@ -5,7 +5,6 @@ use Rattle.gateway.specs.Called.{call_on, Did}
 use Rattle.calls.specs.Packet.{silent_line}
 use Rattle.calls.specs.Meaning.{tick_made}
 use Rattle.calls.proofs.PacketLaws.{does-tick}
-use borrow.Author.Rules.{rules}
 use Rattle.calls.proofs.tick.make_tick.Goals as goal
 
 pub returns : goal.returns

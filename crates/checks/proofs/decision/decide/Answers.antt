@@ -1,5 +1,4 @@
 -- `checks::decision::decide` meets its contract: test 7, then the others. Assumes nothing.
-use borrow.Author.Rules.{rules}
 use Rattle.format.specs.Outcome.{first_failing}
 use Rattle.checks.specs.Decision.{decision_by, rule_decision, decision_of}
 use Rattle.checks.proofs.decision.decide.Goals as goal

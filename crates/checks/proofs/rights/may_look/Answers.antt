@@ -1,6 +1,5 @@
 -- `checks::rights::may_look` meets its contract: nobody may look, and any other host where it debugs the process or watches it. Assumes nothing.
 use borrow.Author.Tests.{eq-eqb, ne_eqb}
-use borrow.Author.Rules.{rules}
 use Rattle.rules.specs.Rule.{insider}
 use Rattle.checks.proofs.rights.may_look.Goals as goal
 

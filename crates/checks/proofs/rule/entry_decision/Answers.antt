@@ -1,6 +1,5 @@
 -- `checks::rule::entry_decision` meets its contract, by the op code. Assumes nothing.
 use mathlib.Core.Path.{◌∙◌}
-use borrow.Author.Rules.{rules}
 use borrow.Author.Tests.{ne_eqb}
 use Rattle.format.specs.Outcome.{first_failing}
 use Rattle.checks.specs.Decision.{decision_by, entry_of, entry_decision}

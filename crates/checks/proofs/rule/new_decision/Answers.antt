@@ -1,7 +1,6 @@
 -- `checks::rule::new_decision` meets its contract, by whether the host may set one more and a free entry was found. Assumes nothing.
 use mathlib.Core.Path.{sym, ◌∙◌}
-use borrow.Author.Rules.{rules}
-use borrow.Author.Tests.{not-true, not-false, lt-ltb, le-ltb}
+use borrow.Author.Tests.{lt-ltb, le-ltb}
 use Rattle.breakpoints.specs.declared.entry_query.EntryQuery.TheVariants.{Free}
 use Rattle.process.specs.Find.{find}
 use Rattle.process.specs.Request.{has_room}

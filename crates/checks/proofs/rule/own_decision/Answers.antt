@@ -1,5 +1,4 @@
 -- `checks::rule::own_decision` meets its contract, by who set the breakpoint. Assumes nothing.
-use borrow.Author.Rules.{rules}
 use borrow.Author.Tests.{eq-eqb, ne_eqb}
 use Rattle.checks.specs.Decision.{own_decision}
 use Rattle.checks.proofs.rule.own_decision.Goals as goal

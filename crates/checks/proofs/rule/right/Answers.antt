@@ -1,5 +1,4 @@
 -- `checks::rule::right` meets its contract, by the op code. Assumes nothing.
-use borrow.Author.Rules.{rules}
 use borrow.Author.Tests.{eq-eqb, ne_eqb}
 use Rattle.rules.specs.Rule.{public, rule_of}
 use Rattle.checks.proofs.OpLaws.{coded}

@@ -1,5 +1,4 @@
 -- `checks::rule::rule_decision` meets its contract: at each `return` the tests before it have passed. Assumes nothing.
-use borrow.Author.Rules.{rules}
 use Rattle.format.specs.Outcome.{first_failing}
 use Rattle.checks.specs.Decision.{decision_by, entry_decision, rule_decision}
 use Rattle.checks.proofs.rule.rule_decision.Goals as goal

@@ -1,6 +1,5 @@
 -- `checks::rule::runs` meets its contract, by the op code. Assumes nothing.
 use borrow.Author.Tests.{eq-eqb, ne_eqb}
-use borrow.Author.Rules.{rules}
 use Rattle.checks.proofs.OpLaws.{coded}
 use Rattle.checks.proofs.rule.runs.Goals as goal
 

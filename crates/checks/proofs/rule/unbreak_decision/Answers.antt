@@ -1,6 +1,5 @@
 -- `checks::rule::unbreak_decision` meets its contract, by whether a breakpoint was found. Assumes nothing.
 use mathlib.Core.Path.{sym, ◌∙◌}
-use borrow.Author.Rules.{rules}
 use borrow.Author.Tests.{lt-ltb, le-ltb}
 use Rattle.breakpoints.specs.declared.entry_query.EntryQuery.TheVariants.{At}
 use Rattle.process.specs.Find.{find}

@@ -1,5 +1,4 @@
 -- `checks::rule::unwatched` meets its contract, by the op code. Assumes nothing.
-use borrow.Author.Rules.{rules}
 use borrow.Author.Tests.{eq-eqb, ne_eqb}
 use Rattle.rules.specs.Rule.{public}
 use Rattle.checks.proofs.OpLaws.{coded}

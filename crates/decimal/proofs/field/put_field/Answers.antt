@@ -2,7 +2,6 @@
 use mathlib.Core.List.{[], ◌∷◌}
 use Prim.Native.Nat.{◌+◌}
 use native.Mathlib.Omega.{arith}
-use borrow.Author.Rules.{rules}
 use Rattle.lines.proofs.PutLaws.{put_one, put_then}
 use Rattle.decimal.specs.Numeral.{numeral, field}
 use Rattle.decimal.proofs.field.put_field.Goals as goal

@@ -1,6 +1,5 @@
 -- `decimal::field::put_long` meets its contract: the numeral has at most ten digits. Assumes nothing.
 use native.Mathlib.Omega.{arith}
-use borrow.Author.Rules.{rules}
 use Rattle.decimal.proofs.NumeralLaws.{ten-digits}
 use Rattle.decimal.proofs.field.put_long.Goals as goal
 

@@ -1,6 +1,5 @@
 -- `decimal::field::put_number` meets its contract: the numeral has at most five digits. Assumes nothing.
 use native.Mathlib.Omega.{arith}
-use borrow.Author.Rules.{rules}
 use Rattle.decimal.proofs.NumeralLaws.{five-digits}
 use Rattle.decimal.proofs.field.put_number.Goals as goal
 

@@ -1,6 +1,5 @@
 -- `decimal::field::put_wide` meets its contract: the numeral has at most twenty digits. Assumes nothing.
 use native.Mathlib.Omega.{arith}
-use borrow.Author.Rules.{rules}
 use Rattle.decimal.proofs.NumeralLaws.{twenty-digits}
 use Rattle.decimal.proofs.field.put_wide.Goals as goal
 

@@ -1,6 +1,5 @@
 -- `decimal::number::digit` meets its contract, by the tests of the character. Assumes nothing.
 use native.Mathlib.Omega.{arith}
-use borrow.Author.Rules.{rules}
 use Rattle.decimal.proofs.NumeralLaws.{digit_of-below, digit_of-above, digit_of-among}
 use Rattle.decimal.proofs.number.digit.Goals as goal
 

@@ -7,7 +7,6 @@ use lib.ListN.{length, take, drop}
 use Rattle.lists.specs.Buffer.{overlay}
 use Rattle.lines.specs.Hex.{spaced_or_dash}
 use Rattle.lines.specs.Scan.{Put}
-use borrow.Author.Rules.{rules}
 use Rattle.lines.proofs.PutLaws.{put_whole}
 use Rattle.decimal.specs.Numeral.{numeral}
 use Rattle.decimal.proofs.NumeralLaws.{five-digits}

@@ -1,14 +1,10 @@
 -- `display::entry::put_entries` meets its contract. The loop's invariant: what was passed is put, in 36 bytes each at most. Assumes nothing.
-use mathlib.Core.Path.{◌≡◌, refl}
+use mathlib.Core.Path.{◌≡◌}
 use Prim.Native.Nat.{◌+◌, ◌-◌, ◌*◌, ◌≤◌}
-use native.Mathlib.Omega.{arith}
-use borrow.Author.Rules.{rules}
 use lib.ListN.{length, take}
 use Rattle.lists.specs.Joined.{joined}
 use Rattle.lines.specs.Scan.{Put}
-use Rattle.lines.proofs.PutLaws.{put-more, put-joined-none, put-joined-all}
 use Rattle.display.specs.Line.{entry_text}
-use Rattle.breakpoints.specs.Entry.{free}
 use Rattle.display.proofs.entry.put_entries.Given as goal
 
 abbrev pub invariant-loop-i : goal.invariant-loop-i

@@ -8,7 +8,6 @@ use Rattle.lists.specs.Flag.{flag}
 use Rattle.lines.proofs.PutLaws.{put_then, put_as}
 use Rattle.decimal.specs.Numeral.{field}
 use Rattle.display.specs.Line.{entry_text}
-use borrow.Author.Rules.{rules}
 use Rattle.breakpoints.specs.Entry.{in_use}
 use Rattle.display.proofs.entry.put_entry.Goals as goal
 

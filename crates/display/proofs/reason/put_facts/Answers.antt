@@ -2,7 +2,6 @@
 use native.Mathlib.Omega.{arith}
 use Rattle.lines.proofs.PutLaws.{put-none}
 use Rattle.display.specs.Reason.{facts_text}
-use borrow.Author.Rules.{rules}
 use Rattle.display.proofs.reason.put_facts.Goals as goal
 
 pub returns-in-Granted : goal.returns-in-Granted

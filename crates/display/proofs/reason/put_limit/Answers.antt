@@ -1,7 +1,6 @@
 -- `display::reason::put_limit` meets its contract, by the limit. Assumes nothing.
 use native.Mathlib.Omega.{arith}
 use Rattle.display.specs.Reason.{limit_name}
-use borrow.Author.Rules.{rules}
 use Rattle.display.proofs.reason.put_limit.Goals as goal
 
 pub returns-in-End : goal.returns-in-End

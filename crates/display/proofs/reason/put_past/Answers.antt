@@ -3,7 +3,6 @@ use native.Mathlib.Omega.{arith}
 use Rattle.lines.proofs.PutLaws.{put_then}
 use Rattle.decimal.specs.Numeral.{field}
 use Rattle.display.specs.Reason.{limit_name, past_text}
-use borrow.Author.Rules.{rules}
 use Rattle.display.proofs.reason.put_past.Goals as goal
 
 pub returns : goal.returns

@@ -5,7 +5,6 @@ use native.Mathlib.Omega.{arith}
 use lib.ListN.{length}
 use Rattle.lines.proofs.PutLaws.{put_one, put_then, put_whole}
 use Rattle.display.specs.Reason.{reason_text, why_line}
-use borrow.Author.Rules.{rules}
 use Rattle.display.proofs.reason.put_reason.Goals as goal
 
 pub returns : goal.returns

@@ -4,7 +4,6 @@ use borrow.Author.Tests.{eq-eqb, ne_eqb}
 use Rattle.lines.proofs.PutLaws.{put_then}
 use Rattle.decimal.specs.Numeral.{numeral}
 use Rattle.display.specs.Reason.{facts_text, reason_text}
-use borrow.Author.Rules.{rules}
 use Rattle.display.proofs.reason.put_text.Goals as goal
 
 pub returns-then-number-eq0 : goal.returns-then-number-eq0

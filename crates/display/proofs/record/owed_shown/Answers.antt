@@ -1,5 +1,4 @@
 -- `display::record::owed_shown` meets its contract, by whether an answer is owed. Assumes nothing.
-use borrow.Author.Rules.{rules}
 use Rattle.display.specs.Line.{owed_shown}
 use Rattle.display.proofs.record.owed_shown.Goals as goal
 

@@ -3,7 +3,6 @@ use mathlib.Core.Path.{◌≡◌, ap, ◌∙◌}
 use mathlib.Core.List.{◌++◌}
 use Prim.Native.Nat.{ℕ}
 use native.Mathlib.Omega.{arith}
-use borrow.Author.Rules.{rules}
 use Rattle.lists.specs.Flag.{flag}
 use Rattle.lines.proofs.PutLaws.{put_then, put_as}
 use Rattle.decimal.specs.Numeral.{numeral, field}

@@ -1,6 +1,5 @@
 -- `display::record::put_named` meets its contract: the name, then the number. Assumes nothing.
 use native.Mathlib.Omega.{arith}
-use borrow.Author.Rules.{rules}
 use Rattle.lines.proofs.PutLaws.{put_then}
 use Rattle.decimal.specs.Numeral.{field}
 use Rattle.display.specs.Line.{named}

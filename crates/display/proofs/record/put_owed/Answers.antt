@@ -3,9 +3,8 @@ use mathlib.Core.Path.{◌≡◌, ap}
 use mathlib.Core.List.{[], ◌∷◌, ◌++◌}
 use Prim.Native.Nat.{ℕ, ◌+◌}
 use native.Mathlib.Omega.{arith}
-use borrow.Author.Rules.{rules}
 use Rattle.lines.proofs.PutLaws.{put_one, put_as, put_then}
-use Rattle.display.specs.Line.{owed_name, owed_shown, owed_text}
+use Rattle.display.specs.Line.{owed_name, owed_text}
 use Rattle.display.proofs.record.put_owed.Goals as goal
 
 pub returns : goal.returns

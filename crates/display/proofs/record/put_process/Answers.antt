@@ -1,9 +1,8 @@
 -- `display::record::put_process` meets its contract: the record, where its bytes begin and a newline. Assumes nothing.
 use mathlib.Core.Path.{ap}
 use mathlib.Core.List.{[], ◌∷◌, ◌++◌}
-use Prim.Native.Nat.{ℕ, ◌+◌, ◌≤◌}
+use Prim.Native.Nat.{◌+◌, ◌≤◌}
 use native.Mathlib.Omega.{arith}
-use borrow.Author.Rules.{rules}
 use lib.ListN.{length}
 use Rattle.lines.proofs.PutLaws.{put_one, put_as, put_then, put_whole}
 use Rattle.display.specs.Line.{named, begin_name, begin_shown, record_text, process_line}

@@ -1,13 +1,9 @@
 -- `display::record::put_record` meets its contract: head, words, entries, size, watcher, number of breakpoints, owed answer, Go. Assumes nothing.
-use mathlib.Core.Path.{◌≡◌, ◌∙◌}
 use mathlib.Core.List.{◌++◌}
-use Prim.Native.Nat.{◌≤◌}
 use native.Mathlib.Omega.{arith}
-use lib.ListN.{length}
 use Rattle.lists.specs.Joined.{joined}
 use Rattle.lines.proofs.PutLaws.{put_then}
 use Rattle.display.specs.Line.{word_text, entry_text, head_text, named, size_name, watcher_name, set_name, owed_text, go_text, record_text}
-use borrow.Author.Rules.{rules}
 use Rattle.display.proofs.record.put_record.Goals as goal
 
 pub returns : goal.returns

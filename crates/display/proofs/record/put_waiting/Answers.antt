@@ -1,6 +1,5 @@
 -- `display::record::put_waiting` meets its contract: the ID, then the ticks. Assumes nothing.
 use native.Mathlib.Omega.{arith}
-use borrow.Author.Rules.{rules}
 use Rattle.lines.proofs.PutLaws.{put_then}
 use Rattle.decimal.specs.Numeral.{numeral, field}
 use Rattle.display.specs.Line.{waiting_text}

@@ -1,11 +1,7 @@
 -- `display::record::put_words` meets its contract. The loop's invariant: what was passed is put, in 6 bytes each at most. Assumes nothing.
-use mathlib.Core.Path.{◌≡◌, refl}
-use Prim.Native.Nat.{◌+◌, ◌-◌, ◌*◌, ◌≤◌}
+use mathlib.Core.Path.{refl}
 use native.Mathlib.Omega.{arith}
 use borrow.Author.Rules.{rules}
-use lib.ListN.{length, take}
-use Rattle.lists.specs.Joined.{joined}
-use Rattle.lines.specs.Scan.{Put}
 use Rattle.lines.proofs.PutLaws.{put-more, put-joined-none, put-joined-all}
 use Rattle.display.specs.Line.{word_text}
 use Rattle.display.proofs.record.put_words.Goals as goal

@@ -1,6 +1,5 @@
 -- `fields::answer::read_answer` meets its contract, by the line that was read. Assumes nothing.
 use mathlib.Core.Path.{sym, ap, ◌∙◌}
-use borrow.Author.Rules.{rules}
 use borrow.Author.Tests.{not-true, not-false}
 use Rattle.fields.specs.Answer.{answer_from, answer_of}
 use Rattle.fields.proofs.AnswerLaws.{answer-unread, answer-other, answer-found}

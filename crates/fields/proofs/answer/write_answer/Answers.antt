@@ -1,6 +1,5 @@
 -- `fields::answer::write_answer` meets its contract: the line of its fields. Assumes nothing.
 use mathlib.Core.Path.{ap, ◌∙◌}
-use borrow.Author.Rules.{rules}
 use lib.ListN.{length}
 use Rattle.lists.specs.Buffer.{overlay}
 use Rattle.fields.specs.declared.write.Fields.{Fields}

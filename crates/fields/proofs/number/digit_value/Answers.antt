@@ -1,6 +1,5 @@
 -- `fields::number::digit_value` meets its contract: at each `return` the tests that led there say its value. Assumes nothing.
 use native.Mathlib.Omega.{arith}
-use borrow.Author.Rules.{rules}
 use borrow.Author.Tests.{lt-ltb, le-ltb, le-leb, lt-leb}
 use Rattle.fields.specs.Hex.{hex_value}
 use Rattle.fields.proofs.number.digit_value.Goals as goal

@@ -1,6 +1,5 @@
 -- `fields::read::ends` meets its contract, by what stands there. Assumes nothing.
 use native.Mathlib.Omega.{arith}
-use borrow.Author.Rules.{rules}
 use Rattle.fields.proofs.LineLaws.{ends-past, ends-other, ends_last}
 use Rattle.fields.proofs.read.ends.Goals as goal
 

@@ -1,6 +1,5 @@
 -- `fields::read::read_line` meets its contract, field by field. Assumes nothing.
 use mathlib.Core.Path.{refl, sym, ◌∙◌}
-use borrow.Author.Rules.{rules}
 use borrow.Author.Tests.{not-true, not-false}
 use Rattle.fields.specs.Hex.{number_after}
 use Rattle.fields.proofs.LineLaws.{line-unread, line-no-third, line-no-fourth, line-goes-on, line-whole, line-is}

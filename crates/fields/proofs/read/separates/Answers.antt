@@ -1,6 +1,5 @@
 -- `fields::read::separates` meets its contract, by what stands there. Assumes nothing.
 use native.Mathlib.Omega.{arith}
-use borrow.Author.Rules.{rules}
 use Rattle.fields.proofs.LineLaws.{separates-end, separates-blank, separates-other}
 use Rattle.fields.proofs.read.separates.Goals as goal
 

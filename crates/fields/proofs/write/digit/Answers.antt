@@ -1,5 +1,4 @@
 -- `fields::write::digit` meets its contract, by the size of the number. Assumes nothing.
-use borrow.Author.Rules.{rules}
 use borrow.Author.Tests.{lt-ltb, le-ltb}
 use Rattle.fields.specs.Hex.{hex_digit}
 use Rattle.fields.proofs.write.digit.Goals as goal

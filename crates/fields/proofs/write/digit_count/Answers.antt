@@ -1,10 +1,5 @@
 -- `fields::write::digit_count` meets its contract. The loop's invariant: the digits counted and those left are all, and one more. Assumes nothing.
-use mathlib.Core.Path.{◌≡◌}
-use Prim.Native.Nat.{◌+◌}
 use native.Mathlib.Omega.{arith}
-use borrow.Author.Rules.{rules}
-use lib.ListN.{length}
-use Rattle.fields.specs.Hex.{hex_digits}
 use Rattle.fields.proofs.HexLaws.{one-digit, one_less, eight-digits}
 use Rattle.fields.proofs.write.digit_count.Goals as goal
 

@@ -1,13 +1,9 @@
 -- `fields::write::put_digits` meets its contract. The loop's invariant: the digits of what is left of the number complete the buffer. Assumes nothing.
-use mathlib.Core.Path.{◌≡◌, refl, ap, ◌∙◌}
-use Prim.Native.Nat.{ℕ, ◌+◌, ◌-◌, ◌/◌, ◌≤◌, ◌<◌}
-use native.Mathlib.Omega.{arith}
-use borrow.Author.Rules.{rules}
-use lib.ListN.{length, set, length-set}
+use mathlib.Core.Path.{◌≡◌}
+use Prim.Native.Nat.{◌+◌, ◌<◌}
+use lib.ListN.{length}
 use lib.Seq.{sets}
 use Rattle.fields.specs.Hex.{hex_digits}
-use Rattle.fields.proofs.HexLaws.{one_less, eight-digits}
-use Rattle.fields.proofs.WriteLaws.{digits-turn, digits-done}
 use Rattle.fields.proofs.write.put_digits.Given as goal
 
 abbrev pub invariant-loop-rest : goal.invariant-loop-rest

@@ -2,7 +2,6 @@
 use mathlib.Core.Path.{◌∙◌}
 use Prim.Native.Nat.{◌+◌}
 use native.Mathlib.Omega.{arith}
-use borrow.Author.Rules.{rules}
 use lib.ListN.{set, length-set}
 use Rattle.fields.specs.Hex.{hex_digits, hex_numeral}
 use Rattle.fields.proofs.WriteLaws.{put-after-two, put-length}

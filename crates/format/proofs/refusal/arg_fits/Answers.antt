@@ -1,5 +1,4 @@
 -- `format::refusal::arg_fits` meets its contract, by the three cases. Assumes nothing.
-use borrow.Author.Rules.{rules}
 use Rattle.format.proofs.refusal.arg_fits.Goals as goal
 
 pub returns-in-Unused : goal.returns-in-Unused

@@ -1,5 +1,4 @@
 -- `format::refusal::carried_length` meets its contract, by the three cases. Assumes nothing.
-use borrow.Author.Rules.{rules}
 use Rattle.format.specs.Refusal.{carried_length}
 use Rattle.format.proofs.refusal.carried_length.Goals as goal
 

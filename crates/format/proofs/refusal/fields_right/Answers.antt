@@ -1,6 +1,4 @@
 -- `format::refusal::fields_right` meets its contract: at each `return` the fields before it are right. Assumes nothing.
-use borrow.Author.Tests.{not-true, not-false}
-use borrow.Author.Rules.{rules}
 use Rattle.format.specs.Refusal.{fields_right}
 use Rattle.format.proofs.refusal.fields_right.Goals as goal
 

@@ -1,5 +1,4 @@
 -- `format::refusal::layout_number` meets its contract: at each `return` the tests before it passed and its own failed. Assumes nothing.
-use borrow.Author.Rules.{rules}
 use Rattle.format.specs.Outcome.{first_failing}
 use Rattle.format.proofs.refusal.layout_number.Goals as goal
 

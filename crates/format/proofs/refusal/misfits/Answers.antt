@@ -1,7 +1,5 @@
 -- `format::refusal::misfits` meets its contract, and the length that it compares with fits. Assumes nothing.
 use native.Mathlib.Omega.{arith}
-use borrow.Author.Tests.{not-true, not-false}
-use borrow.Author.Rules.{rules}
 use Rattle.format.specs.Refusal.{misfits}
 use Rattle.format.proofs.TestLaws.{carried_length-≤}
 use Rattle.format.proofs.refusal.misfits.Goals as goal

@@ -1,5 +1,4 @@
 -- `format::refusal::used_or_zero` meets its contract, by the two cases. Assumes nothing.
-use borrow.Author.Rules.{rules}
 use Rattle.format.proofs.refusal.used_or_zero.Goals as goal
 
 pub returns-else-used : goal.returns-else-used

@@ -1,16 +1,11 @@
 -- `gateway::fresh::each_right` meets its contract. The loop's invariant: every process passed is absent or has a right size. Assumes nothing.
-use mathlib.Core.Path.{◌≡◌, refl, sym, ◌∙◌}
+use mathlib.Core.Path.{◌≡◌}
 use mathlib.Core.Bool.{Bool, true, false, not, ◌||◌}
 use Prim.Native.Nat.{ℕ, ◌-◌, ◌≤◌}
-use native.Mathlib.Omega.{arith}
 use mathlib.Core.List.{List}
 use lib.ListN.{length, get_or}
-use borrow.Author.Tests.{not-true, not-false}
-use borrow.Author.Rules.{rules}
 use Rattle.lists.specs.Every.{below}
-use Rattle.lists.proofs.Every.{below_more, below_fails}
 use Rattle.process.specs.Sizes.{valid_size}
-use Rattle.state.specs.Fresh.{each_right}
 use Rattle.gateway.proofs.fresh.each_right.Given as goal
 
 -- process p is absent, or has a right size

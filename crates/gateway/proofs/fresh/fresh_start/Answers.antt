@@ -1,7 +1,7 @@
 -- `gateway::fresh::fresh_start` meets its contract, by the length of the buffer. Assumes nothing.
 use mathlib.Core.Path.{refl, sym, ap, ◌∙◌}
 use lib.ListN.{length}
-use borrow.Author.Tests.{eq-eqb, ne_eqb, not-true, not-false}
+use borrow.Author.Tests.{eq-eqb, ne_eqb}
 use Rattle.format.specs.Outcome.{outcome}
 use Rattle.state_bytes.specs.Widths.{state_width}
 use Rattle.gateway.specs.Called.{started, start_on}

@@ -1,14 +1,10 @@
 -- `gateway::fresh::needed` meets its contract. The loop's invariant: the sum is that of the processes passed, each at most 65,535. Assumes nothing.
-use mathlib.Core.Path.{◌≡◌, refl, ap₂}
-use mathlib.Core.Bool.{Bool, true, false, cond}
-use Prim.Native.Nat.{ℕ, ◌+◌, ◌-◌, ◌*◌, ◌≤◌}
-use native.Mathlib.Numerals.{add-one}
-use native.Mathlib.Omega.{arith}
+use mathlib.Core.Path.{◌≡◌}
+use mathlib.Core.Bool.{Bool, false, cond}
+use Prim.Native.Nat.{ℕ, ◌-◌, ◌*◌, ◌≤◌}
 use mathlib.Core.List.{List}
 use lib.ListN.{length, get_or}
 use Rattle.lists.specs.Sum.{total}
-use Rattle.state.specs.Fresh.{needed}
-use borrow.Author.Rules.{rules}
 use Rattle.gateway.proofs.fresh.needed.Given as goal
 
 -- how many bytes process p needs

@@ -1,5 +1,4 @@
 -- `gateway::fresh::size_right` meets its contract, by the two cases. Assumes nothing.
-use borrow.Author.Rules.{rules}
 use Rattle.gateway.proofs.fresh.size_right.Goals as goal
 
 pub returns-then-there : goal.returns-then-there

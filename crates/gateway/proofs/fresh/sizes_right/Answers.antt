@@ -1,6 +1,4 @@
 -- `gateway::fresh::sizes_right` meets its contract: each size is tested, and then their sum. Assumes nothing.
-use borrow.Author.Tests.{not-true, not-false}
-use borrow.Author.Rules.{rules}
 use Rattle.state.specs.Fresh.{sizes_right}
 use Rattle.gateway.proofs.fresh.sizes_right.Goals as goal
 

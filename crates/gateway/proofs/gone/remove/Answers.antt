@@ -2,7 +2,6 @@
 use mathlib.Core.Path.{◌≡◌, refl}
 use mathlib.Core.Bool.{true}
 use Rattle.rules.specs.Isolation.{is_granted}
-use borrow.Author.Rules.{rules}
 use Rattle.gateway.proofs.gone.remove.Goals as goal
 
 pub take_out-requires : goal.take_out-requires

@@ -11,7 +11,6 @@ use Rattle.rules.proofs.StateLaws.{layout_of}
 use Rattle.state_bytes.specs.State.{state_of, with_starts_bytes}
 use Rattle.gateway.proofs.ReadyLaws.{formed-long, sound-formed, sound-ready}
 use Rattle.gateway.proofs.FinishLaws.{gone-bytes}
-use borrow.Author.Rules.{rules}
 use Rattle.gateway.proofs.gone.take_out.Goals as goal
 
 pub used_bytes-end-requires : goal.used_bytes-end-requires

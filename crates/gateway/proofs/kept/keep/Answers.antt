@@ -1,7 +1,6 @@
 -- `gateway::kept::keep` meets its contract, by the outcome. Assumes nothing.
 use mathlib.Core.Path.{refl}
 use Rattle.rules.specs.Isolation.{is_granted}
-use borrow.Author.Rules.{rules}
 use Rattle.gateway.proofs.kept.keep.Goals as goal
 
 pub returns-in-Granted : goal.returns-in-Granted

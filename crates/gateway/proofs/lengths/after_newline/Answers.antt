@@ -1,11 +1,9 @@
 -- `gateway::lengths::after_newline` meets its contract. The loop's invariant: the first newline is the first of what was not passed. Assumes nothing.
-use mathlib.Core.Path.{◌≡◌, ap}
-use mathlib.Core.Bool.{Bool}
-use Prim.Native.Nat.{ℕ, ◌+◌, ◌-◌, ◌≤◌}
+use mathlib.Core.Path.{ap}
+use Prim.Native.Nat.{◌≤◌}
 use native.Mathlib.Omega.{arith}
 use borrow.Author.Tests.{eq-eqb, ne_eqb}
-use lib.ListN.{length, drop, drop_of_length-le}
-use lib.Dec.{eqb}
+use lib.ListN.{length, drop_of_length-le}
 use Rattle.lists.specs.First.{first}
 use Rattle.lists.proofs.First.{first-here, first_next}
 use Rattle.gateway.specs.Lengths.{after_newline}

@@ -1,6 +1,5 @@
 -- `gateway::lengths::notice_length` meets its contract, by the cases. Assumes nothing.
 use mathlib.Core.Path.{sym, ap}
-use borrow.Author.Rules.{rules}
 use Rattle.format.specs.Outcome.{length_of}
 use Rattle.gateway.specs.Lengths.{notice_length}
 use Rattle.gateway.proofs.lengths.notice_length.Goals as goal

@@ -3,7 +3,6 @@ use borrow.Author.Tests.{lt-ltb, le-ltb}
 use lib.ListN.{length}
 use Rattle.packets.specs.Ack.{ack_words}
 use Rattle.gateway.specs.Called.{lent_on}
-use borrow.Author.Rules.{rules}
 use Rattle.gateway.proofs.lent.check_ack_buffer_and_state.Goals as goal
 
 pub returns-then-out-lt-ACK_WORDS : goal.returns-then-out-lt-ACK_WORDS

@@ -1,7 +1,6 @@
 -- `gateway::lent::check_buffers_and_state` meets its contract, by the length of the memory. Assumes nothing.
 use borrow.Author.Tests.{eq-eqb, ne_eqb}
 use Rattle.gateway.specs.Called.{lent_on}
-use borrow.Author.Rules.{rules}
 use Rattle.gateway.proofs.lent.check_buffers_and_state.Goals as goal
 
 pub returns-then-memory-ne-CAPACITY : goal.returns-then-memory-ne-CAPACITY

@@ -3,7 +3,6 @@ use borrow.Author.Tests.{lt-ltb, le-ltb}
 use lib.ListN.{length}
 use Rattle.fields.specs.Written.{line_bytes}
 use Rattle.gateway.specs.Called.{lent_on}
-use borrow.Author.Rules.{rules}
 use Rattle.gateway.proofs.lent.check_report_buffers_and_state.Goals as goal
 
 pub returns-then-line-lt-LINE_BYTES : goal.returns-then-line-lt-LINE_BYTES

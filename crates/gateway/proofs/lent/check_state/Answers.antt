@@ -1,7 +1,5 @@
 -- `gateway::lent::check_state` meets its contract: at each `return` the tests before it have passed. Assumes nothing.
-use borrow.Author.Tests.{not-true, not-false}
 use Rattle.gateway.specs.Called.{lent_on}
-use borrow.Author.Rules.{rules}
 use Rattle.gateway.proofs.lent.check_state.Goals as goal
 
 pub returns-then-short : goal.returns-then-short

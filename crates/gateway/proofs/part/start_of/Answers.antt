@@ -1,5 +1,4 @@
 -- `gateway::part::start_of` meets its contract, by whether the process is there. Assumes nothing.
-use borrow.Author.Rules.{rules}
 use Rattle.gateway.proofs.part.start_of.Goals as goal
 
 pub returns-then-there : goal.returns-then-there

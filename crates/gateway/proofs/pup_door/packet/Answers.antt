@@ -3,7 +3,6 @@ use mathlib.Core.Path.{◌≡◌, refl, sym, ◌∙◌}
 use mathlib.Core.Bool.{true, false}
 use Prim.Native.Nat.{◌≤◌, ◌<◌}
 use native.Mathlib.Omega.{arith}
-use borrow.Author.Tests.{not-true, not-false}
 use Rattle.packets.specs.Types.{known_type, too_few}
 use Rattle.rules.specs.Tests.{lent, no_ack_room}
 use Rattle.rules.specs.Step.{packet, step}
@@ -12,7 +11,6 @@ use Rattle.state_bytes.specs.State.{state_of, door_of}
 use Rattle.gateway.specs.Called.{Did}
 use Rattle.gateway.proofs.PacketLaws.{packet-few, packet-unknown, packet-beyond, packet-known}
 use Rattle.gateway.proofs.LentLaws.{lent-passes, finished-refused, ack-fits, packet-unfit, call-fit}
-use borrow.Author.Rules.{rules}
 use Rattle.gateway.proofs.pup_door.packet.Goals as goal
 
 pub returns-then-number-ne0 : goal.returns-then-number-ne0

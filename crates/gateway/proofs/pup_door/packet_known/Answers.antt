@@ -12,7 +12,6 @@ use Rattle.gateway.proofs.PartLaws.{part-inside, part-back, local-part, tested-p
 use Rattle.gateway.proofs.PacketLaws.{packet-stays}
 use Rattle.gateway.proofs.LentLaws.{ack-fits}
 use Rattle.gateway.proofs.FinishLaws.{finished-served}
-use borrow.Author.Rules.{rules}
 use Rattle.gateway.proofs.pup_door.packet_known.Goals as goal
 
 pub read_process_at-process-requires : goal.read_process_at-process-requires

@@ -1,5 +1,5 @@
 -- `gateway::pup_door::tick` meets its contract, by whether the state is sound and the door is at a process. Assumes nothing.
-use mathlib.Core.Path.{◌≡◌, refl, sym, ◌∙◌}
+use mathlib.Core.Path.{refl, sym, ◌∙◌}
 use mathlib.Core.Bool.{false}
 use Prim.Native.Nat.{◌≤◌, ◌<◌}
 use native.Mathlib.Omega.{arith}
@@ -9,7 +9,6 @@ use Rattle.gateway.specs.Called.{Did}
 use Rattle.gateway.proofs.ReadyLaws.{formed-long, sound-formed}
 use Rattle.gateway.proofs.LentLaws.{passed, tick-unfit}
 use Rattle.gateway.proofs.TickedLaws.{tick-idle, tick-acts}
-use borrow.Author.Rules.{rules}
 use Rattle.gateway.proofs.pup_door.tick.Goals as goal
 
 pub returns-then-number-ne0 : goal.returns-then-number-ne0

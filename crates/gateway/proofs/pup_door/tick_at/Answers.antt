@@ -2,7 +2,6 @@
 use native.Mathlib.Omega.{arith}
 use Rattle.gateway.proofs.ReadyLaws.{formed-long, sound-formed}
 use Rattle.gateway.proofs.TickedLaws.{few-ticks}
-use borrow.Author.Rules.{rules}
 use Rattle.gateway.proofs.pup_door.tick_at.Goals as goal
 
 pub read_process_at-process-requires : goal.read_process_at-process-requires

@@ -8,11 +8,6 @@ use Rattle.rules.specs.Tests.{lent}
 use Rattle.rules.proofs.StateLaws.{layout_of}
 use Rattle.state_bytes.specs.State.{state_of}
 use Rattle.gateway.proofs.ReadyLaws.{formed-long, sound-formed, sound-ready}
-use borrow.Author.Rules.{rules}
-use Rattle.gateway.proofs.requests.no_place.Reads as no-place-reads
-use Rattle.service.proofs.size_asked.Reads as size-asked-reads
-use Rattle.state_bytes.proofs.used_bytes.Reads as used-bytes-reads
-use Rattle.state_bytes.proofs.lowest_absent.Reads as lowest-absent-reads
 use Rattle.gateway.proofs.queries.no_place_for.Goals as goal
 
 pub lowest_absent-pid-requires : goal.lowest_absent-pid-requires

@@ -1,13 +1,7 @@
 -- `gateway::queries::why` meets its contract, by the state and by what was read. Assumes nothing.
 use mathlib.Core.Path.{sym, ◌∙◌}
-use borrow.Author.Tests.{not-true, not-false}
 use Rattle.gateway.proofs.AskedLaws.{refused-found}
 use Rattle.gateway.proofs.WhyLaws.{why-unsound, why-refused}
-use borrow.Author.Rules.{rules}
-use Rattle.gateway.proofs.queries.why_read.Reads as why-read-reads
-use Rattle.message.proofs.read_request.Reads as read-request-reads
-use Rattle.state_bytes.proofs.state_sound.Reads as state-sound-reads
-use Rattle.why.proofs.reason_without_process.Reads as reason-without-process-reads
 use Rattle.gateway.proofs.queries.why.Goals as goal
 
 pub returns-then-not-state_sound : goal.returns-then-not-state_sound

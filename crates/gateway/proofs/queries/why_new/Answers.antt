@@ -1,7 +1,5 @@
 -- `gateway::queries::why_new` meets its contract, by whether there is a place. Assumes nothing.
 use Rattle.gateway.specs.Stage.{create_reason}
-use borrow.Author.Rules.{rules}
-use Rattle.gateway.proofs.queries.no_place_for.Reads as no-place-for-reads
 use Rattle.gateway.proofs.queries.why_new.Goals as goal
 
 pub returns-then-no_place_for : goal.returns-then-no_place_for

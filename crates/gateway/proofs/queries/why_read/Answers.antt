@@ -5,11 +5,6 @@ use Rattle.service.specs.declared.target.Target.TheVariants.{Named, OutOfRange, 
 use Rattle.gateway.proofs.ReadyLaws.{formed-long, sound-formed}
 use Rattle.gateway.proofs.AskedLaws.{request-found, target-says}
 use Rattle.gateway.proofs.WhyLaws.{why-named, why-beyond, why-new, why-nowhere}
-use borrow.Author.Rules.{rules}
-use Rattle.gateway.proofs.queries.why_new.Reads as why-new-reads
-use Rattle.service.proofs.target_of.Reads as target-of-reads
-use Rattle.state_bytes.proofs.read_process_at.Reads as read-process-at-reads
-use Rattle.why.proofs.why_for_process.Reads as why-for-process-reads
 use Rattle.gateway.proofs.queries.why_read.Goals as goal
 
 pub read_process_at-requires : goal.read_process_at-requires

@@ -6,7 +6,6 @@ use Rattle.state_bytes.specs.State.{state_of}
 use Rattle.gateway.specs.Called.{Did}
 use Rattle.gateway.proofs.ReportLaws.{both, report-away}
 use Rattle.gateway.proofs.LentLaws.{lent-passes, finished-refused, report-fits, report-unfit, call-fit}
-use borrow.Author.Rules.{rules}
 use Rattle.gateway.proofs.reports.report.Goals as goal
 
 pub returns-then-number-ne0 : goal.returns-then-number-ne0

@@ -11,7 +11,6 @@ use Rattle.gateway.proofs.PartLaws.{part-inside, part-back, local-part, tested-p
 use Rattle.gateway.proofs.ReportLaws.{report-stays, report-low, report-heard}
 use Rattle.gateway.proofs.LentLaws.{lent-passes, report-fits}
 use Rattle.gateway.proofs.FinishLaws.{finished-served}
-use borrow.Author.Rules.{rules}
 use Rattle.gateway.proofs.reports.report_known.Goals as goal
 
 pub read_process_at-process-requires : goal.read_process_at-process-requires

@@ -9,7 +9,6 @@ use Rattle.service.specs.declared.target.Target.TheVariants.{Named, OutOfRange, 
 use Rattle.gateway.proofs.AskedLaws.{request-found, carried-short, create-short, target-says, asked-beyond, asked-nowhere}
 use Rattle.gateway.proofs.LentLaws.{request-fits}
 use Rattle.gateway.proofs.FinishLaws.{finished-unmoved}
-use borrow.Author.Rules.{rules}
 use Rattle.gateway.proofs.requests.answer.Goals as goal
 
 pub answer_named-requires : goal.answer_named-requires

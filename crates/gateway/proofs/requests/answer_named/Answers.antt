@@ -15,7 +15,6 @@ use Rattle.gateway.proofs.PartLaws.{part_count, part-begins, part-inside, part-b
 use Rattle.gateway.proofs.AskedLaws.{asked-named}
 use Rattle.gateway.proofs.LentLaws.{request-fits}
 use Rattle.gateway.proofs.FinishLaws.{finished-served, finished-removed, finished-kept}
-use borrow.Author.Rules.{rules}
 use Rattle.gateway.proofs.requests.answer_named.Goals as goal
 
 pub read_process_at-process-requires : goal.read_process_at-process-requires

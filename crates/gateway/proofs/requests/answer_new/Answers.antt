@@ -1,6 +1,6 @@
 -- `gateway::requests::answer_new` meets its contract: CREATE of the lowest absent process after the last one, or refused. Assumes nothing.
 use mathlib.Core.Path.{sym, ◌∙◌}
-use mathlib.Core.Bool.{not, ◌||◌}
+use mathlib.Core.Bool.{not}
 use Prim.Native.Nat.{◌+◌, ◌-◌, ◌≤◌}
 use native.Mathlib.Omega.{arith}
 use borrow.Author.Tests.{ltb-true, ltb-false, not-false}
@@ -14,7 +14,6 @@ use Rattle.state_bytes.specs.State.{state_of}
 use Rattle.gateway.proofs.AskedLaws.{asked-full}
 use Rattle.gateway.proofs.LentLaws.{request-fits}
 use Rattle.gateway.proofs.FinishLaws.{finished-unmoved}
-use borrow.Author.Rules.{rules}
 use Rattle.gateway.proofs.requests.answer_new.Goals as goal
 
 pub lowest_absent-pid-requires : goal.lowest_absent-pid-requires

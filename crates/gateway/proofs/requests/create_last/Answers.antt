@@ -13,7 +13,6 @@ use Rattle.gateway.proofs.PartLaws.{part-size, slot-back}
 use Rattle.gateway.proofs.AskedLaws.{asked-new, lowest-is-absent}
 use Rattle.gateway.proofs.LentLaws.{request-fits}
 use Rattle.gateway.proofs.FinishLaws.{last-bytes, finished-last}
-use borrow.Author.Rules.{rules}
 use Rattle.gateway.proofs.requests.create_last.Goals as goal
 
 pub read_process_at-process-requires : goal.read_process_at-process-requires

@@ -1,7 +1,6 @@
 -- `gateway::requests::no_place` meets its contract, by whether a number is free. Assumes nothing.
 use borrow.Author.Tests.{lt-ltb, le-ltb}
 use native.Mathlib.Omega.{arith}
-use borrow.Author.Rules.{rules}
 use Rattle.gateway.proofs.requests.no_place.Goals as goal
 
 pub returns-then-pid-ge8 : goal.returns-then-pid-ge8

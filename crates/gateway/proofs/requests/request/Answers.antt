@@ -8,7 +8,6 @@ use Rattle.gateway.specs.Called.{Did}
 use Rattle.gateway.proofs.AskedLaws.{request-found, refused-found}
 use Rattle.gateway.proofs.StageLaws.{request-read, request-asked}
 use Rattle.gateway.proofs.LentLaws.{lent-passes, finished-refused, request-fits, request-unfit, call-fit}
-use borrow.Author.Rules.{rules}
 use Rattle.gateway.proofs.requests.request.Goals as goal
 
 pub returns-then-number-ne0 : goal.returns-then-number-ne0

@@ -15,7 +15,6 @@ use Rattle.gateway.specs.Called.{Did}
 use Rattle.gateway.proofs.TextLaws.{line-unread, line-broken, line-beyond, line_known}
 use Rattle.gateway.proofs.LentLaws.{lent-passes, finished-refused, line-fits, line-unfit, call-fit}
 use Rattle.gateway.proofs.FinishLaws.{finished-unmoved}
-use borrow.Author.Rules.{rules}
 use Rattle.gateway.proofs.text_lines.text_line.Goals as goal
 
 pub returns-then-number-ne0 : goal.returns-then-number-ne0

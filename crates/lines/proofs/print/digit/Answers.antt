@@ -1,5 +1,4 @@
 -- `lines::print::digit` meets its contract, by the size of the number. Assumes nothing.
-use borrow.Author.Rules.{rules}
 use borrow.Author.Tests.{lt-ltb, le-ltb}
 use Rattle.lines.specs.Hex.{digit}
 use Rattle.lines.proofs.print.digit.Goals as goal

@@ -2,7 +2,6 @@
 use mathlib.Core.Path.{refl, sym}
 use mathlib.Core.List.{[], ◌∷◌}
 use native.Mathlib.Omega.{arith}
-use borrow.Author.Rules.{rules}
 use lib.ListN.{length-set}
 use Rattle.lists.proofs.Buffer.{sets-overlay}
 use Rattle.lines.proofs.PrintLaws.{length-spaced, none-dash, some-spaced}

@@ -2,7 +2,6 @@
 use native.Mathlib.Omega.{arith}
 use Rattle.lists.proofs.Buffer.{sets-overlay}
 use Rattle.lines.specs.Hex.{pair}
-use borrow.Author.Rules.{rules}
 use Rattle.lines.proofs.print.put_first.Goals as goal
 
 pub returns : goal.returns

@@ -1,6 +1,5 @@
 -- `lines::print::put_pair` meets its contract: three stores. Assumes nothing.
 use native.Mathlib.Omega.{arith}
-use borrow.Author.Rules.{rules}
 use lib.ListN.{length-set}
 use Rattle.lines.specs.Hex.{pair_at}
 use Rattle.lines.proofs.print.put_pair.Goals as goal

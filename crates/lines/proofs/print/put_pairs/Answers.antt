@@ -6,7 +6,6 @@ use native.Mathlib.Omega.{arith}
 use lib.ListN.{length}
 use Rattle.lists.proofs.Buffer.{sets-overlay}
 use Rattle.lines.proofs.PutLaws.{line-none, length-line, line-laid}
-use borrow.Author.Rules.{rules}
 use Rattle.lines.proofs.print.put_pairs.Goals as goal
 
 pub returns-then-bytes-eq0 : goal.returns-then-bytes-eq0

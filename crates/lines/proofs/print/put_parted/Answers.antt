@@ -7,7 +7,6 @@ use Rattle.lists.specs.Buffer.{overlay}
 use Rattle.lists.proofs.Buffer.{laid-part}
 use Rattle.lines.specs.Hex.{pair, spaced}
 use Rattle.lines.proofs.PutLaws.{pairs-parted}
-use borrow.Author.Rules.{rules}
 use Rattle.lines.proofs.print.put_parted.Goals as goal
 
 pub returns : goal.returns

@@ -1,15 +1,9 @@
 -- `lines::print::put_spaced` meets its contract. The loop's invariant: the bytes passed are laid over the buffer. Assumes nothing.
-use mathlib.Core.Path.{◌≡◌, refl, ap, ◌∙◌}
-use mathlib.Core.List.{List}
-use Prim.Native.Nat.{◌+◌, ◌-◌, ◌≤◌, ℕ, ◌<◌}
-use native.Mathlib.Omega.{arith}
-use borrow.Author.Rules.{rules}
+use mathlib.Core.Path.{◌≡◌}
+use Prim.Native.Nat.{◌-◌, ◌≤◌}
 use lib.ListN.{length, take}
-use lib.Seq.{length-take-le}
 use Rattle.lists.specs.Buffer.{overlay}
-use Rattle.lists.proofs.Buffer.{length-overlay}
 use Rattle.lines.specs.Hex.{spaced}
-use Rattle.lines.proofs.PrintLaws.{length-spaced, spaced-step, spaced-all}
 use Rattle.lines.proofs.print.put_spaced.Given as goal
 
 abbrev pub invariant-loop-i : goal.invariant-loop-i

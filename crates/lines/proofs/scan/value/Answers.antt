@@ -1,5 +1,4 @@
 -- `lines::scan::value` meets its contract: at each `return` the tests that led there say its value. Assumes nothing.
-use borrow.Author.Rules.{rules}
 use borrow.Author.Tests.{lt-ltb, le-ltb, le-leb, lt-leb}
 use Rattle.lines.specs.Hex.{value}
 use Rattle.lines.proofs.scan.value.Goals as goal

@@ -1,7 +1,6 @@
 -- `lines::text::put_mark` meets its contract: one store. Assumes nothing.
 use mathlib.Core.Path.{refl}
 use Rattle.lines.specs.Scan.{kept}
-use borrow.Author.Rules.{rules}
 use Rattle.lines.proofs.text.put_mark.Goals as goal
 
 pub returns : goal.returns

@@ -1,6 +1,5 @@
 -- `message::answer::read_answer` meets its contract: under ten bytes there is no message, and else the form found is that of the CMD in the message. Assumes nothing.
 use mathlib.Core.Path.{ap, ◌∙◌}
-use borrow.Author.Rules.{rules}
 use Rattle.format.specs.declared.header.Header.{Header}
 use Rattle.ops.specs.Table.{answer_form}
 use Rattle.message.specs.Exchange.{reads}

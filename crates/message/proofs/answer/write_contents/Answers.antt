@@ -6,7 +6,6 @@ use Rattle.format.specs.declared.outcome.Outcome.TheVariants.{Granted}
 use Rattle.format.specs.Layout.{header}
 use Rattle.lists.specs.Buffer.{overlay}
 use Rattle.message.specs.Exchange.{wrote, sends_head}
-use borrow.Author.Rules.{rules}
 use Rattle.message.proofs.answer.write_contents.Goals as goal
 
 pub returns : goal.returns

@@ -10,7 +10,6 @@ use Rattle.format.specs.Answer.{notice_of}
 use Rattle.message.specs.Exchange.{wrote, sends}
 use Rattle.format.specs.Layout.{header, written}
 use Rattle.lists.proofs.Buffer.{paste-overlay}
-use borrow.Author.Rules.{rules}
 use Rattle.message.proofs.answer.write_notice.Goals as goal
 
 pub returns : goal.returns

@@ -3,7 +3,6 @@ use mathlib.Core.Path.{ap}
 use Rattle.format.specs.declared.outcome.Outcome.TheVariants.{Granted}
 use Rattle.format.specs.Layout.{written}
 use Rattle.message.specs.Exchange.{wrote, sends}
-use borrow.Author.Rules.{rules}
 use Rattle.message.proofs.answer.write_reply.Goals as goal
 
 pub returns : goal.returns

@@ -1,5 +1,4 @@
 -- `message::exchange::read` meets its contract: number 0 gives the fields, any other number is the refusal. Assumes nothing.
-use borrow.Author.Rules.{rules}
 use Rattle.message.specs.Exchange.{read_number}
 use Rattle.format.proofs.OutcomeLaws.{reading-zero, reading-other}
 use Rattle.message.proofs.exchange.read.Goals as goal

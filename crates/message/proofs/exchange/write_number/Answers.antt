@@ -2,7 +2,6 @@
 use Prim.Native.Nat.{◌<◌, ◌≤◌, ◌+◌}
 use native.Mathlib.Omega.{arith}
 use borrow.Author.Tests.{lt-ltb, le-ltb}
-use borrow.Author.Rules.{rules}
 use lib.ListN.{length}
 use Rattle.format.specs.Refusal.{wrong_length}
 use Rattle.format.specs.Outcome.{first_failing}

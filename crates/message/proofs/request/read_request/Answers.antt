@@ -1,8 +1,7 @@
 -- `message::request::read_request` meets its contract: the tests 3 to 6 of the form that is found for the CMD. Assumes nothing.
-use mathlib.Core.Path.{◌≡◌, sym, ◌∙◌}
+use mathlib.Core.Path.{sym, ◌∙◌}
 use Rattle.message.specs.Exchange.{read_number}
 use Rattle.message.proofs.IncomingLaws.{incoming-short, incoming-refused, incoming-read, incoming-known}
-use borrow.Author.Rules.{rules}
 use Rattle.message.proofs.request.read_request.Goals as goal
 
 pub returns-then-message-lt-HEADER_BYTES : goal.returns-then-message-lt-HEADER_BYTES

@@ -1,5 +1,4 @@
 -- `message::request::write_request` meets its contract: the form found is that of the CMD. Assumes nothing.
-use borrow.Author.Rules.{rules}
 use Rattle.message.specs.Exchange.{writes}
 use Rattle.message.proofs.request.write_request.Goals as goal
 

@@ -1,5 +1,4 @@
 -- `ops::table::answer_form` meets its contract: CMD says which of the three tables has the form. Assumes nothing.
-use borrow.Author.Rules.{rules}
 use borrow.Author.Tests.{lt-ltb, le-ltb}
 use Rattle.ops.specs.Table.{answer_form}
 use Rattle.ops.proofs.table.answer_form.Goals as goal

@@ -1,7 +1,6 @@
 -- `ops::table::cant_form` meets its contract: the request's form without its string, and none for NOP. Assumes nothing.
 use mathlib.Core.Path.{◌≡◌}
 use native.Mathlib.Omega.{arith}
-use borrow.Author.Rules.{rules}
 use borrow.Author.Tests.{eq-eqb, ne_eqb}
 use Rattle.ops.specs.Table.{cant_form}
 use Rattle.ops.proofs.table.cant_form.Goals as goal

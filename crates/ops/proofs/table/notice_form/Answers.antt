@@ -1,5 +1,4 @@
 -- `ops::table::notice_form` meets its contract: the code's table and the definition's are one list. Assumes nothing.
-use borrow.Author.Rules.{rules}
 use borrow.Author.Tests.{lt-ltb, le-ltb}
 use Rattle.ops.specs.Table.{notice_form}
 use Rattle.ops.proofs.table.notice_form.Goals as goal

@@ -1,5 +1,4 @@
 -- `ops::table::reply_form` meets its contract: the second form of the row, if there is one. Assumes nothing.
-use borrow.Author.Rules.{rules}
 use Rattle.ops.specs.Table.{reply_form}
 use Rattle.ops.proofs.table.reply_form.Goals as goal
 

@@ -1,5 +1,4 @@
 -- `ops::table::request_form` meets its contract: the first form of the row, if there is one. Assumes nothing.
-use borrow.Author.Rules.{rules}
 use Rattle.ops.specs.Table.{request_form}
 use Rattle.ops.proofs.table.request_form.Goals as goal
 

@@ -1,6 +1,5 @@
 -- `ops::table::row_of` meets its contract: the code's table and the definition's are one list. Assumes nothing.
 use borrow.Author.Tests.{lt-ltb, le-ltb}
-use borrow.Author.Rules.{rules}
 use Rattle.ops.specs.Table.{row_of}
 use Rattle.ops.proofs.table.row_of.Goals as goal
 

@@ -4,7 +4,6 @@ use native.Mathlib.Omega.{arith}
 use Rattle.packets.specs.declared.units.ByteAddress.{ByteAddress}
 use Rattle.process.specs.Local.{local}
 use Rattle.packet_door.proofs.AckLaws.{word-seen}
-use borrow.Author.Rules.{rules}
 use Rattle.packet_door.proofs.ack.word_at.Goals as goal
 
 pub examine-requires : goal.examine-requires

@@ -9,7 +9,6 @@ use Rattle.packets.proofs.BlockLaws.{sent-for}
 use Rattle.process.specs.Local.{local}
 use Rattle.packet_door.proofs.RowLaws.{inside-within}
 use Rattle.packet_door.proofs.AckLaws.{started, ack-alone, ack-with}
-use borrow.Author.Rules.{rules}
 use Rattle.packet_door.proofs.ack.write_ack.Goals as goal
 
 pub word_at-requires : goal.word_at-requires

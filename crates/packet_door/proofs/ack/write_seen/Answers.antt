@@ -12,7 +12,6 @@ use Rattle.packets.specs.Units.{in_bytes}
 use Rattle.process.specs.Local.{local}
 use Rattle.process.specs.Request.{examined}
 use Rattle.packet_door.proofs.AckLaws.{words-seen}
-use borrow.Author.Rules.{rules}
 use Rattle.packet_door.proofs.ack.write_seen.Goals as goal
 
 pub slice_bounds-block-end : goal.slice_bounds-block-end

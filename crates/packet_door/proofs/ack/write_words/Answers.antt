@@ -1,11 +1,10 @@
 -- `packet_door::ack::write_words` meets its contract. The loop's invariant: the words made so far lie over the buffer's start. Assumes nothing.
 use mathlib.Core.Path.{◌≡◌, refl, ◌∙◌}
 use mathlib.Core.List.{List}
-use Prim.Native.Nat.{ℕ, ◌+◌, ◌*◌, ◌≤◌, ◌-◌}
+use Prim.Native.Nat.{ℕ, ◌+◌, ◌*◌}
 use native.Mathlib.Omega.{arith}
-use borrow.Author.Rules.{rules}
-use lib.ListN.{length, get_or, length-set}
-use Rattle.lists.specs.Word.{word, words_of}
+use lib.ListN.{get_or, length-set}
+use Rattle.lists.specs.Word.{word}
 use Rattle.lists.specs.Buffer.{overlay}
 use Rattle.lists.proofs.Elements.{elements-step}
 use Rattle.packet_door.proofs.ack.write_words.Goals as goal

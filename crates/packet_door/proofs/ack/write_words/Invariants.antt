@@ -1,13 +1,9 @@
 -- `packet_door::ack::write_words` meets its contract. The loop's invariant: the words made so far lie over the buffer's start. Assumes nothing.
-use mathlib.Core.Path.{◌≡◌, refl, ◌∙◌}
-use mathlib.Core.List.{List}
-use Prim.Native.Nat.{ℕ, ◌+◌, ◌*◌, ◌≤◌, ◌-◌}
-use native.Mathlib.Omega.{arith}
-use borrow.Author.Rules.{rules}
-use lib.ListN.{length, get_or, length-set}
-use Rattle.lists.specs.Word.{word, words_of}
+use mathlib.Core.Path.{◌≡◌}
+use Prim.Native.Nat.{◌≤◌, ◌-◌}
+use lib.ListN.{length}
+use Rattle.lists.specs.Word.{words_of}
 use Rattle.lists.specs.Buffer.{overlay}
-use Rattle.lists.proofs.Elements.{elements-step}
 use Rattle.packet_door.proofs.ack.write_words.Given as goal
 
 abbrev pub invariant-loop-i : goal.invariant-loop-i

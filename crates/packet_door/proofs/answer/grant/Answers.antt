@@ -5,7 +5,6 @@ use Rattle.service.specs.At.{leaving}
 use Rattle.packet_door.specs.At.{row_of, replied}
 use Rattle.service.proofs.EffectLaws.{whole}
 use Rattle.packet_door.proofs.PacketLaws.{whole-after, passed-after}
-use borrow.Author.Rules.{rules}
 use Rattle.packet_door.proofs.answer.grant.Goals as goal
 
 pub reply_to-outcome-requires : goal.reply_to-outcome-requires

@@ -7,7 +7,6 @@ use Rattle.process.specs.Local.{local, Present}
 use Rattle.packet_door.specs.At.{fewest_of, packet_at}
 use Rattle.packet_door.proofs.RowLaws.{enough}
 use Rattle.packet_door.proofs.PacketLaws.{number-of, passed-there, passed, packet-granted, packet-refused}
-use borrow.Author.Rules.{rules}
 use Rattle.packet_door.proofs.answer.packet_for_process.Goals as goal
 
 pub packet_number-number-requires : goal.packet_number-number-requires

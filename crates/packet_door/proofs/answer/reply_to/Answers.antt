@@ -3,7 +3,6 @@ use mathlib.Core.Path.{refl}
 use native.Mathlib.Omega.{arith}
 use Rattle.lists.specs.Buffer.{overlay}
 use Rattle.packet_door.specs.At.{row_of, fewest_of}
-use borrow.Author.Rules.{rules}
 use Rattle.packet_door.proofs.answer.reply_to.Goals as goal
 
 pub write_ack-requires : goal.write_ack-requires

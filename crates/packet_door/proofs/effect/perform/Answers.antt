@@ -4,7 +4,6 @@ use native.Mathlib.Omega.{arith}
 use Rattle.service.proofs.EffectLaws.{whole}
 use Rattle.packet_door.specs.At.{row_of, fewest_of}
 use Rattle.packet_door.proofs.RowLaws.{inside-within}
-use borrow.Author.Rules.{rules}
 use Rattle.packet_door.proofs.effect.perform.Goals as goal
 
 pub store-requires : goal.store-requires

@@ -1,5 +1,4 @@
 -- `packet_door::effect::store` meets its contract. Assumes nothing.
-use borrow.Author.Rules.{rules}
 use Rattle.packet_door.proofs.effect.store.Goals as goal
 
 pub store_word-requires : goal.store_word-requires

@@ -1,7 +1,6 @@
 -- `packet_door::rule::range` meets its contract, by what is asked for. Assumes nothing.
 use native.Mathlib.Omega.{arith}
 use Rattle.packet_door.specs.At.{row_of, fewest_of}
-use borrow.Author.Rules.{rules}
 use Rattle.packet_door.proofs.rule.range.Goals as goal
 
 pub word_fits-requires : goal.word_fits-requires

@@ -1,6 +1,5 @@
 -- `packet_door::rule::right` meets its contract, by what is asked for. Assumes nothing.
 use Rattle.packet_door.specs.At.{row_of}
-use borrow.Author.Rules.{rules}
 use Rattle.packet_door.proofs.rule.right.Goals as goal
 
 pub returns-in-Store : goal.returns-in-Store

@@ -1,6 +1,5 @@
 -- `packet_door::rule::word_fits` meets its contract. Assumes nothing.
 use Rattle.rules.specs.PacketRule.{word_inside}
-use borrow.Author.Rules.{rules}
 use Rattle.packet_door.proofs.rule.word_fits.Goals as goal
 
 pub returns : goal.returns

@@ -1,8 +1,7 @@
 -- `packets::ack::start_ack` meets its contract, by the block. Assumes nothing.
 use mathlib.Core.Path.{sym, ap}
 use native.Mathlib.Omega.{arith}
-use borrow.Author.Rules.{rules}
-use lib.ListN.{length, length-set}
+use lib.ListN.{length-set}
 use Rattle.packets.specs.Ack.{ack_start, ack_length}
 use Rattle.packets.proofs.AckLaws.{length-with, start-with, two-set, three-set}
 use Rattle.packets.proofs.ack.start_ack.Goals as goal

@@ -1,5 +1,4 @@
 -- `packets::block::base_of` meets its contract. Assumes nothing.
-use borrow.Author.Rules.{rules}
 use Rattle.packets.specs.Block.{base_of}
 use Rattle.packets.proofs.block.base_of.Goals as goal
 

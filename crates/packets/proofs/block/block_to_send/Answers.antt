@@ -1,6 +1,5 @@
 -- `packets::block::block_to_send` meets its contract: what was asked for, its length to send, halved until it fits. Assumes nothing.
 use mathlib.Core.Path.{ap, ◌∙◌}
-use borrow.Author.Rules.{rules}
 use Rattle.packets.specs.Block.{length_to_send, halved_to_fit, block_for}
 use Rattle.packets.proofs.LengthLaws.{to-send-none-or}
 use Rattle.packets.proofs.block.block_to_send.Goals as goal

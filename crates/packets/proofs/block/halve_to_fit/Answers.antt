@@ -1,14 +1,12 @@
 -- `packets::block::halve_to_fit` meets its contract. The loop's invariant: the lengths that are left lead to the block. Assumes nothing.
 use mathlib.Core.Path.{◌≡◌, refl, sym, ap, ◌∙◌}
 use mathlib.Core.Bool.{true, false}
-use Prim.Native.Nat.{ℕ, ◌^◌, ◌<◌}
 use native.Mathlib.Omega.{arith}
-use borrow.Author.Rules.{rules}
 use Rattle.packets.specs.declared.units.WordAddress.{WordAddress}
 use Rattle.packets.specs.declared.units.WordCount.{WordCount}
 use Rattle.packets.specs.declared.block.Block.TheVariants.{Words}
 use Rattle.packets.specs.Units.{holds}
-use Rattle.packets.specs.Block.{none_or_sendable, base_of, half, halved_to_fit}
+use Rattle.packets.specs.Block.{base_of}
 use Rattle.packets.proofs.LengthLaws.{some-sendable, none-or-most, half-sendable}
 use Rattle.packets.proofs.BlockLaws.{halved_none, halved-fits, halved-next}
 use Rattle.packets.proofs.block.halve_to_fit.Goals as goal

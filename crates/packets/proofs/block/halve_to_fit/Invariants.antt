@@ -1,16 +1,8 @@
 -- `packets::block::halve_to_fit` meets its contract. The loop's invariant: the lengths that are left lead to the block. Assumes nothing.
-use mathlib.Core.Path.{◌≡◌, refl, sym, ap, ◌∙◌}
-use mathlib.Core.Bool.{true, false}
+use mathlib.Core.Path.{◌≡◌}
+use mathlib.Core.Bool.{true}
 use Prim.Native.Nat.{ℕ, ◌^◌, ◌<◌}
-use native.Mathlib.Omega.{arith}
-use borrow.Author.Rules.{rules}
-use Rattle.packets.specs.declared.units.WordAddress.{WordAddress}
-use Rattle.packets.specs.declared.units.WordCount.{WordCount}
-use Rattle.packets.specs.declared.block.Block.TheVariants.{Words}
-use Rattle.packets.specs.Units.{holds}
-use Rattle.packets.specs.Block.{none_or_sendable, base_of, half, halved_to_fit}
-use Rattle.packets.proofs.LengthLaws.{some-sendable, none-or-most, half-sendable}
-use Rattle.packets.proofs.BlockLaws.{halved_none, halved-fits, halved-next}
+use Rattle.packets.specs.Block.{none_or_sendable, halved_to_fit}
 use Rattle.packets.proofs.block.halve_to_fit.Given as goal
 
 abbrev pub invariant-loop-count : goal.invariant-loop-count

@@ -1,8 +1,7 @@
 -- `packets::block::length_to_send` meets its contract, by the two tests. Assumes nothing.
 use mathlib.Core.Path.{sym, ◌∙◌}
 use native.Mathlib.Omega.{arith}
-use borrow.Author.Rules.{rules}
-use borrow.Author.Tests.{not-true, not-false, le-leb, lt-leb}
+use borrow.Author.Tests.{le-leb, lt-leb}
 use Rattle.packets.specs.Block.{length_to_send}
 use Rattle.packets.proofs.block.length_to_send.Goals as goal
 

@@ -1,8 +1,6 @@
 -- `packets::data::asked` meets its contract: past the end there are noughts. Assumes nothing.
-use mathlib.Core.Path.{refl}
 use Prim.Native.Nat.{◌≤◌}
 use native.Mathlib.Omega.{arith}
-use borrow.Author.Rules.{rules}
 use lib.ListN.{length, get_or-eq_default}
 use Rattle.packets.proofs.data.asked.Goals as goal
 

@@ -1,6 +1,5 @@
 -- `packets::id::next_id` meets its contract: the last ID, or any other. Assumes nothing.
 use native.Mathlib.Omega.{arith}
-use borrow.Author.Rules.{rules}
 use Rattle.packets.specs.Id.{next_id}
 use Rattle.packets.proofs.id.next_id.Goals as goal
 

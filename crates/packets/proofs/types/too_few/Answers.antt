@@ -1,5 +1,4 @@
 -- `packets::types::too_few` meets its contract. Assumes nothing.
-use borrow.Author.Rules.{rules}
 use Rattle.packets.specs.Types.{too_few}
 use Rattle.packets.proofs.types.too_few.Goals as goal
 

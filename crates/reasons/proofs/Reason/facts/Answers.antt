@@ -1,6 +1,5 @@
 -- `reasons::Reason::facts` meets its contract, by the reason. Assumes nothing.
 use Rattle.reasons.specs.Reason.{facts_of, two_facts}
-use borrow.Author.Rules.{rules}
 use Rattle.reasons.proofs.Reason.facts.Goals as goal
 
 pub returns-in-Granted : goal.returns-in-Granted

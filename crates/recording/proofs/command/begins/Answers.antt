@@ -1,10 +1,7 @@
 -- `recording::command::begins` meets its contract. The loop's invariant: what is left of the text decides. Assumes nothing.
-use mathlib.Core.Path.{◌≡◌, refl, ◌∙◌}
-use Prim.Native.Nat.{◌-◌, ◌≤◌}
+use mathlib.Core.Path.{refl, ◌∙◌}
 use native.Mathlib.Omega.{arith}
-use borrow.Author.Rules.{rules}
-use lib.ListN.{length, drop}
-use Rattle.recording.specs.Command.{begins}
+use lib.ListN.{drop}
 use Rattle.recording.proofs.CommandLaws.{begins-short, begins-next, begins-other, begins-end}
 use Rattle.recording.proofs.command.begins.Goals as goal
 

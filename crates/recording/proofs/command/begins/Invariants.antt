@@ -1,11 +1,8 @@
 -- `recording::command::begins` meets its contract. The loop's invariant: what is left of the text decides. Assumes nothing.
-use mathlib.Core.Path.{◌≡◌, refl, ◌∙◌}
+use mathlib.Core.Path.{◌≡◌}
 use Prim.Native.Nat.{◌-◌, ◌≤◌}
-use native.Mathlib.Omega.{arith}
-use borrow.Author.Rules.{rules}
 use lib.ListN.{length, drop}
 use Rattle.recording.specs.Command.{begins}
-use Rattle.recording.proofs.CommandLaws.{begins-short, begins-next, begins-other, begins-end}
 use Rattle.recording.proofs.command.begins.Given as goal
 
 abbrev pub invariant-loop-i : goal.invariant-loop-i

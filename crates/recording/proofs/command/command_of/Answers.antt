@@ -1,8 +1,7 @@
 -- `recording::command::command_of` meets its contract, by the word that the line begins with and by its length. Assumes nothing.
-use mathlib.Core.Path.{◌≡◌, refl, sym, ap, ◌∙◌}
+use mathlib.Core.Path.{refl, sym, ◌∙◌}
 use borrow.Author.Tests.{lt-ltb, le-ltb}
 use Rattle.recording.specs.Command.{any_length, command_of}
-use borrow.Author.Rules.{rules}
 use Rattle.recording.proofs.command.command_of.Goals as goal
 
 pub returns-then-begins : goal.returns-then-begins

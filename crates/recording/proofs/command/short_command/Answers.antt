@@ -1,6 +1,5 @@
 -- `recording::command::short_command` meets its contract, by the word that the line begins with. Assumes nothing.
 use mathlib.Core.Path.{sym, ◌∙◌}
-use borrow.Author.Rules.{rules}
 use Rattle.recording.specs.Command.{short_command}
 use Rattle.recording.proofs.command.short_command.Goals as goal
 

@@ -1,9 +1,8 @@
 -- `recording::feeding::end_line` meets its contract. Assumes nothing.
-use mathlib.Core.Path.{◌≡◌, refl, sym, ap, ◌∙◌}
+use mathlib.Core.Path.{ap, ◌∙◌}
 use Prim.Native.Nat.{ℕ}
 use lib.ListN.{take}
 use Rattle.calls.proofs.MeaningLaws.{take-at-most}
-use borrow.Author.Rules.{rules}
 use Rattle.recording.proofs.feeding.end_line.Goals as goal
 
 pub returns : goal.returns

@@ -1,14 +1,10 @@
 -- `recording::feeding::feed` meets its contract. The loop's invariant: what is left of the block leads where all of it leads, and the text so far
 -- stands in front of the buffer. Assumes nothing.
-use mathlib.Core.Path.{◌≡◌, refl, sym, ap, ◌∙◌}
-use mathlib.Core.List.{List, []}
-use Prim.Native.Nat.{ℕ, ◌-◌, ◌+◌, ◌≤◌, ◌<◌}
-use native.Mathlib.Omega.{arith}
-use borrow.Author.Rules.{rules}
-use lib.ListN.{length, take, drop, get_or, length-drop}
-use lib.Seq.{length-take-le}
-use Rattle.recording.specs.Session.{reading, session, waits, fed}
-use Rattle.recording.proofs.SessionLaws.{turn, feeds-wait, feeds-all}
+use mathlib.Core.Path.{◌≡◌}
+use mathlib.Core.List.{[]}
+use Prim.Native.Nat.{◌-◌, ◌≤◌}
+use lib.ListN.{length, take, drop}
+use Rattle.recording.specs.Session.{reading, session, fed}
 use Rattle.recording.proofs.feeding.feed.Given as goal
 
 abbrev pub invariant-loop-at : goal.invariant-loop-at

@@ -1,5 +1,5 @@
 -- `recording::feeding::must_wait` meets its contract. Assumes nothing.
-use mathlib.Core.Path.{◌≡◌, refl, sym, ap, ◌∙◌}
+use mathlib.Core.Path.{refl}
 use borrow.Author.Tests.{eq-eqb, ne_eqb}
 use Rattle.recording.specs.Session.{waits}
 use Rattle.recording.proofs.feeding.must_wait.Goals as goal

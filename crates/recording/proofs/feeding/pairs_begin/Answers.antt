@@ -1,11 +1,9 @@
 -- `recording::feeding::pairs_begin` meets its contract. Assumes nothing.
-use mathlib.Core.Path.{◌≡◌, refl, sym, ap, ◌∙◌}
-use mathlib.Core.List.{List}
+use mathlib.Core.Path.{ap, ◌∙◌}
 use Prim.Native.Nat.{ℕ}
 use lib.ListN.{take}
 use Rattle.recording.specs.Line.{pairs_from}
 use Rattle.calls.proofs.MeaningLaws.{take-at-most}
-use borrow.Author.Rules.{rules}
 use Rattle.recording.proofs.feeding.pairs_begin.Goals as goal
 
 pub returns : goal.returns

@@ -1,8 +1,7 @@
 -- `recording::language::begin` meets its contract. Assumes nothing.
-use mathlib.Core.Path.{◌≡◌, refl, sym, ap, ◌∙◌}
+use mathlib.Core.Path.{ap}
 use Rattle.gateway.specs.Called.{StartResult}
 use Rattle.recording.specs.Line.{first_state}
-use borrow.Author.Rules.{rules}
 use Rattle.recording.proofs.language.begin.Goals as goal
 
 pub returns : goal.returns

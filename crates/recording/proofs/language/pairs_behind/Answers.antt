@@ -11,7 +11,7 @@ unfolding pairs_behind
 returns-then-begins-2 c =
     let line = c.args.line.now in
     let tested : c.if-begins.value ≡ (begins raw_word line || begins why_word line) = elim c.if-begins.branch [
-      then-begins w ↦ rw (← c.begins.ensures, w.if-begins.true) (w.value-is ∙ w.if-begins.true)
+      | then-begins w ↦ rw (← c.begins.ensures, w.if-begins.true) (w.value-is ∙ w.if-begins.true)
       | else-begins w ↦ rw (← c.begins.ensures, w.if-begins.false) (w.value-is ∙ w.begins-else-begins.ensures)
     ] in
     rw (sym tested ∙ c.if-begins-2.true) refl
@@ -21,7 +21,7 @@ unfolding pairs_behind
 returns-else-begins-2 c =
     let line = c.args.line.now in
     let tested : c.if-begins.value ≡ (begins raw_word line || begins why_word line) = elim c.if-begins.branch [
-      then-begins w ↦ rw (← c.begins.ensures, w.if-begins.true) (w.value-is ∙ w.if-begins.true)
+      | then-begins w ↦ rw (← c.begins.ensures, w.if-begins.true) (w.value-is ∙ w.if-begins.true)
       | else-begins w ↦ rw (← c.begins.ensures, w.if-begins.false) (w.value-is ∙ w.begins-else-begins.ensures)
     ] in
     rw (sym tested ∙ c.if-begins-2.false) refl

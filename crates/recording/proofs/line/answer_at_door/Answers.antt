@@ -1,7 +1,6 @@
 -- `recording::line::answer_at_door` meets its contract, by whether the line is a text line. Assumes nothing.
-use mathlib.Core.Path.{◌≡◌, refl, sym, ap, ◌∙◌}
+use mathlib.Core.Path.{sym, ◌∙◌}
 use Rattle.recording.specs.Line.{line_effect}
-use borrow.Author.Rules.{rules}
 use Rattle.recording.proofs.line.answer_at_door.Goals as goal
 
 pub returns-then-begins : goal.returns-then-begins

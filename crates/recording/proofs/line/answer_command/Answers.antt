@@ -1,8 +1,6 @@
 -- `recording::line::answer_command` meets its contract, by the word of the line. Assumes nothing.
-use mathlib.Core.Path.{◌≡◌, refl, sym, ap, ◌∙◌}
 use Rattle.recording.specs.Line.{command_effect}
 use Rattle.recording.proofs.LineLaws.{rest-of-line}
-use borrow.Author.Rules.{rules}
 use Rattle.recording.proofs.line.answer_command.Goals as goal
 
 pub returns-in-Start : goal.returns-in-Start

@@ -1,7 +1,5 @@
 -- `recording::line::answer_line` meets its contract, by the language. Assumes nothing.
-use mathlib.Core.Path.{◌≡◌, refl, sym, ap, ◌∙◌}
 use Rattle.recording.specs.Line.{line_effect}
-use borrow.Author.Rules.{rules}
 use Rattle.recording.proofs.line.answer_line.Goals as goal
 
 pub returns-in-Bench : goal.returns-in-Bench

@@ -1,6 +1,5 @@
 -- `run_state::Run::goes_on` meets its contract, by the kinds. Assumes nothing.
 use borrow.Author.Tests.{eq-eqb, ne_eqb}
-use borrow.Author.Rules.{rules}
 use Rattle.run_state.specs.RunState.{goes_on}
 use Rattle.run_state.proofs.Run.goes_on.Goals as goal
 

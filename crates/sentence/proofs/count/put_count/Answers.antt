@@ -1,6 +1,5 @@
 -- `sentence::count::put_count` meets its contract: the number, then the word. Assumes nothing.
 use native.Mathlib.Omega.{arith}
-use borrow.Author.Rules.{rules}
 use borrow.Author.Tests.{eq-eqb, ne_eqb}
 use Rattle.lines.proofs.PutLaws.{put_then}
 use Rattle.decimal.specs.Numeral.{numeral}

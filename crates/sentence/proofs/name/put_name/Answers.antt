@@ -1,6 +1,5 @@
 -- `sentence::name::put_name` meets its contract, by whether the number is under the count. Assumes nothing.
 use native.Mathlib.Omega.{arith}
-use borrow.Author.Rules.{rules}
 use borrow.Author.Tests.{lt-ltb, le-ltb}
 use Rattle.lines.proofs.PutLaws.{put_then}
 use Rattle.decimal.specs.Numeral.{numeral}

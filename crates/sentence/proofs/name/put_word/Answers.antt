@@ -1,13 +1,11 @@
 -- `sentence::name::put_word` meets its contract. The loop's invariant: what is left of the word completes it. Assumes nothing.
-use mathlib.Core.Path.{◌≡◌, refl, ap}
-use mathlib.Core.Logic.{⊎_elim}
+use mathlib.Core.Path.{refl, ap}
 use mathlib.Core.List.{List}
-use Prim.Native.Nat.{ℕ, ◌+◌, ◌-◌, ◌≤◌, ◌<◌}
+use Prim.Native.Nat.{ℕ, ◌+◌, ◌<◌}
 use native.Mathlib.Omega.{arith}
-use borrow.Author.Rules.{rules}
 use lib.ListN.{length, drop, length-set}
 use Rattle.sentence.specs.Name.{word_at}
-use Rattle.sentence.proofs.NameLaws.{Rest, rest-as, rest-one, rest-none, word-ends, word-skips, word-takes, word-passes, word_none}
+use Rattle.sentence.proofs.NameLaws.{rest-as, rest-one, rest-none, word-ends, word-skips, word-takes, word-passes, word_none}
 use Rattle.sentence.proofs.name.put_word.Goals as goal
 use Rattle.sentence.proofs.name.put_word.Goals.{then-c-eq-COMMA+else-before-eq0, else-c-eq-COMMA+then-before-eq0-2, else-c-eq-COMMA+else-before-eq0-2}
 
@@ -49,7 +47,7 @@ loop-i-preserved c =
     let n = c.loop-i.before in
     let here = word_at n (drop i words) in
     elim c.if-c-eq-COMMA.branch [
-      then-c-eq-COMMA+else-before-eq0 w ↦ rw (w.out-is, w.before-is, w.at-is) (
+      | then-c-eq-COMMA+else-before-eq0 w ↦ rw (w.out-is, w.before-is, w.at-is) (
         omega arith,
         c.loop-i.invariant.1,
         rest-as c.args.from whole c.args.out.now c.loop-i.at here c.loop-i.out _ (word-skips n words i low w.if-c-eq-COMMA.true w.if-before-eq0.false) c.loop-i.invariant.2,

@@ -1,13 +1,9 @@
 -- `sentence::name::put_word` meets its contract. The loop's invariant: what is left of the word completes it. Assumes nothing.
-use mathlib.Core.Path.{◌≡◌, refl, ap}
-use mathlib.Core.Logic.{⊎_elim}
-use mathlib.Core.List.{List}
-use Prim.Native.Nat.{ℕ, ◌+◌, ◌-◌, ◌≤◌, ◌<◌}
-use native.Mathlib.Omega.{arith}
-use borrow.Author.Rules.{rules}
-use lib.ListN.{length, drop, length-set}
+use mathlib.Core.Path.{◌≡◌}
+use Prim.Native.Nat.{◌-◌, ◌≤◌}
+use lib.ListN.{length, drop}
 use Rattle.sentence.specs.Name.{word_at}
-use Rattle.sentence.proofs.NameLaws.{Rest, rest-as, rest-one, rest-none, word-ends, word-skips, word-takes, word-passes, word_none}
+use Rattle.sentence.proofs.NameLaws.{Rest}
 use Rattle.sentence.proofs.name.put_word.Given as goal
 
 abbrev pub invariant-loop-i : goal.invariant-loop-i

@@ -1,6 +1,5 @@
 -- `sentence::op_name::put_op_name` meets its contract: no name of the table is too long. Assumes nothing.
 use mathlib.Core.Path.{refl}
-use native.Mathlib.Omega.{arith}
 use borrow.Author.Rules.{rules}
 use Rattle.sentence.specs.Name.{first_word, name_room}
 use Rattle.sentence.specs.OpName.{op_name}

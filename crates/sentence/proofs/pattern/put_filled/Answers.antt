@@ -1,12 +1,11 @@
 -- `sentence::pattern::put_filled` meets its contract. The loop's invariant: what was passed is put, and there is room for the rest. Assumes nothing.
-use mathlib.Core.Path.{◌≡◌, refl}
-use Prim.Native.Nat.{◌+◌, ◌-◌, ◌≤◌, ◌<◌}
+use mathlib.Core.Path.{refl}
+use Prim.Native.Nat.{◌<◌}
 use native.Mathlib.Omega.{arith}
 use borrow.Author.Rules.{rules}
-use lib.ListN.{length, take, drop}
-use Rattle.lines.specs.Scan.{Put}
+use lib.ListN.{length}
 use Rattle.lines.proofs.PutLaws.{put-more, put-joined-none, put-joined-all}
-use Rattle.sentence.specs.Pattern.{piece_of, filled, room}
+use Rattle.sentence.specs.Pattern.{piece_of}
 use Rattle.sentence.proofs.PatternLaws.{room_next}
 use Rattle.sentence.proofs.pattern.put_filled.Goals as goal
 

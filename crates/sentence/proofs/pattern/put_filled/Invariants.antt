@@ -1,13 +1,9 @@
 -- `sentence::pattern::put_filled` meets its contract. The loop's invariant: what was passed is put, and there is room for the rest. Assumes nothing.
-use mathlib.Core.Path.{◌≡◌, refl}
-use Prim.Native.Nat.{◌+◌, ◌-◌, ◌≤◌, ◌<◌}
-use native.Mathlib.Omega.{arith}
-use borrow.Author.Rules.{rules}
+use mathlib.Core.Path.{◌≡◌}
+use Prim.Native.Nat.{◌+◌, ◌-◌, ◌≤◌}
 use lib.ListN.{length, take, drop}
 use Rattle.lines.specs.Scan.{Put}
-use Rattle.lines.proofs.PutLaws.{put-more, put-joined-none, put-joined-all}
-use Rattle.sentence.specs.Pattern.{piece_of, filled, room}
-use Rattle.sentence.proofs.PatternLaws.{room_next}
+use Rattle.sentence.specs.Pattern.{filled, room}
 use Rattle.sentence.proofs.pattern.put_filled.Given as goal
 
 abbrev pub invariant-loop-i : goal.invariant-loop-i

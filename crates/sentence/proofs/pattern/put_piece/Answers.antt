@@ -1,6 +1,5 @@
 -- `sentence::pattern::put_piece` meets its contract, by the mark. Assumes nothing.
 use native.Mathlib.Omega.{arith}
-use borrow.Author.Rules.{rules}
 use Rattle.sentence.specs.Pattern.{piece_of, widest}
 use Rattle.sentence.proofs.PatternLaws.{itself}
 use Rattle.sentence.proofs.pattern.put_piece.Goals as goal

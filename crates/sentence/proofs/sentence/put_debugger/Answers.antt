@@ -1,6 +1,5 @@
 -- `sentence::sentence::put_debugger` meets its contract, by the op code and the host. Assumes nothing.
 use native.Mathlib.Omega.{arith}
-use borrow.Author.Rules.{rules}
 use borrow.Author.Tests.{eq-eqb, ne_eqb}
 use Rattle.ops.specs.Codes.{END-WATCH}
 use Rattle.sentence.specs.Pattern.{widest, room}

@@ -1,6 +1,5 @@
 -- `sentence::sentence::put_form` meets its contract, by whether the op code is CREATE PROCESS. Assumes nothing.
 use native.Mathlib.Omega.{arith}
-use borrow.Author.Rules.{rules}
 use borrow.Author.Tests.{eq-eqb, ne_eqb}
 use Rattle.ops.specs.Codes.{CREATE}
 use Rattle.sentence.specs.Pattern.{widest, room}

@@ -1,6 +1,5 @@
 -- `sentence::sentence::put_other` meets its contract, by the number. Assumes nothing.
 use native.Mathlib.Omega.{arith}
-use borrow.Author.Rules.{rules}
 use borrow.Author.Tests.{ne_eqb}
 use Rattle.sentence.specs.Pattern.{widest, room}
 use Rattle.sentence.specs.Sentence.{other_text}

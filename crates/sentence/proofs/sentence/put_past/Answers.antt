@@ -1,6 +1,5 @@
 -- `sentence::sentence::put_past` meets its contract, by the limit. Assumes nothing.
 use native.Mathlib.Omega.{arith}
-use borrow.Author.Rules.{rules}
 use Rattle.sentence.specs.Pattern.{widest, room}
 use Rattle.sentence.specs.Sentence.{past_text}
 use Rattle.sentence.proofs.sentence.put_past.Goals as goal

@@ -1,6 +1,5 @@
 -- `sentence::sentence::put_past_last` meets its contract, by whether the address is only odd. Assumes nothing.
 use native.Mathlib.Omega.{arith}
-use borrow.Author.Rules.{rules}
 use borrow.Author.Tests.{eq-eqb, ne_eqb}
 use Rattle.sentence.specs.Pattern.{widest, room}
 use Rattle.sentence.specs.Sentence.{past_last_text}

@@ -1,6 +1,5 @@
 -- `sentence::sentence::put_run_state` meets its contract: the one text, then the other. Assumes nothing.
 use native.Mathlib.Omega.{arith}
-use borrow.Author.Rules.{rules}
 use Rattle.lines.proofs.PutLaws.{put_then}
 use Rattle.sentence.specs.Sentence.{state_text, want_text, run_state_text}
 use Rattle.sentence.proofs.sentence.put_run_state.Goals as goal

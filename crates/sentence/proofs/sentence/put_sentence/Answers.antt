@@ -1,6 +1,5 @@
 -- `sentence::sentence::put_sentence` meets its contract, by the reason. Assumes nothing.
 use native.Mathlib.Omega.{arith}
-use borrow.Author.Rules.{rules}
 use Rattle.sentence.specs.Pattern.{widest, room}
 use Rattle.sentence.specs.Sentence.{sentence}
 use Rattle.sentence.proofs.sentence.put_sentence.Goals as goal

@@ -1,6 +1,5 @@
 -- `sentence::sentence::put_state` meets its contract, by whether the process has ended. Assumes nothing.
 use native.Mathlib.Omega.{arith}
-use borrow.Author.Rules.{rules}
 use borrow.Author.Tests.{eq-eqb, ne_eqb}
 use Rattle.lines.proofs.PutLaws.{put_then}
 use Rattle.sentence.specs.Text.{text}

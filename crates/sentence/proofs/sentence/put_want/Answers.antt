@@ -1,6 +1,5 @@
 -- `sentence::sentence::put_want` meets its contract, by whether the op code is PROCEED BPT. Assumes nothing.
 use native.Mathlib.Omega.{arith}
-use borrow.Author.Rules.{rules}
 use borrow.Author.Tests.{eq-eqb, ne_eqb}
 use Rattle.ops.specs.Codes.{PROCEED}
 use Rattle.sentence.specs.Pattern.{widest, room}

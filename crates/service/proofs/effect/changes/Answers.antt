@@ -1,6 +1,4 @@
 -- `service::effect::changes` meets its contract, by whether it is STATUS. Assumes nothing.
-use mathlib.Core.Path.{refl}
-use mathlib.Core.Bool.{or-true, or-false}
 use borrow.Author.Tests.{eq-eqb, ne_eqb}
 use Rattle.service.specs.At.{changes}
 use Rattle.service.proofs.effect.changes.Goals as goal

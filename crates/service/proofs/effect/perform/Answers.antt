@@ -2,7 +2,7 @@
 use mathlib.Core.Path.{refl, ◌≡◌}
 use borrow.Author.Rules.{rules}
 use borrow.Author.Tests.{ne_eqb}
-use lib.ListN.{length-map, length}
+use lib.ListN.{length}
 use Rattle.lists.specs.Buffer.{overlay}
 use Rattle.process.specs.Request.{break_removed}
 use Rattle.process.proofs.TestedLaws.{tested-inside, tested-counted}

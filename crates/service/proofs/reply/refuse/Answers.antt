@@ -4,7 +4,6 @@ use Rattle.format.specs.declared.outcome.Outcome.{Outcome}
 use Rattle.format.proofs.OutcomeLaws.{outcome-other}
 use Rattle.message.specs.Exchange.{Written, sends}
 use Rattle.service.specs.At.{answer, cant_by}
-use borrow.Author.Rules.{rules}
 use Rattle.service.proofs.reply.refuse.Goals as goal
 
 pub returns : goal.returns

@@ -9,7 +9,6 @@ use Rattle.process.specs.Local.{local}
 use Rattle.process.specs.Request.{examined}
 use Rattle.service.specs.At.{answer}
 use Rattle.service.proofs.ReplyLaws.{length-examined, contents-sent}
-use borrow.Author.Rules.{rules}
 use Rattle.service.proofs.reply.reply_contents.Goals as goal
 
 pub returns : goal.returns

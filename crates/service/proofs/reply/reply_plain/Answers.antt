@@ -2,7 +2,6 @@
 use mathlib.Core.Path.{ap}
 use Rattle.message.specs.Exchange.{Written, sends}
 use Rattle.service.specs.At.{answer}
-use borrow.Author.Rules.{rules}
 use Rattle.service.proofs.reply.reply_plain.Goals as goal
 
 pub returns : goal.returns

@@ -1,5 +1,4 @@
 -- `service::reply::reply_status` meets its contract: the reply that carries no string, with the two numbers. Assumes nothing.
-use borrow.Author.Rules.{rules}
 use Rattle.service.proofs.reply.reply_status.Goals as goal
 
 pub returns : goal.returns

@@ -3,7 +3,6 @@ use native.Mathlib.Omega.{arith}
 use borrow.Author.Tests.{eq-eqb, ne_eqb}
 use Rattle.checks.proofs.OpLaws.{coded}
 use Rattle.service.proofs.EffectLaws.{whole, examine-within, examine-short}
-use borrow.Author.Rules.{rules}
 use Rattle.service.proofs.reply.reply_to.Goals as goal
 
 pub reply_contents-requires : goal.reply_contents-requires

@@ -1,8 +1,6 @@
 -- `service::report::answer_owed` meets its contract: nothing is owed and nothing written, or the line of the letter that is owed. Assumes
 -- nothing.
 use mathlib.Core.Path.{refl}
-use borrow.Author.Tests.{not-true, not-false}
-use borrow.Author.Rules.{rules}
 use Rattle.lists.specs.Buffer.{overlay}
 use Rattle.fields.specs.Answer.{answer_fields}
 use Rattle.rules.specs.TextRule.{owed_line}

@@ -2,7 +2,6 @@
 use borrow.Author.Tests.{lt-ltb, le-ltb}
 use Rattle.format.specs.Outcome.{first_failing}
 use Rattle.service.specs.At.{report_away}
-use borrow.Author.Rules.{rules}
 use Rattle.service.proofs.report.check_report.Goals as goal
 
 pub returns-then-bad_report : goal.returns-then-bad_report

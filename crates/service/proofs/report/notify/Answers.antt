@@ -4,7 +4,6 @@ use borrow.Author.Tests.{eq-eqb, ne_eqb}
 use Rattle.message.specs.Exchange.{Written, sends}
 use Rattle.rules.specs.Step.{notice_to}
 use Rattle.service.specs.At.{answer}
-use borrow.Author.Rules.{rules}
 use Rattle.service.proofs.report.notify.Goals as goal
 
 pub returns-then-host-eq0 : goal.returns-then-host-eq0

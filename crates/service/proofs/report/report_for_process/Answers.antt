@@ -6,7 +6,6 @@ use Rattle.rules.specs.TextRule.{owed_line}
 use Rattle.rules.specs.Step.{beside, notified}
 use Rattle.service.specs.At.{leaving, report_by, report_at}
 use Rattle.service.proofs.AtLaws.{report-refused}
-use borrow.Author.Rules.{rules}
 use Rattle.service.proofs.report.report_for_process.Goals as goal
 
 pub returns-then-number-ne0 : goal.returns-then-number-ne0

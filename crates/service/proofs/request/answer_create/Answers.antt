@@ -1,7 +1,6 @@
 -- `service::request::answer_create` meets its contract: a new process of the size asked for, and its number in the reply. Assumes nothing.
 use mathlib.Core.Path.{ap₂, refl}
 use Rattle.service.specs.At.{leaving, created_at}
-use borrow.Author.Rules.{rules}
 use Rattle.service.proofs.request.answer_create.Goals as goal
 
 pub returns : goal.returns

@@ -5,7 +5,6 @@ use Rattle.checks.specs.declared.decision.Decision.TheVariants.{Allow, Refuse}
 use Rattle.service.specs.At.{leaving, named_at, named_by}
 use Rattle.checks.proofs.DecisionLaws.{says}
 use Rattle.service.proofs.AtLaws.{named-refused}
-use borrow.Author.Rules.{rules}
 use Rattle.service.proofs.request.answer_for_process.Goals as goal
 
 pub grant-requires : goal.grant-requires

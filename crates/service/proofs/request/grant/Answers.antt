@@ -1,7 +1,6 @@
 -- `service::request::grant` meets its contract: that of the reply and of what is done. Assumes nothing.
 use mathlib.Core.Path.{ap₂, refl}
 use Rattle.service.specs.At.{leaving, named_by}
-use borrow.Author.Rules.{rules}
 use Rattle.service.proofs.request.grant.Goals as goal
 
 pub returns : goal.returns

@@ -4,7 +4,6 @@ use native.Mathlib.Omega.{arith}
 use borrow.Author.Tests.{eq-eqb, ne_eqb, lt-ltb, le-ltb}
 use Rattle.service.specs.declared.target.Target.TheVariants.{Named}
 use Rattle.service.specs.At.{target_of}
-use borrow.Author.Rules.{rules}
 use Rattle.service.proofs.target.target_of.Goals as goal
 
 pub returns-then-pid-lt8 : goal.returns-then-pid-lt8

@@ -1,5 +1,4 @@
 -- `session::Go::is_answered_by` meets its contract, by whether one waits. Assumes nothing.
-use borrow.Author.Rules.{rules}
 use borrow.Author.Tests.{not-true, not-false}
 use Rattle.session.specs.Session.{answers_go}
 use Rattle.session.proofs.Go.is_answered_by.Goals as goal

@@ -1,6 +1,4 @@
 -- `session::Session::owed_sound` meets its contract, by whether an answer is owed. Assumes nothing.
-use borrow.Author.Tests.{not-true, not-false}
-use borrow.Author.Rules.{rules}
 use Rattle.session.specs.Session.{owed_sound}
 use Rattle.session.proofs.Session.owed_sound.Goals as goal
 

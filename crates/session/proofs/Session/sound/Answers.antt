@@ -1,6 +1,4 @@
 -- `session::Session::sound` meets its contract: it asks the three tests. Assumes nothing.
-use borrow.Author.Tests.{not-true, not-false}
-use borrow.Author.Rules.{rules}
 use Rattle.session.specs.Session.{session_sound}
 use Rattle.session.proofs.Session.sound.Goals as goal
 

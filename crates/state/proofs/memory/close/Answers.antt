@@ -1,5 +1,4 @@
 -- `state::memory::close` meets its contract: the bytes above move down, and then the lent part before `end` is zeroed. Assumes nothing.
-use borrow.Author.Rules.{rules}
 use Rattle.state.proofs.MemoryLaws.{closed-part}
 use Rattle.state.proofs.memory.close.Goals as goal
 

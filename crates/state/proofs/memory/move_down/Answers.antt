@@ -1,9 +1,8 @@
 -- `state::memory::move_down` meets its contract. The invariant: the bytes from `start` to `i` have moved, and all others are as they were. The
 -- measure is what is left to move. Assumes nothing.
 use mathlib.Core.Path.{◌≡◌, refl, subst, ◌∙◌}
-use Prim.Native.Nat.{ℕ, ◌-◌, ◌≤◌, ◌<◌}
+use Prim.Native.Nat.{ℕ, ◌-◌, ◌<◌}
 use native.Mathlib.Omega.{arith}
-use borrow.Author.Rules.{rules}
 use lib.ListN.{length, length-set}
 use Rattle.lists.proofs.Moved.{Moved, moved_none, moved_more}
 use Rattle.state.proofs.MemoryLaws.{lowered_is}

@@ -1,12 +1,9 @@
 -- `state::memory::zero` meets its contract. The invariant: the first `i` bytes are zero, and the others as they were. The measure is what is
 -- left of the length. Assumes nothing.
-use mathlib.Core.Path.{◌≡◌, refl, ap, ◌∙◌}
-use mathlib.Core.List.{List, ◌++◌}
-use Prim.Native.Nat.{ℕ, ◌+◌, ◌-◌, ◌≤◌, ◌<◌}
-use native.Mathlib.Omega.{arith}
-use borrow.Author.Rules.{rules}
-use lib.ListN.{length, drop, set, replicate, length-set}
-use Rattle.lists.proofs.Zeros.{replicate-step, replicate-whole}
+use mathlib.Core.Path.{◌≡◌}
+use mathlib.Core.List.{◌++◌}
+use Prim.Native.Nat.{◌-◌, ◌≤◌}
+use lib.ListN.{length, drop, replicate}
 use Rattle.state.proofs.memory.zero.Given as goal
 
 abbrev pub invariant-loop-i : goal.invariant-loop-i

@@ -1,10 +1,8 @@
 -- `state_bytes::entry::entries_bits` meets its contract. The loop's invariant: the bits so far, with those of the entries to come, are all. Assumes nothing.
 use mathlib.Core.Path.{◌≡◌, refl}
-use Prim.Native.Nat.{◌-◌, ◌*◌, ◌≤◌}
+use Prim.Native.Nat.{◌*◌}
 use native.Mathlib.Omega.{arith}
-use borrow.Author.Rules.{rules}
-use lib.ListN.{drop}
-use Rattle.state_bytes.specs.Entry.{bits_with, entries_bits}
+use Rattle.state_bytes.specs.Entry.{bits_with}
 use Rattle.state_bytes.specs.Widths.{entry_count, entry_width}
 use Rattle.state_bytes.proofs.ChunkLaws.{length-piece}
 use Rattle.state_bytes.proofs.EntryLaws.{bits-step}

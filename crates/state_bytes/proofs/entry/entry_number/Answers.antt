@@ -5,7 +5,6 @@ use Rattle.lists.specs.Flag.{flag}
 use Rattle.breakpoints.specs.Entry.{free}
 use Rattle.state_bytes.specs.Entry.{entry_bytes}
 use Rattle.state_bytes.proofs.NumberLaws.{packed-bytes, flag-byte}
-use borrow.Author.Rules.{rules}
 use Rattle.state_bytes.proofs.entry.entry_number.Goals as goal
 
 pub overflow_add-result-5 : goal.overflow_add-result-5

@@ -1,16 +1,15 @@
 -- `state_bytes::entry::put_entries` meets its contract. The loop's invariant: the entries passed are laid over the bytes. Assumes nothing.
 use mathlib.Core.Path.{◌≡◌, refl, ap, ◌∙◌}
 use mathlib.Core.List.{List}
-use Prim.Native.Nat.{ℕ, ◌+◌, ◌-◌, ◌*◌, ◌≤◌, ◌<◌}
+use Prim.Native.Nat.{ℕ, ◌+◌, ◌-◌, ◌*◌, ◌<◌}
 use native.Mathlib.Omega.{arith}
-use borrow.Author.Rules.{rules}
 use lib.ListN.{length, take, drop, length-drop}
 use lib.Seq.{length-take-le, take_all}
 use Rattle.lists.specs.Buffer.{overlay}
 use Rattle.lists.proofs.Buffer.{length-overlay}
 use Rattle.breakpoints.specs.Entry.{free}
 use Rattle.state_bytes.specs.Entry.{entry_bytes}
-use Rattle.state_bytes.specs.Widths.{entry_count, entry_width}
+use Rattle.state_bytes.specs.Widths.{entry_width}
 use Rattle.lists.specs.Joined.{joined}
 use Rattle.state_bytes.proofs.ChunkLaws.{joined_step, length-joined-more}
 use Rattle.state_bytes.proofs.EntryLaws.{length-entry_bytes}

@@ -1,5 +1,4 @@
 -- `state_bytes::entry::put_entry` meets its contract: the bytes of its number are laid. Assumes nothing.
-use borrow.Author.Rules.{rules}
 use Rattle.state_bytes.proofs.entry.put_entry.Goals as goal
 
 pub returns : goal.returns

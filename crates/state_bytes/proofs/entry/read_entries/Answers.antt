@@ -3,7 +3,6 @@ use mathlib.Core.Path.{sym}
 use Rattle.state_bytes.specs.Entry.{entry_of}
 use Rattle.state_bytes.specs.Widths.{entry_count, entry_width}
 use Rattle.state_bytes.proofs.ChunkLaws.{chunks-listed}
-use borrow.Author.Rules.{rules}
 use Rattle.state_bytes.proofs.entry.read_entries.Goals as goal
 
 pub returns : goal.returns

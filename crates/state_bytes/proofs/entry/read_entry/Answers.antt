@@ -7,7 +7,6 @@ use Rattle.state_bytes.specs.Entry.{entry_of, entry_of_number}
 use Rattle.state_bytes.specs.Widths.{entry_width}
 use Rattle.state_bytes.proofs.ChunkLaws.{bytes_take, bytes_drop, piece}
 use Rattle.state_bytes.proofs.EntryLaws.{entry-of-u64}
-use borrow.Author.Rules.{rules}
 use Rattle.state_bytes.proofs.entry.read_entry.Goals as goal
 
 pub returns : goal.returns

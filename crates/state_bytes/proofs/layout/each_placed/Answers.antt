@@ -1,10 +1,6 @@
 -- `state_bytes::layout::each_placed` meets its contract. The loop's invariant: the processes passed are. Assumes nothing.
 use mathlib.Core.Path.{◌≡◌, refl, sym, ◌∙◌}
-use mathlib.Core.Bool.{true}
-use Prim.Native.Nat.{◌-◌, ◌≤◌}
 use native.Mathlib.Omega.{arith}
-use borrow.Author.Tests.{not-true, not-false}
-use Rattle.lists.specs.Every.{below}
 use Rattle.lists.proofs.Every.{below_more, below_fails}
 use Rattle.state.specs.Layout.{placed}
 use Rattle.state_bytes.specs.State.{state_of}

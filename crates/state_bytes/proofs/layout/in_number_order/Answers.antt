@@ -1,18 +1,15 @@
 -- `state_bytes::layout::in_number_order` meets its contract. The loop's invariant: the processes passed lie in number order, and end at their
 -- sum. Assumes nothing.
 use mathlib.Core.Path.{◌≡◌, refl, sym, ap, ◌∙◌}
-use mathlib.Core.Bool.{Bool, true, false}
-use Prim.Native.Nat.{ℕ, ◌-◌, ◌*◌, ◌≤◌}
+use mathlib.Core.Bool.{true, false}
+use Prim.Native.Nat.{ℕ}
 use native.Mathlib.Numerals.{add-one}
 use native.Mathlib.Omega.{arith}
-use borrow.Author.Rules.{rules}
-use borrow.Author.Tests.{not-true, not-false}
 use lib.Dec.{leb}
 use Rattle.lists.specs.Every.{below}
 use Rattle.lists.specs.Sum.{total}
 use Rattle.lists.proofs.Every.{below_more, below_fails}
 use Rattle.lists.proofs.Sum.{total-suc}
-use Rattle.state.specs.Records.{Records}
 use Rattle.state.specs.Layout.{capacity, extent_at, used}
 use Rattle.state_bytes.specs.Layout.{lies_at, in_number_order}
 use Rattle.state_bytes.specs.State.{state_of}

@@ -2,7 +2,6 @@
 use mathlib.Core.Path.{ap}
 use Prim.Native.Nat.{ℕ, ◌+◌}
 use native.Mathlib.Omega.{arith}
-use borrow.Author.Rules.{rules}
 use lib.Dec.{eqb}
 use Rattle.state_bytes.specs.Widths.{there_at}
 use Rattle.state_bytes.proofs.StateLaws.{absent-at, present-at}

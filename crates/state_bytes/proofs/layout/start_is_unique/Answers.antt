@@ -1,10 +1,8 @@
 -- `state_bytes::layout::start_is_unique` meets its contract. The loop's invariant: none of the processes passed begins there. Assumes nothing.
 use mathlib.Core.Path.{◌≡◌, refl, sym, ap, ◌∙◌}
-use mathlib.Core.Bool.{true, not}
-use Prim.Native.Nat.{ℕ, ◌-◌, ◌≤◌}
+use mathlib.Core.Bool.{not}
+use Prim.Native.Nat.{ℕ}
 use native.Mathlib.Omega.{arith}
-use borrow.Author.Rules.{rules}
-use Rattle.lists.specs.Every.{below}
 use Rattle.lists.proofs.Every.{below_more, below_fails}
 use Rattle.state.specs.Layout.{start_is_unique}
 use Rattle.state_bytes.specs.Layout.{begins_at}

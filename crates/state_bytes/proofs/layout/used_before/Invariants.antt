@@ -1,12 +1,7 @@
 -- `state_bytes::layout::used_before` meets its contract. The loop's invariant: the sum over the processes passed. Assumes nothing.
-use mathlib.Core.Path.{◌≡◌, refl}
+use mathlib.Core.Path.{◌≡◌}
 use Prim.Native.Nat.{◌-◌, ◌*◌, ◌≤◌}
-use native.Mathlib.Numerals.{add-one}
-use native.Mathlib.Omega.{arith}
-use borrow.Author.Rules.{rules}
 use Rattle.lists.specs.Sum.{total}
-use Rattle.lists.proofs.Sum.{total-suc}
-use Rattle.state.specs.Layout.{used_before}
 use Rattle.state_bytes.specs.Layout.{extent_before}
 use Rattle.state_bytes.specs.State.{state_of}
 use Rattle.state_bytes.specs.Widths.{process_count}

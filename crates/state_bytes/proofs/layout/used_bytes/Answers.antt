@@ -1,13 +1,12 @@
 -- `state_bytes::layout::used_bytes` meets its contract. The loop's invariant: the sum over the processes passed. Assumes nothing.
 use mathlib.Core.Path.{◌≡◌, refl}
-use Prim.Native.Nat.{suc, ◌+◌, ◌-◌, ◌*◌, ◌/◌, ◌≤◌}
+use Prim.Native.Nat.{suc, ◌+◌, ◌/◌}
 use native.Mathlib.Omega.{arith}
-use borrow.Author.Rules.{rules}
 use Rattle.lists.specs.Sum.{total}
 use Rattle.lists.proofs.Sum.{total-suc}
 use Rattle.state.specs.Layout.{extent_at, used}
 use Rattle.state_bytes.specs.State.{state_of}
-use Rattle.state_bytes.specs.Widths.{process_count, process_width, starts_at}
+use Rattle.state_bytes.specs.Widths.{process_count, process_width}
 use Rattle.state_bytes.proofs.ChunkLaws.{length-piece}
 use Rattle.state_bytes.proofs.StateLaws.{extent-at}
 use Rattle.state_bytes.proofs.layout.used_bytes.Goals as goal

@@ -3,7 +3,6 @@ use native.Mathlib.Omega.{arith}
 use lib.ListN.{length-set}
 use Rattle.lists.proofs.Buffer.{sets-overlay}
 use Rattle.state_bytes.specs.Number.{u32_le_bytes}
-use borrow.Author.Rules.{rules}
 use Rattle.state_bytes.proofs.number.put_u32_le.Goals as goal
 
 pub bounds-bytes-1 : goal.bounds-bytes-1

@@ -1,6 +1,5 @@
 -- `state_bytes::number::u32_le` meets its contract: a byte is below 256. Assumes nothing.
 use native.Mathlib.Omega.{arith}
-use borrow.Author.Rules.{rules}
 use Rattle.state_bytes.proofs.number.u32_le.Goals as goal
 
 pub overflow_cast-result : goal.overflow_cast-result

@@ -1,6 +1,5 @@
 -- `state_bytes::number::u64_le` meets its contract: two halves. Assumes nothing.
 use Rattle.state_bytes.proofs.ChunkLaws.{tail-part}
-use borrow.Author.Rules.{rules}
 use Rattle.state_bytes.proofs.number.u64_le.Goals as goal
 
 pub returns : goal.returns

@@ -1,7 +1,6 @@
 -- `state_bytes::place::is_there` meets its contract: one byte. Assumes nothing.
 use Prim.Native.Nat.{◌+◌}
 use native.Mathlib.Omega.{arith}
-use borrow.Author.Rules.{rules}
 use Rattle.state_bytes.specs.Widths.{there_at}
 use Rattle.state_bytes.proofs.StateLaws.{is-there-at}
 use Rattle.state_bytes.proofs.place.is_there.Goals as goal

@@ -1,16 +1,12 @@
 -- `state_bytes::place::lowest_absent` meets its contract. The loop's invariant: the first process that is not there is the first among those not passed. Assumes nothing.
-use mathlib.Core.Path.{◌≡◌, ap}
+use mathlib.Core.Path.{◌≡◌}
 use mathlib.Core.Bool.{Bool, not}
 use Prim.Native.Nat.{◌+◌, ◌-◌, ◌*◌, ◌≤◌}
-use native.Mathlib.Omega.{arith}
-use lib.ListN.{length, drop, drop_of_length-le}
+use lib.ListN.{drop}
 use Rattle.lists.specs.First.{first}
-use Rattle.lists.proofs.First.{first-here, first_next}
 use Rattle.process.specs.declared.record.Process.{Process}
-use Rattle.state.specs.Records.{nobody, lowest_absent}
 use Rattle.state_bytes.specs.State.{state_of}
 use Rattle.state_bytes.specs.Widths.{there_at, process_count, process_width}
-use Rattle.state_bytes.proofs.StateLaws.{eight-at, absent-at, present-at}
 use Rattle.state_bytes.proofs.place.lowest_absent.Given as goal
 
 -- the process is not there

@@ -1,6 +1,5 @@
 -- `state_bytes::place::put_process_at` meets its contract: piece p is replaced. Assumes nothing.
 use Rattle.state_bytes.proofs.StateLaws.{put-at}
-use borrow.Author.Rules.{rules}
 use Rattle.state_bytes.proofs.place.put_process_at.Goals as goal
 
 pub returns : goal.returns

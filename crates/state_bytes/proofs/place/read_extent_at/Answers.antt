@@ -1,5 +1,4 @@
 -- `state_bytes::place::read_extent_at` meets its contract: that of piece p. Assumes nothing.
-use borrow.Author.Rules.{rules}
 use Rattle.state_bytes.proofs.StateLaws.{extent-at}
 use Rattle.state_bytes.proofs.place.read_extent_at.Goals as goal
 

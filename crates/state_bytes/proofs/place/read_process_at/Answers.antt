@@ -1,6 +1,5 @@
 -- `state_bytes::place::read_process_at` meets its contract: piece p. Assumes nothing.
 use Rattle.state_bytes.proofs.StateLaws.{read_at}
-use borrow.Author.Rules.{rules}
 use Rattle.state_bytes.proofs.place.read_process_at.Goals as goal
 
 pub returns : goal.returns

@@ -1,5 +1,4 @@
 -- `state_bytes::place::record_at` meets its contract: byte p of the two tables is the low and the high byte of the start. Assumes nothing.
-use borrow.Author.Rules.{rules}
 use Rattle.state_bytes.proofs.StateLaws.{record-place}
 use Rattle.state_bytes.proofs.place.record_at.Goals as goal
 

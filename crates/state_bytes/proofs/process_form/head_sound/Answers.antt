@@ -1,7 +1,6 @@
 -- `state_bytes::process_form::head_sound` meets its contract, test by test. Assumes nothing.
-use borrow.Author.Tests.{eq-eqb, ne_eqb, not-true, not-false}
+use borrow.Author.Tests.{eq-eqb, ne_eqb}
 use Rattle.state_bytes.specs.Process.{head_sound}
-use borrow.Author.Rules.{rules}
 use Rattle.state_bytes.proofs.process_form.head_sound.Goals as goal
 
 pub returns-then-not-is_run_number : goal.returns-then-not-is_run_number

@@ -1,10 +1,10 @@
 -- `state_bytes::process_form::put_process` meets its contract: its parts one after the other. Assumes nothing.
 use mathlib.Core.Path.{◌≡◌, refl, sym, ap, ◌∙◌}
 use mathlib.Core.List.{List, ◌++◌}
-use Prim.Native.Nat.{ℕ, ◌+◌}
+use Prim.Native.Nat.{ℕ}
 use native.Mathlib.Omega.{arith}
 use borrow.Author.Rules.{rules}
-use lib.ListN.{length, length-map, length-append}
+use lib.ListN.{length, length-append}
 use Rattle.lists.specs.Buffer.{overlay}
 use Rattle.lists.specs.Word.{low_first}
 use Rattle.state_bytes.specs.Entry.{entry_bytes}

@@ -3,7 +3,6 @@ use mathlib.Core.Path.{◌≡◌, ◌∙◌}
 use native.Mathlib.Omega.{arith}
 use borrow.Author.Rules.{rules}
 use lib.ListN.{length}
-use lib.Seq.{take-length}
 use Rattle.lists.specs.Buffer.{overlay}
 use Rattle.lists.specs.Word.{low_first}
 use Rattle.lists.proofs.Word.{length-low_first}

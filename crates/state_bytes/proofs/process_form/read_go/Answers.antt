@@ -1,5 +1,4 @@
 -- `state_bytes::process_form::read_go` meets its contract: two bytes, and four. Assumes nothing.
-use borrow.Author.Rules.{rules}
 use Rattle.state_bytes.specs.Widths.{id_at}
 use Rattle.state_bytes.proofs.ChunkLaws.{tail-part}
 use Rattle.state_bytes.proofs.process_form.read_go.Goals as goal

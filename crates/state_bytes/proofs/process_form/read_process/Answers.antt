@@ -1,6 +1,5 @@
 -- `state_bytes::process_form::read_process` meets its contract, field by field. Assumes nothing.
 use native.Mathlib.Omega.{arith}
-use borrow.Author.Rules.{rules}
 use lib.ListN.{length-drop}
 use Rattle.state_bytes.specs.Process.{process_of}
 use Rattle.state_bytes.specs.Widths.{entries_at}

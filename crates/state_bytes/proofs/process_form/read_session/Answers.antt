@@ -1,5 +1,4 @@
 -- `state_bytes::process_form::read_session` meets its contract. Assumes nothing.
-use borrow.Author.Rules.{rules}
 use Rattle.state_bytes.proofs.process_form.read_session.Goals as goal
 
 pub returns : goal.returns

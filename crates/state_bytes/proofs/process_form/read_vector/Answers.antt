@@ -1,6 +1,5 @@
 -- `state_bytes::process_form::read_vector` meets its contract, word by word. Assumes nothing.
 use Rattle.lists.specs.Word.{vector_of}
-use borrow.Author.Rules.{rules}
 use Rattle.state_bytes.proofs.process_form.read_vector.Goals as goal
 
 pub returns : goal.returns

@@ -1,7 +1,6 @@
 -- `state_bytes::process_form::session_fits` meets its contract: whether there is one, whether it is formed, then whether the host may have it. Assumes nothing.
 use native.Mathlib.Omega.{arith}
-use borrow.Author.Rules.{rules}
-use borrow.Author.Tests.{eqb-true, lt-leb, le-leb}
+use borrow.Author.Tests.{lt-leb, le-leb}
 use lib.ListN.{get_or}
 use Rattle.session.specs.Session.{owed_of, owed_sound, watcher_sound, go_sound, session_sound}
 use Rattle.state_bytes.specs.Session.{session_fits}

@@ -1,13 +1,12 @@
 -- `state_bytes::sound::process_plain` meets its contract, test by test. Assumes nothing.
 use mathlib.Core.Path.{◌≡◌, sym, ap, ◌∙◌}
 use mathlib.Core.Bool.{true, false}
-use borrow.Author.Tests.{ne_eqb, not-true, not-false}
+use borrow.Author.Tests.{ne_eqb}
 use lib.ListN.{drop}
 use Rattle.state_bytes.specs.Entry.{entries_bits}
 use Rattle.state_bytes.specs.Process.{head_sound, process_plain}
 use Rattle.state_bytes.specs.Widths.{entries_at}
 use Rattle.state_bytes.proofs.ChunkLaws.{tail-part}
-use borrow.Author.Rules.{rules}
 use Rattle.state_bytes.proofs.sound.process_plain.Goals as goal
 
 pub returns-then-not-head_sound : goal.returns-then-not-head_sound

@@ -1,8 +1,7 @@
 -- `state_bytes::sound::process_sound` meets its contract: its head, then whether there are breakpoints, then the record. Assumes nothing.
 use mathlib.Core.Path.{◌≡◌, sym, ap, ◌∙◌}
-use mathlib.Core.Bool.{true, false}
+use mathlib.Core.Bool.{true}
 use native.Mathlib.Omega.{arith}
-use borrow.Author.Tests.{not-true, not-false}
 use Rattle.lists.specs.Buffer.{Bytes}
 use Rattle.process.specs.Sound.{sound_test}
 use Rattle.state_bytes.specs.Entry.{entries_bits, flags_formed}
@@ -10,7 +9,6 @@ use Rattle.state_bytes.specs.Process.{head_sound}
 use Rattle.state_bytes.specs.Widths.{entries_at}
 use Rattle.state_bytes.proofs.ChunkLaws.{tail-part}
 use Rattle.state_bytes.proofs.ProcessLaws.{head-fails, bare-sound, flags-fail, full-sound}
-use borrow.Author.Rules.{rules}
 use Rattle.state_bytes.proofs.sound.process_sound.Goals as goal
 
 pub returns-then-not-head_sound : goal.returns-then-not-head_sound

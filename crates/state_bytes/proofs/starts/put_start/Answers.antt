@@ -1,6 +1,5 @@
 -- `state_bytes::starts::put_start` meets its contract: two stores. Assumes nothing.
 use native.Mathlib.Omega.{arith}
-use borrow.Author.Rules.{rules}
 use lib.ListN.{length-set}
 use Rattle.state_bytes.proofs.StartLaws.{put-start-at}
 use Rattle.state_bytes.proofs.starts.put_start.Goals as goal

@@ -1,17 +1,13 @@
 -- `state_bytes::starts::put_starts_without` meets its contract. The loop's invariant: the starts passed are written, and the others are as they
 -- were. Assumes nothing.
-use mathlib.Core.Path.{◌≡◌, sym, ap, ◌∙◌}
-use mathlib.Core.List.{List}
-use Prim.Native.Nat.{ℕ, ◌+◌, ◌-◌, ◌≤◌}
-use native.Mathlib.Omega.{arith}
-use borrow.Author.Rules.{rules}
+use mathlib.Core.Path.{◌≡◌}
+use Prim.Native.Nat.{◌-◌, ◌≤◌}
 use lib.ListN.{length}
-use Rattle.lists.specs.Buffer.{Bytes, overlay}
+use Rattle.lists.specs.Buffer.{overlay}
 use Rattle.lists.specs.Elements.{elements}
 use Rattle.state_bytes.specs.Layout.{start_lowered}
-use Rattle.state_bytes.specs.State.{state_of, with_start_bytes, with_starts_bytes}
+use Rattle.state_bytes.specs.State.{state_of, with_starts_bytes}
 use Rattle.state_bytes.specs.Widths.{process_count, state_width}
-use Rattle.state_bytes.proofs.StartLaws.{same-starts, lowered-more, length-lowered, lowered-all}
 use Rattle.state_bytes.proofs.starts.put_starts_without.Given as goal
 
 abbrev pub invariant-loop-q : goal.invariant-loop-q

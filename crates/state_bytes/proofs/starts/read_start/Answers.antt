@@ -1,6 +1,5 @@
 -- `state_bytes::starts::read_start` meets its contract: two bytes. Assumes nothing.
 use mathlib.Core.Path.{◌∙◌}
-use borrow.Author.Rules.{rules}
 use Rattle.state_bytes.proofs.StartLaws.{read-start-at}
 use Rattle.state_bytes.proofs.starts.read_start.Goals as goal
 

@@ -1,8 +1,6 @@
 -- `state_bytes::starts::start_lowered` meets its contract, by its cases. Assumes nothing.
 use mathlib.Core.Path.{sym, ◌∙◌}
 use native.Mathlib.Omega.{arith}
-use borrow.Author.Rules.{rules}
-use borrow.Author.Tests.{not-true, not-false}
 use Rattle.state_bytes.specs.State.{state_of}
 use Rattle.state_bytes.proofs.StartLaws.{lowered-below, lowered-absent, lowered-above}
 use Rattle.state_bytes.proofs.starts.start_lowered.Goals as goal

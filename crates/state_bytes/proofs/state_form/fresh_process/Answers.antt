@@ -1,5 +1,4 @@
 -- `state_bytes::state_form::fresh_process` meets its contract, by the two cases. Assumes nothing.
-use borrow.Author.Rules.{rules}
 use Rattle.state.specs.Fresh.{fresh_process}
 use Rattle.state_bytes.proofs.state_form.fresh_process.Goals as goal
 

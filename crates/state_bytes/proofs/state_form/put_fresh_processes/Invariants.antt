@@ -1,21 +1,12 @@
 -- `state_bytes::state_form::put_fresh_processes` meets its contract. The loop's invariant: the processes passed are laid over the bytes. Assumes nothing.
-use mathlib.Core.Path.{◌≡◌, refl, sym, ap, ◌∙◌}
-use mathlib.Core.List.{List}
-use Prim.Native.Nat.{ℕ, ◌-◌, ◌*◌, ◌≤◌, ◌<◌}
-use native.Mathlib.Omega.{arith}
-use borrow.Author.Rules.{rules}
-use lib.ListN.{length, take, drop, length-drop}
-use lib.Seq.{length-take-le, take_all}
+use mathlib.Core.Path.{◌≡◌}
+use Prim.Native.Nat.{◌-◌, ◌*◌, ◌≤◌}
+use lib.ListN.{length, take}
 use Rattle.lists.specs.Buffer.{overlay}
 use Rattle.lists.specs.Joined.{joined}
-use Rattle.lists.proofs.Buffer.{length-overlay}
-use Rattle.process.specs.declared.record.Process.{Process}
 use Rattle.state.specs.Fresh.{fresh_processes}
-use Rattle.state.specs.Records.{nobody}
 use Rattle.state_bytes.specs.Process.{process_bytes}
-use Rattle.state_bytes.specs.Widths.{process_count, process_width, starts_at}
-use Rattle.state_bytes.proofs.ChunkLaws.{joined_step, length-joined-more}
-use Rattle.state.proofs.FreshLaws.{length-fresh_processes, getD-fresh_processes}
+use Rattle.state_bytes.specs.Widths.{process_count, process_width}
 use Rattle.state_bytes.proofs.state_form.put_fresh_processes.Given as goal
 
 abbrev pub invariant-loop-p : goal.invariant-loop-p

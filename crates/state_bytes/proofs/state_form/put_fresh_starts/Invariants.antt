@@ -1,23 +1,15 @@
 -- `state_bytes::state_form::put_fresh_starts` meets its contract. The loop's invariant: the starts passed are written, and the next process begins
 -- where those passed end. Assumes nothing.
-use mathlib.Core.Path.{◌≡◌, refl, sym, ap, ◌∙◌}
-use mathlib.Core.Bool.{false, cond}
-use mathlib.Core.List.{List}
-use Prim.Native.Nat.{ℕ, ◌+◌, ◌-◌, ◌≤◌}
-use native.Mathlib.Numerals.{add-one}
-use native.Mathlib.Omega.{arith}
-use borrow.Author.Rules.{rules}
+use mathlib.Core.Path.{◌≡◌}
+use Prim.Native.Nat.{ℕ, ◌-◌, ◌≤◌}
 use lib.ListN.{length, get_or}
-use Rattle.lists.specs.Buffer.{Bytes, overlay}
+use Rattle.lists.specs.Buffer.{overlay}
 use Rattle.lists.specs.Elements.{elements}
 use Rattle.lists.specs.Sum.{total}
-use Rattle.lists.proofs.Sum.{total-suc}
 use Rattle.state.specs.Fresh.{fresh_starts}
-use Rattle.state_bytes.specs.State.{state_of, with_start_bytes, with_starts_bytes}
+use Rattle.state_bytes.specs.State.{state_of, with_starts_bytes}
 use Rattle.state_bytes.specs.Widths.{process_count}
-use Rattle.state.proofs.FreshLaws.{length-fresh_starts, getD-fresh_starts}
-use Rattle.state_bytes.proofs.NumberLaws.{by-elements}
-use Rattle.state_bytes.proofs.StartLaws.{same-starts, length-with-starts, eight-written, written-more, written_all, size_if, fresh-fits}
+use Rattle.state_bytes.proofs.StartLaws.{size_if}
 use Rattle.state_bytes.proofs.state_form.put_fresh_starts.Given as goal
 
 abbrev pub invariant-loop-p : goal.invariant-loop-p

@@ -4,7 +4,6 @@ use borrow.Author.Tests.{le-ltb}
 use Rattle.fields.specs.Answer.{answer_fields}
 use Rattle.format.proofs.OutcomeLaws.{outcome-other}
 use Rattle.rules.specs.TextRule.{failure}
-use borrow.Author.Rules.{rules}
 use Rattle.text_door.proofs.answer.fail.Goals as goal
 
 pub returns : goal.returns

@@ -1,5 +1,4 @@
 -- `text_door::answer::grant` meets its contract: the answer comes first, and then what the line does. Assumes nothing.
-use borrow.Author.Rules.{rules}
 use Rattle.text_door.proofs.answer.grant.Goals as goal
 
 pub returns : goal.returns

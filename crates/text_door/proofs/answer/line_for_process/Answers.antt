@@ -4,7 +4,6 @@ use Rattle.process.specs.Local.{local}
 use Rattle.service.specs.At.{leaving}
 use Rattle.text_door.specs.At.{text_at}
 use Rattle.text_door.proofs.TextLaws.{number-high, passed-there, passed, text-granted, text-refused}
-use borrow.Author.Rules.{rules}
 use Rattle.text_door.proofs.answer.line_for_process.Goals as goal
 
 pub fail-requires : goal.fail-requires

@@ -5,7 +5,6 @@ use Rattle.rules.specs.TextRule.{register_at}
 use Rattle.service.proofs.EffectLaws.{whole}
 use Rattle.text_door.specs.At.{row_of}
 use Rattle.text_door.proofs.RowLaws.{word-within, register-low}
-use borrow.Author.Rules.{rules}
 use Rattle.text_door.proofs.answer.reply_to.Goals as goal
 
 pub read_word-requires : goal.read_word-requires

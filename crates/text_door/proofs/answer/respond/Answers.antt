@@ -1,6 +1,5 @@
 -- `text_door::answer::respond` meets its contract: the line of an answer that did not fail. Assumes nothing.
 use Rattle.fields.specs.Answer.{answer_fields}
-use borrow.Author.Rules.{rules}
 use Rattle.text_door.proofs.answer.respond.Goals as goal
 
 pub returns : goal.returns

@@ -6,7 +6,6 @@ use Rattle.process.proofs.TestedLaws.{tested-sound}
 use Rattle.service.proofs.EffectLaws.{whole}
 use Rattle.text_door.specs.At.{row_of}
 use Rattle.text_door.proofs.RowLaws.{word-within, register-low, pc-low}
-use borrow.Author.Rules.{rules}
 use Rattle.text_door.proofs.effect.perform.Goals as goal
 
 pub write_word-requires : goal.write_word-requires

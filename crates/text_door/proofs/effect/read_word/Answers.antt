@@ -1,7 +1,6 @@
 -- `text_door::effect::read_word` meets its contract: the word of the four bytes that are examined. Assumes nothing.
 use mathlib.Core.Path.{ap, ◌∙◌}
 use Rattle.rules.specs.TextRule.{word_of, word_at}
-use borrow.Author.Rules.{rules}
 use Rattle.text_door.proofs.effect.read_word.Goals as goal
 
 pub returns : goal.returns

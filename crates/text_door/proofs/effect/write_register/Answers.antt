@@ -1,5 +1,4 @@
 -- `text_door::effect::write_register` meets its contract: the bytes of the value are deposited. Assumes nothing.
-use borrow.Author.Rules.{rules}
 use Rattle.text_door.proofs.effect.write_register.Goals as goal
 
 pub returns : goal.returns

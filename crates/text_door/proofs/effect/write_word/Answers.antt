@@ -1,5 +1,4 @@
 -- `text_door::effect::write_word` meets its contract: the bytes of the word are deposited. Assumes nothing.
-use borrow.Author.Rules.{rules}
 use Rattle.text_door.proofs.effect.write_word.Goals as goal
 
 pub returns : goal.returns

@@ -4,7 +4,6 @@ use borrow.Author.Tests.{eq-eqb, ne_eqb}
 use native.Mathlib.Omega.{arith}
 use Rattle.rules.specs.TextRule.{pc_range}
 use Rattle.text_door.proofs.RowLaws.{far}
-use borrow.Author.Rules.{rules}
 use Rattle.text_door.proofs.rule.pc_fits.Goals as goal
 
 pub returns-then-address-eq1 : goal.returns-then-address-eq1

@@ -1,6 +1,5 @@
 -- `text_door::rule::range` meets its contract, by what is asked for. Assumes nothing.
 use Rattle.text_door.specs.At.{row_of}
-use borrow.Author.Rules.{rules}
 use Rattle.text_door.proofs.rule.range.Goals as goal
 
 pub returns-in-ReadWord : goal.returns-in-ReadWord

@@ -1,6 +1,5 @@
 -- `text_door::rule::right` meets its contract, by what is asked for. Assumes nothing.
 use Rattle.text_door.specs.At.{row_of}
-use borrow.Author.Rules.{rules}
 use Rattle.text_door.proofs.rule.right.Goals as goal
 
 pub returns-in-ReadWord : goal.returns-in-ReadWord

@@ -2,7 +2,6 @@
 use Rattle.format.specs.Outcome.{first_failing}
 use Rattle.text_door.specs.At.{text_number_at}
 use Rattle.text_door.proofs.RowLaws.{row-of}
-use borrow.Author.Rules.{rules}
 use Rattle.text_door.proofs.rule.text_number.Goals as goal
 
 pub returns-then-not-process : goal.returns-then-not-process

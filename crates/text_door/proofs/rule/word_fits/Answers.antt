@@ -3,7 +3,6 @@ use Prim.Native.Nat.{◌+◌}
 use native.Mathlib.Omega.{arith}
 use borrow.Author.Tests.{eq-eqb, ne_eqb, lt-leb}
 use Rattle.rules.specs.TextRule.{word_range}
-use borrow.Author.Rules.{rules}
 use Rattle.text_door.proofs.rule.word_fits.Goals as goal
 
 pub returns-then-address-ne0 : goal.returns-then-address-ne0

@@ -1,9 +1,6 @@
 -- `why::decided::number_for_process` meets its contract: that of `decide`. Assumes nothing.
 use mathlib.Core.Path.{sym, ◌∙◌}
-use Rattle.checks.specs.declared.decision.Decision.TheVariants.{Allow, Refuse}
-use Rattle.checks.proofs.DecisionLaws.{Says, says}
-use borrow.Author.Rules.{rules}
-use Rattle.checks.proofs.decide.Reads as decide-reads
+use Rattle.checks.proofs.DecisionLaws.{says}
 use Rattle.why.proofs.decided.number_for_process.Goals as goal
 
 pub returns-in-Allow : goal.returns-in-Allow

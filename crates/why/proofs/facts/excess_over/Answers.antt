@@ -1,9 +1,5 @@
 -- `why::facts::excess_over` meets its contract, by the limit. Assumes nothing.
 use Rattle.rules.specs.Why.{excess_over}
-use borrow.Author.Rules.{rules}
-use Rattle.why.proofs.facts.limit_end.Reads as limit-end-reads
-use Rattle.why.proofs.facts.asked_end.Reads as asked-end-reads
-use Rattle.why.proofs.facts.over.Reads as over_reads
 use Rattle.why.proofs.facts.excess_over.Goals as goal
 
 pub returns-in-End : goal.returns-in-End

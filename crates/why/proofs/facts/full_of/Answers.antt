@@ -6,8 +6,6 @@ use Rattle.process.specs.Find.{find}
 use Rattle.process.specs.Request.{has_room}
 use Rattle.process.proofs.FindLaws.{found-index, found_nowhere}
 use Rattle.rules.specs.Why.{full_of}
-use borrow.Author.Rules.{rules}
-use Rattle.process.proofs.record.Process.find.Reads as find-reads
 use Rattle.why.proofs.facts.full_of.Goals as goal
 
 pub returns-in-Index : goal.returns-in-Index

@@ -1,7 +1,6 @@
 -- `why::facts::limit_end` meets its contract, by the op code. Assumes nothing.
 use borrow.Author.Tests.{eq-eqb, ne_eqb}
 use Rattle.rules.specs.Why.{end_for}
-use borrow.Author.Rules.{rules}
 use Rattle.why.proofs.facts.limit_end.Goals as goal
 
 pub returns-then-h-eq-DEPOSIT_VECTOR : goal.returns-then-h-eq-DEPOSIT_VECTOR

@@ -1,9 +1,6 @@
 -- `why::facts::limit_passed` meets its contract, by the op code and the end. Assumes nothing.
 use borrow.Author.Tests.{eq-eqb, ne_eqb, le-leb, lt-leb}
 use Rattle.rules.specs.Why.{limit_passed}
-use borrow.Author.Rules.{rules}
-use Rattle.why.proofs.facts.limit_end.Reads as limit-end-reads
-use Rattle.why.proofs.facts.asked_end.Reads as asked-end-reads
 use Rattle.why.proofs.facts.limit_passed.Goals as goal
 
 pub returns-then-h-eq-BREAK : goal.returns-then-h-eq-BREAK

@@ -1,7 +1,4 @@
 -- `why::facts::past` meets its contract: the limit, then the excess over it. Assumes nothing.
-use borrow.Author.Rules.{rules}
-use Rattle.why.proofs.facts.excess_over.Reads as excess-over-reads
-use Rattle.why.proofs.facts.limit_passed.Reads as limit-passed-reads
 use Rattle.why.proofs.facts.past.Goals as goal
 
 pub returns : goal.returns

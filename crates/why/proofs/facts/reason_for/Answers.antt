@@ -1,11 +1,6 @@
 -- `why::facts::reason_for` meets its contract, by the number. Assumes nothing.
-use borrow.Author.Tests.{eq-eqb, ne_eqb}
+use borrow.Author.Tests.{ne_eqb}
 use Rattle.rules.specs.Why.{reason_for}
-use borrow.Author.Rules.{rules}
-use Rattle.run_state.proofs.Run.number.Reads as number-reads
-use Rattle.why.proofs.facts.full_of.Reads as full-of-reads
-use Rattle.why.proofs.facts.past.Reads as past-reads
-use Rattle.why.proofs.facts.who_set.Reads as who-set-reads
 use Rattle.why.proofs.facts.reason_for.Goals as goal
 
 pub returns-in-0 : goal.returns-in-0

@@ -1,7 +1,7 @@
 -- `why::facts::who_set` meets its contract, by whether a breakpoint was found. Assumes nothing.
 use mathlib.Core.Path.{sym, ◌∙◌, ap, ◌≡◌}
 use native.Mathlib.Omega.{arith}
-use lib.ListN.{length-map, get_or-eq_default, length}
+use lib.ListN.{get_or-eq_default, length}
 use Rattle.breakpoints.specs.declared.entry.Breakpoint.{Breakpoint}
 use Rattle.breakpoints.specs.declared.entry_query.EntryQuery.TheVariants.{At}
 use Rattle.breakpoints.specs.Entry.{free}
@@ -9,8 +9,6 @@ use Rattle.process.specs.Find.{find}
 use Rattle.process.proofs.FindLaws.{found-index, found_nowhere}
 use Rattle.rules.specs.Why.{who_set}
 use borrow.Author.Rules.{rules}
-use Rattle.process.proofs.record.Process.find.Reads as find-reads
-use Rattle.why.proofs.facts.setter_in.Reads as setter-in-reads
 use Rattle.why.proofs.facts.who_set.Goals as goal
 
 pub setter_in-requires : goal.setter_in-requires

@@ -1,7 +1,6 @@
 -- `breakpoints::entry::Breakpoint::exchange` meets its contract, by whether the breakpoint is planted. Assumes nothing.
 use mathlib.Core.Path.{refl, sym, ◌∙◌}
 use native.Mathlib.Omega.{arith}
-use borrow.Author.Rules.{rules}
 use Rattle.breakpoints.specs.Seen.{restored, saved_from}
 use Rattle.breakpoints.proofs.SeenLaws.{planted-used}
 use Rattle.breakpoints.proofs.entry.Breakpoint.exchange.Goals as goal

@@ -1,5 +1,4 @@
 -- `breakpoints::entry::Breakpoint::lifted_or` meets its contract, by the first of the two. Assumes nothing.
-use borrow.Author.Rules.{rules}
 use Rattle.breakpoints.proofs.entry.Breakpoint.lifted_or.Goals as goal
 
 pub returns-else-another : goal.returns-else-another

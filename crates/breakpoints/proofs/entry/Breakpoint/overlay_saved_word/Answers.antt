@@ -1,5 +1,4 @@
 -- `breakpoints::entry::Breakpoint::overlay_saved_word` meets its contract, by whether the breakpoint is planted. Assumes nothing.
-use borrow.Author.Rules.{rules}
 use Rattle.breakpoints.specs.Seen.{overlay_saved_word}
 use Rattle.breakpoints.proofs.entry.Breakpoint.overlay_saved_word.Goals as goal
 

@@ -1,6 +1,5 @@
 -- `breakpoints::entry::Breakpoint::plant` meets its contract: that of the store, and of the two fields. Assumes nothing.
 use mathlib.Core.Path.{refl}
-use borrow.Author.Rules.{rules}
 use Rattle.breakpoints.proofs.entry.Breakpoint.plant.Goals as goal
 
 pub returns : goal.returns

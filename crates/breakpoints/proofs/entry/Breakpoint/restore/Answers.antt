@@ -1,6 +1,5 @@
 -- `breakpoints::entry::Breakpoint::restore` meets its contract, by whether the breakpoint is planted. Assumes nothing.
 use mathlib.Core.Path.{sym, ◌∙◌}
-use borrow.Author.Rules.{rules}
 use Rattle.breakpoints.specs.Seen.{restored}
 use Rattle.breakpoints.proofs.SeenLaws.{planted-used}
 use Rattle.breakpoints.proofs.entry.Breakpoint.restore.Goals as goal

@@ -1,9 +1,7 @@
 -- `calls::listing::Listing::after_blank` meets its contract, by whether the character is the number of a process. Assumes nothing.
 use mathlib.Core.Path.{◌≡◌, sym, ◌∙◌}
 use mathlib.Core.Bool.{true, false}
-use Prim.Native.Nat.{◌≤◌}
 use native.Mathlib.Omega.{arith}
-use borrow.Author.Rules.{rules}
 use Rattle.calls.specs.Listing.{is_digit, next_in}
 use Rattle.calls.proofs.ListingLaws.{digit-range}
 use Rattle.calls.proofs.listing.Listing.after_blank.Goals as goal

@@ -1,7 +1,6 @@
 -- `calls::listing::Listing::after_colon` meets its contract, by whether the character is a digit. Assumes nothing.
 use mathlib.Core.Path.{◌≡◌, sym, ◌∙◌}
 use mathlib.Core.Bool.{true, false}
-use borrow.Author.Rules.{rules}
 use Rattle.calls.specs.Listing.{is_digit, next_in}
 use Rattle.calls.proofs.ListingLaws.{digit-range}
 use Rattle.calls.proofs.listing.Listing.after_colon.Goals as goal

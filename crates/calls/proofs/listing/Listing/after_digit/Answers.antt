@@ -1,9 +1,7 @@
 -- `calls::listing::Listing::after_digit` meets its contract, by whether the size goes on. Assumes nothing.
 use mathlib.Core.Path.{◌≡◌, sym, ◌∙◌}
 use mathlib.Core.Bool.{true, false}
-use Prim.Native.Nat.{◌+◌, ◌-◌, ◌*◌, ◌≤◌}
 use native.Mathlib.Omega.{arith}
-use borrow.Author.Rules.{rules}
 use Rattle.calls.specs.Listing.{goes_on, most_size, size_of, next_in}
 use Rattle.calls.proofs.ListingLaws.{goes-range}
 use Rattle.calls.proofs.listing.Listing.after_digit.Goals as goal

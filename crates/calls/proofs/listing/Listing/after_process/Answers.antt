@@ -1,6 +1,5 @@
 -- `calls::listing::Listing::after_process` meets its contract, by whether the character is a colon. Assumes nothing.
 use borrow.Author.Tests.{eq-eqb, ne_eqb}
-use borrow.Author.Rules.{rules}
 use Rattle.calls.specs.Listing.{next_in}
 use Rattle.calls.proofs.listing.Listing.after_process.Goals as goal
 

@@ -1,6 +1,5 @@
 -- `calls::listing::Listing::is_complete` meets its contract, by where the reading stands. Assumes nothing.
 use mathlib.Core.Path.{sym, ap}
-use borrow.Author.Rules.{rules}
 use Rattle.calls.specs.Listing.{complete}
 use Rattle.calls.proofs.listing.Listing.is_complete.Goals as goal
 

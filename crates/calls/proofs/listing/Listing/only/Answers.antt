@@ -1,6 +1,5 @@
 -- `calls::listing::Listing::only` meets its contract, by whether the character is the one that may follow. Assumes nothing.
 use borrow.Author.Tests.{eq-eqb, ne_eqb}
-use borrow.Author.Rules.{rules}
 use Rattle.calls.specs.Listing.{only}
 use Rattle.calls.proofs.listing.Listing.only.Goals as goal
 

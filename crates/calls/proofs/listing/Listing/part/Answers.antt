@@ -1,9 +1,8 @@
 -- `calls::listing::Listing::part` meets its contract. The loop's invariant: what is left of the text leads to the same end, and the
 -- process named last is one of the eight. Assumes nothing.
-use mathlib.Core.Path.{◌≡◌, refl, sym, ap, ◌∙◌}
-use Prim.Native.Nat.{◌+◌, ◌-◌, ◌≤◌, ◌<◌}
+use mathlib.Core.Path.{refl, sym, ap, ◌∙◌}
+use Prim.Native.Nat.{◌+◌, ◌<◌}
 use native.Mathlib.Omega.{arith}
-use borrow.Author.Rules.{rules}
 use lib.ListN.{length, drop}
 use Rattle.calls.specs.declared.listing.Listing.{Listing}
 use Rattle.calls.specs.Listing.{listed}

@@ -1,6 +1,5 @@
 -- `calls::listing::Listing::push` meets its contract, by where the reading stands. Assumes nothing.
 use mathlib.Core.Path.{sym, ap, ◌∙◌}
-use borrow.Author.Rules.{rules}
 use Rattle.calls.specs.declared.listing.Place.{Place}
 use Rattle.calls.specs.Listing.{next_in}
 use Rattle.calls.proofs.ListingLaws.{pushed}

@@ -1,8 +1,6 @@
 -- `decimal::number::Number::checked` meets its contract, by whether the digits are a numeral. Assumes nothing.
 use mathlib.Core.Path.{sym, ap, ◌∙◌}
 use mathlib.Core.Bool.{Bool}
-use borrow.Author.Tests.{not-true, not-false}
-use borrow.Author.Rules.{rules}
 use Rattle.decimal.specs.Read.{checked}
 use Rattle.decimal.proofs.number.Number.checked.Goals as goal
 

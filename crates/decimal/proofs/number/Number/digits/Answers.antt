@@ -1,8 +1,7 @@
 -- `decimal::number::Number::digits` meets its contract. The loop's invariant: what is left of the digits completes their value. Assumes nothing.
 use mathlib.Core.Path.{◌≡◌, refl, sym, ap, ◌∙◌}
-use Prim.Native.Nat.{ℕ, ◌+◌, ◌-◌, ◌*◌, ◌≤◌, ◌<◌}
+use Prim.Native.Nat.{ℕ, ◌+◌, ◌*◌, ◌<◌}
 use native.Mathlib.Omega.{arith}
-use borrow.Author.Rules.{rules}
 use lib.ListN.{length, drop, get_or}
 use Rattle.decimal.specs.Numeral.{digit_of, digits_of, value_from}
 use Rattle.decimal.proofs.ReadLaws.{stops-here, stops_end, value-turn, length-turn, all_read, too_much}

@@ -1,11 +1,8 @@
 -- `decimal::number::Number::digits` meets its contract. The loop's invariant: what is left of the digits completes their value. Assumes nothing.
-use mathlib.Core.Path.{◌≡◌, refl, sym, ap, ◌∙◌}
-use Prim.Native.Nat.{ℕ, ◌+◌, ◌-◌, ◌*◌, ◌≤◌, ◌<◌}
-use native.Mathlib.Omega.{arith}
-use borrow.Author.Rules.{rules}
-use lib.ListN.{length, drop, get_or}
-use Rattle.decimal.specs.Numeral.{digit_of, digits_of, value_from}
-use Rattle.decimal.proofs.ReadLaws.{stops-here, stops_end, value-turn, length-turn, all_read, too_much}
+use mathlib.Core.Path.{◌≡◌}
+use Prim.Native.Nat.{◌+◌, ◌-◌, ◌≤◌}
+use lib.ListN.{length, drop}
+use Rattle.decimal.specs.Numeral.{digits_of, value_from}
 use Rattle.decimal.proofs.number.Number.digits.Given as goal
 
 abbrev pub invariant-loop-i : goal.invariant-loop-i

@@ -3,7 +3,6 @@ use mathlib.Core.Path.{ap, ◌∙◌}
 use Prim.Native.Nat.{◌+◌}
 use native.Mathlib.Omega.{arith}
 use borrow.Author.Tests.{not-true, not-false}
-use borrow.Author.Rules.{rules}
 use Rattle.decimal.specs.declared.number.Number.{Number}
 use Rattle.decimal.proofs.ReadLaws.{behind-wrong, behind-end, behind-other, behind-blank, number_bound}
 use Rattle.decimal.proofs.number.Number.then.Goals as goal

@@ -1,6 +1,5 @@
 -- `fields::number::Number::after` meets its contract, by what stands there. Assumes nothing.
 use mathlib.Core.Path.{◌∙◌}
-use borrow.Author.Rules.{rules}
 use Rattle.fields.proofs.ReadLaws.{after-end, after-other, after-blank}
 use Rattle.fields.proofs.number.Number.after.Goals as goal
 

@@ -1,7 +1,6 @@
 -- `fields::number::Number::at` meets its contract, by what stands there. Assumes nothing.
 use mathlib.Core.Path.{◌∙◌}
 use native.Mathlib.Omega.{arith}
-use borrow.Author.Rules.{rules}
 use Rattle.fields.proofs.ReadLaws.{number-first, number-second, number_short, number_digits}
 use Rattle.fields.proofs.number.Number.at.Goals as goal
 

@@ -1,8 +1,6 @@
 -- `fields::number::Number::checked` meets its contract, by whether the digits are a numeral. Assumes nothing.
 use mathlib.Core.Path.{sym, ap, ◌∙◌}
 use mathlib.Core.Bool.{Bool}
-use borrow.Author.Tests.{not-true, not-false}
-use borrow.Author.Rules.{rules}
 use Rattle.fields.specs.Hex.{checked}
 use Rattle.fields.proofs.number.Number.checked.Goals as goal
 

@@ -1,10 +1,9 @@
 -- `fields::number::Number::digits` meets its contract. The loop's invariant: what is left of the digits completes their value. Assumes nothing.
 use mathlib.Core.Path.{◌≡◌, refl, sym, ap, ◌∙◌}
-use Prim.Native.Nat.{ℕ, ◌+◌, ◌-◌, ◌*◌, ◌≤◌, ◌<◌}
+use Prim.Native.Nat.{ℕ, ◌+◌, ◌*◌, ◌<◌}
 use native.Mathlib.Omega.{arith}
-use borrow.Author.Rules.{rules}
 use lib.ListN.{length, drop, get_or}
-use Rattle.fields.specs.Hex.{hex_value, digits_of, value_from, most_number}
+use Rattle.fields.specs.Hex.{hex_value, digits_of, value_from}
 use Rattle.fields.proofs.ReadLaws.{stops-here, stops_end, value-turn, length-turn, all_read, too_much}
 use Rattle.fields.proofs.number.Number.digits.Goals as goal
 

@@ -1,7 +1,6 @@
 -- `fields::read::Head::after` meets its contract, by what stands after the number. Assumes nothing.
 use mathlib.Core.Path.{sym, ◌∙◌}
 use native.Mathlib.Omega.{arith}
-use borrow.Author.Rules.{rules}
 use borrow.Author.Tests.{not-true, not-false}
 use Rattle.fields.proofs.LineLaws.{head-unread, head-other, head-unknown, head-goes-on, head-short, head-found}
 use Rattle.fields.proofs.read.Head.after.Goals as goal

@@ -1,6 +1,5 @@
 -- `fields::read::Head::of` meets its contract: the number at the start, and what follows it. Assumes nothing.
 use mathlib.Core.Path.{ap, ◌∙◌}
-use borrow.Author.Rules.{rules}
 use Rattle.fields.specs.Read.{head_after, head_of}
 use Rattle.fields.proofs.read.Head.of.Goals as goal
 

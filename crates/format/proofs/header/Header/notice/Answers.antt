@@ -2,7 +2,6 @@
 use mathlib.Core.Path.{refl}
 use native.Mathlib.Omega.{arith}
 use borrow.Author.Tests.{lt-ltb, le-ltb}
-use borrow.Author.Rules.{rules}
 use Rattle.format.specs.Answer.{notice_of}
 use Rattle.format.proofs.LayoutLaws.{same-fields}
 use Rattle.format.proofs.header.Header.notice.Goals as goal

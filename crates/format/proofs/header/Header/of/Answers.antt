@@ -1,7 +1,6 @@
 -- `format::header::Header::of` meets its contract: the words are those of their two bytes. Assumes nothing.
 use mathlib.Core.Path.{refl}
 use native.Mathlib.Omega.{arith}
-use borrow.Author.Rules.{rules}
 use Rattle.format.specs.Layout.{header_of}
 use Rattle.format.proofs.LayoutLaws.{same-fields}
 use Rattle.format.proofs.header.Header.of.Goals as goal

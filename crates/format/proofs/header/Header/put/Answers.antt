@@ -1,6 +1,5 @@
 -- `format::header::Header::put` meets its contract: ten stores one after the other lay the header over the buffer's start. Assumes nothing.
 use native.Mathlib.Omega.{arith}
-use borrow.Author.Rules.{rules}
 use lib.ListN.{length-set}
 use Rattle.format.specs.Layout.{header}
 use Rattle.lists.proofs.Buffer.{sets-overlay}

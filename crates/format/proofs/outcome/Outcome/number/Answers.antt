@@ -1,7 +1,6 @@
 -- `format::outcome::Outcome::number` meets its contract, by the cases. Assumes nothing.
 use mathlib.Core.Path.{sym, ap}
 use native.Mathlib.Omega.{arith}
-use borrow.Author.Rules.{rules}
 use Rattle.format.specs.Outcome.{number_of}
 use Rattle.format.proofs.outcome.Outcome.number.Goals as goal
 

@@ -2,7 +2,6 @@
 use borrow.Author.Tests.{lt-ltb, le-ltb}
 use Rattle.lines.specs.Hex.{value}
 use Rattle.lines.specs.Scan.{next}
-use borrow.Author.Rules.{rules}
 use Rattle.lines.proofs.scan.Phase.closed.Goals as goal
 
 pub returns-then-value-lt16 : goal.returns-then-value-lt16

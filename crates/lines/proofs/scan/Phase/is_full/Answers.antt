@@ -1,7 +1,6 @@
 -- `lines::scan::Phase::is_full` meets its contract, by where the reading stands. Assumes nothing.
 use mathlib.Core.Path.{sym, ap}
 use Rattle.lines.specs.Scan.{full}
-use borrow.Author.Rules.{rules}
 use Rattle.lines.proofs.scan.Phase.is_full.Goals as goal
 
 pub returns-in-Open : goal.returns-in-Open

@@ -1,7 +1,6 @@
 -- `lines::scan::Phase::next` meets its contract, by where in the line the reading stands. Assumes nothing.
 use mathlib.Core.Path.{refl, ap, ◌∙◌}
 use Rattle.lines.specs.Scan.{opened, next}
-use borrow.Author.Rules.{rules}
 use Rattle.lines.proofs.scan.Phase.next.Goals as goal
 
 pub returns-in-Open : goal.returns-in-Open

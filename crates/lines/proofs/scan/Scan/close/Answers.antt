@@ -1,7 +1,6 @@
 -- `lines::scan::Scan::close` meets its contract, by whether the character is a digit and the buffer has room. Assumes nothing.
 use mathlib.Core.Path.{refl, sym}
 use native.Mathlib.Omega.{arith}
-use borrow.Author.Rules.{rules}
 use borrow.Author.Tests.{lt-ltb, le-ltb}
 use lib.Seq.{set_out}
 use Rattle.lines.specs.Scan.{next, made, kept, filled}

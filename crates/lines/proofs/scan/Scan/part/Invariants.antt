@@ -1,12 +1,8 @@
 -- `lines::scan::Scan::part` meets its contract. The loop's invariant: what is left of the text leads to the same end. Assumes nothing.
-use mathlib.Core.Path.{◌≡◌, refl, sym, ap, ◌∙◌}
-use mathlib.Core.List.{List}
-use Prim.Native.Nat.{◌-◌, ◌≤◌, ℕ, ◌<◌}
-use native.Mathlib.Omega.{arith}
-use borrow.Author.Rules.{rules}
+use mathlib.Core.Path.{◌≡◌}
+use Prim.Native.Nat.{◌-◌, ◌≤◌}
 use lib.ListN.{length, drop}
 use Rattle.lines.specs.Scan.{after, bytes_of, kept, filled}
-use Rattle.lines.proofs.ScanLaws.{length-kept, step-phase, step-filled, step_kept, end-phase, end-filled, end_kept}
 use Rattle.lines.proofs.scan.Scan.part.Given as goal
 
 abbrev pub invariant-loop-i : goal.invariant-loop-i

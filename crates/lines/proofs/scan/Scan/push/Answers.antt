@@ -1,6 +1,5 @@
 -- `lines::scan::Scan::push` meets its contract, by where in the line the reading stands. Assumes nothing.
 use mathlib.Core.Path.{refl, ap, ◌∙◌}
-use borrow.Author.Rules.{rules}
 use Rattle.lines.specs.Scan.{opened, next, made, kept, filled}
 use Rattle.lines.proofs.scan.Scan.push.Goals as goal
 

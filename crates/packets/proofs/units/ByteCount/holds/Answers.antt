@@ -1,7 +1,6 @@
 -- `packets::units::ByteCount::holds` meets its contract. Assumes nothing.
 use mathlib.Core.Path.{ap}
 use native.Mathlib.Omega.{arith}
-use borrow.Author.Rules.{rules}
 use Rattle.packets.specs.declared.units.ByteAddress.{ByteAddress}
 use Rattle.packets.specs.declared.units.ByteCount.{ByteCount}
 use Rattle.packets.specs.Units.{holds}

@@ -1,7 +1,6 @@
 -- `packets::units::WordAddress::first_byte` meets its contract: a number added to itself is its double. Assumes nothing.
 use mathlib.Core.Path.{ap}
 use native.Mathlib.Omega.{arith}
-use borrow.Author.Rules.{rules}
 use Rattle.packets.specs.Units.{byte_address}
 use Rattle.packets.proofs.units.WordAddress.first_byte.Goals as goal
 

@@ -1,10 +1,10 @@
 -- `process::record::Process::address_is_unique` meets its contract. The loop's invariant: the first entry at the address is none of those passed. Assumes nothing.
 use mathlib.Core.Path.{◌≡◌, refl, sym, ap, ◌∙◌}
-use Prim.Native.Nat.{ℕ, ◌≤◌, ◌-◌}
+use Prim.Native.Nat.{ℕ, ◌≤◌}
 use native.Mathlib.Omega.{arith}
 use borrow.Author.Tests.{eq-eqb, ne_eqb}
 use borrow.Author.Rules.{rules}
-use lib.ListN.{length-map, length}
+use lib.ListN.{length}
 use Rattle.process.specs.declared.record.Process.{Process}
 use Rattle.breakpoints.specs.declared.entry_query.EntryQuery.TheVariants.{At}
 use Rattle.process.specs.Record.{entry}

@@ -1,6 +1,5 @@
 -- `process::record::Process::bring_to_stop` meets its contract, by whether the process moves. Assumes nothing.
 use mathlib.Core.Path.{refl}
-use borrow.Author.Rules.{rules}
 use Rattle.process.specs.Request.{brought_to_stop}
 use Rattle.process.proofs.TestedLaws.{tested-inside}
 use Rattle.process.proofs.record.Process.bring_to_stop.Goals as goal

@@ -1,8 +1,7 @@
 -- `process::record::Process::entry_sound` meets its contract: at each `return` the tests that led there say its value. Assumes nothing.
 use mathlib.Core.Path.{◌≡◌, sym, ap, ◌∙◌}
 use mathlib.Core.Bool.{Bool}
-use borrow.Author.Tests.{not-true, not-false, eq-eqb, ne_eqb}
-use borrow.Author.Rules.{rules}
+use borrow.Author.Tests.{eq-eqb, ne_eqb}
 use Rattle.breakpoints.specs.declared.entry.Breakpoint.{Breakpoint}
 use Rattle.breakpoints.proofs.SeenLaws.{none-set, some-set}
 use Rattle.process.specs.Record.{entry}

@@ -1,23 +1,18 @@
 -- `process::record::Process::keeps_rules` meets its contract. The loop's invariant: every entry passed keeps the rules. Assumes nothing.
-use mathlib.Core.Bool.{true, ◌||◌}
+use mathlib.Core.Bool.{◌||◌}
 use mathlib.Core.Path.{◌≡◌, refl, sym, ap, ◌∙◌}
 use mathlib.Core.List.{List}
-use Prim.Native.Nat.{◌≤◌, ◌-◌}
 use native.Mathlib.Omega.{arith}
-use borrow.Author.Tests.{not-true, not-false, le-ltb}
+use borrow.Author.Tests.{le-ltb}
 use borrow.Author.Rules.{rules}
-use lib.ListN.{length, get_or, length-map}
-use lib.Dec.{eqb, ltb}
+use lib.ListN.{length, get_or}
 use Rattle.breakpoints.specs.declared.entry_query.EntryQuery.TheVariants.{Lifted}
 use Rattle.breakpoints.specs.EntryQuery.{matches}
 use Rattle.process.specs.Find.{find}
 use Rattle.process.proofs.FindLaws.{find-next}
 use Rattle.breakpoints.specs.declared.entry.Breakpoint.{Breakpoint}
 use Rattle.breakpoints.specs.Entry.{free}
-use Rattle.session.specs.Session.{session_sound}
-use Rattle.process.specs.Record.{count_used}
-use Rattle.process.specs.Sound.{absent_has_no_host, entry_sound, keeps_rules}
-use Rattle.lists.specs.Every.{below}
+use Rattle.process.specs.Sound.{entry_sound, keeps_rules}
 use Rattle.lists.proofs.Every.{below_more, below_fails}
 use Rattle.process.proofs.record.Process.keeps_rules.Goals as goal
 

@@ -3,8 +3,8 @@ use mathlib.Core.Path.{◌≡◌, refl, sym, ◌∙◌}
 use mathlib.Core.Bool.{Bool, true, false, ◌&&◌}
 use Rattle.run_state.specs.RunState.{stepping_or_passing}
 use native.Mathlib.Omega.{arith}
-use borrow.Author.Tests.{not-true, not-false, eq-eqb, ne_eqb, ltb-true, ltb-false}
-use lib.ListN.{length-map, length}
+use borrow.Author.Tests.{eq-eqb, ne_eqb, ltb-true, ltb-false}
+use lib.ListN.{length}
 use Rattle.breakpoints.specs.declared.entry_query.EntryQuery.TheVariants.{Lifted}
 use Rattle.process.specs.Record.{entry}
 use Rattle.process.specs.Find.{find}

@@ -1,7 +1,7 @@
 -- `process::record::Process::pass` meets its contract: the entry is written once. Assumes nothing.
 use mathlib.Core.Path.{refl}
 use native.Mathlib.Omega.{arith}
-use lib.ListN.{length-map, length}
+use lib.ListN.{length}
 use Rattle.process.specs.Local.{local}
 use Rattle.process.proofs.ReportLaws.{passed-once}
 use mathlib.Core.Path.{◌≡◌}

@@ -2,7 +2,7 @@
 use mathlib.Core.Path.{◌≡◌, ap}
 use Prim.Native.Nat.{ℕ, ◌-◌}
 use native.Mathlib.Omega.{arith}
-use lib.ListN.{length-map, set, length}
+use lib.ListN.{set, length}
 use borrow.Author.Rules.{rules}
 use Rattle.breakpoints.specs.Entry.{free}
 use Rattle.process.specs.Record.{with_entry, with_number, count_used}

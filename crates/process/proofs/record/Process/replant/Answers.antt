@@ -2,7 +2,7 @@
 use mathlib.Core.Path.{refl, sym, ◌∙◌}
 use native.Mathlib.Omega.{arith}
 use borrow.Author.Tests.{lt-ltb, le-ltb}
-use lib.ListN.{length-map, length}
+use lib.ListN.{length}
 use Rattle.breakpoints.specs.declared.entry_query.EntryQuery.TheVariants.{Lifted}
 use Rattle.process.specs.Find.{find}
 use Rattle.process.specs.Planting.{replanted}

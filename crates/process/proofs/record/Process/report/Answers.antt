@@ -1,6 +1,6 @@
 -- `process::record::Process::report` meets its contract, by the verdict. Assumes nothing.
 use mathlib.Core.Path.{◌≡◌, refl, sym, ap, ◌∙◌}
-use lib.ListN.{length-map, length}
+use lib.ListN.{length}
 use Rattle.process.specs.Local.{local}
 use Rattle.process.specs.Record.{with_vector}
 use Rattle.process.specs.Report.{store_vector_and_replant, recipient_of, answer_of, reported}

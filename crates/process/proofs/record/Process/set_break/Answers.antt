@@ -3,7 +3,7 @@ use mathlib.Core.Path.{◌≡◌, refl, sym, ap, ◌∙◌}
 use Prim.Native.Nat.{ℕ, ◌+◌}
 use native.Mathlib.Omega.{arith}
 use borrow.Author.Rules.{rules}
-use lib.ListN.{length-map, length}
+use lib.ListN.{length}
 use Rattle.breakpoints.proofs.SeenLaws.{none-set, some-set}
 use Rattle.process.specs.Request.{break_set}
 use Rattle.breakpoints.specs.declared.entry.Breakpoint.{Breakpoint}

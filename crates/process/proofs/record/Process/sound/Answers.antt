@@ -1,9 +1,5 @@
 -- `process::record::Process::sound` meets its contract, by the two cases of the size. Assumes nothing.
-use mathlib.Core.Path.{sym, ap, ◌∙◌}
-use mathlib.Core.Bool.{Bool, ◌&&◌}
-use borrow.Author.Tests.{not-true, not-false}
-use borrow.Author.Rules.{rules}
-use Rattle.process.specs.Sound.{keeps_rules, sound_test}
+use Rattle.process.specs.Sound.{sound_test}
 use Rattle.process.proofs.record.Process.sound.Goals as goal
 
 pub returns-then-not-valid_size : goal.returns-then-not-valid_size

@@ -1,7 +1,6 @@
 -- `process::record::Process::stop` meets its contract: that of stopping, and nothing is owed. Assumes nothing.
 use mathlib.Core.Path.{refl}
 use Rattle.process.specs.Request.{stopped}
-use borrow.Author.Rules.{rules}
 use Rattle.process.proofs.record.Process.stop.Goals as goal
 
 pub returns : goal.returns

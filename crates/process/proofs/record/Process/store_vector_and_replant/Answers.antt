@@ -1,5 +1,4 @@
 -- `process::record::Process::store_vector_and_replant` meets its contract: that of planting again, with the vector stored. Assumes nothing.
-use borrow.Author.Rules.{rules}
 use Rattle.process.specs.Report.{store_vector_and_replant}
 use Rattle.process.proofs.record.Process.store_vector_and_replant.Goals as goal
 

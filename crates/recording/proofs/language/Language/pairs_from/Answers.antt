@@ -1,7 +1,6 @@
 -- `recording::language::Language::pairs_from` meets its contract, by the language. Assumes nothing.
-use mathlib.Core.Path.{◌≡◌, refl, sym, ap, ◌∙◌}
+use mathlib.Core.Path.{refl}
 use Rattle.recording.specs.Line.{pairs_from}
-use borrow.Author.Rules.{rules}
 use Rattle.recording.proofs.language.Language.pairs_from.Goals as goal
 
 pub returns-in-Bench : goal.returns-in-Bench

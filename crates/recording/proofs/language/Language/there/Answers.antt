@@ -1,7 +1,6 @@
 -- `recording::language::Language::there` meets its contract, by the language. Assumes nothing.
-use mathlib.Core.Path.{◌≡◌, refl, sym, ap, ◌∙◌}
+use mathlib.Core.Path.{sym, ap}
 use Rattle.recording.specs.Line.{there_at}
-use borrow.Author.Rules.{rules}
 use Rattle.recording.proofs.language.Language.there.Goals as goal
 
 pub returns-in-Bench : goal.returns-in-Bench

@@ -1,8 +1,7 @@
 -- `recording::partial::Partial::phase_after` meets its contract, by whether the pairs have begun. Assumes nothing.
-use mathlib.Core.Path.{◌≡◌, refl, sym, ap, ◌∙◌}
+use mathlib.Core.Path.{refl}
 use borrow.Author.Tests.{lt-ltb, le-ltb}
 use Rattle.recording.specs.Session.{phase_after}
-use borrow.Author.Rules.{rules}
 use Rattle.recording.proofs.partial.Partial.phase_after.Goals as goal
 
 pub returns-then-self-first : goal.returns-then-self-first

@@ -1,6 +1,5 @@
 -- `recording::partial::Partial::push` meets its contract, by whether there is room. Assumes nothing.
 use Rattle.recording.proofs.SessionLaws.{typed-full, typed-kept}
-use borrow.Author.Rules.{rules}
 use Rattle.recording.proofs.partial.Partial.push.Goals as goal
 
 pub returns-then-line-len : goal.returns-then-line-len
