@@ -155,7 +155,7 @@ use std::process::ExitCode;
 
 /// The stack that include/palustrode.h says a call needs. The model in the library's
 /// place may need any.
-const STACK: usize = if cfg!(feature = "standin") { usize::MAX } else { 1760 };
+const STACK: usize = if cfg!(feature = "standin") { usize::MAX } else { 1936 };
 
 fn main() -> ExitCode {
     let mut arguments = std::env::args().skip(1);
