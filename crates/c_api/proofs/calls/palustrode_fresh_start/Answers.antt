@@ -12,14 +12,12 @@ use Rattle.c_api.proofs.calls.palustrode_fresh_start.Goals as goal
 
 pub returns-then-sizes-ne8 : goal.returns-then-sizes-ne8
 returns-then-sizes-ne8 c =
-    let a = c.args in
     let same : to_z w64 (of_z w64 c.minus.result) ≡ c.minus.result = search rules in
     rw (start-uneven c.args.there c.args.sizes.now c.args.door c.args.state.now c.if-sizes-ne8.true)
     (record { result-is = same ∙ c.minus.ensures ∙ start-signed 1; state-is = refl })
 
 pub returns-then-there-ge256 : goal.returns-then-there-ge256
 returns-then-there-ge256 c =
-    let a = c.args in
     let same : to_z w64 (of_z w64 c.minus-then-there-ge256.result) ≡ c.minus-then-there-ge256.result = search rules in
     rw (start-over c.args.there c.args.sizes.now c.args.door c.args.state.now c.if-there-ge256.true)
     (record { result-is = same ∙ c.minus-then-there-ge256.ensures ∙ ap minus c.start_refusal.ensures ∙ start-signed (start_number c.args.there c.args.sizes.now c.args.state.now); state-is = refl })
@@ -29,7 +27,6 @@ signed-requires c = subst Short (sym (ap (λ (x : StartResult). x.outcome) c.fre
 
 pub returns : goal.returns
 returns c =
-    let a = c.args in
     let same : to_z w64 (of_z w64 c.signed.result) ≡ c.signed.result = search rules in
     rw (start-same c.args.there c.args.sizes.now c.args.door c.args.state.now c.if-there-ge256.false c.if-sizes-ne8.false)
     (start-returns _ _ _ (rw (c.bits.ensures, c.eight.ensures, c.byte_of.ensures) at c.fresh_start-outcome.ensures) _ (same ∙ c.signed.ensures))

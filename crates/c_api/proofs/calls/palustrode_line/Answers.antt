@@ -12,13 +12,10 @@ use Rattle.c_api.proofs.calls.palustrode_line.Goals as goal
 pub signed-requires : goal.signed-requires
 unfolding Did
 signed-requires c =
-    let a = c.args in
-    let v = c.text_line-outcome in
     call-short _ _ _ _ _ _ (text_line c.args.text.now c.args.line.now) c.text_line-outcome.ensures (omega (arith, c.text_line-outcome.auto.out))
 
 pub returns : goal.returns
 unfolding Did
 returns c =
-    let a = c.args in
     let same : to_z w64 (of_z w64 c.signed.result) ≡ c.signed.result = search rules in
     call_returns _ _ _ _ _ _ (text_line c.args.text.now c.args.line.now) c.text_line-outcome.ensures _ (same ∙ c.signed.ensures)

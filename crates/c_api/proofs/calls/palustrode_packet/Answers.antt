@@ -12,12 +12,10 @@ use Rattle.c_api.proofs.calls.palustrode_packet.Goals as goal
 pub signed-requires : goal.signed-requires
 unfolding Did
 signed-requires c =
-    let v = c.packet-outcome in
     call-short _ _ _ _ _ _ _ c.packet-outcome.ensures.1 (omega (arith, c.packet-outcome.auto.out))
 
 pub returns : goal.returns
 unfolding Did packet_on
 returns c =
-    let v = c.packet-outcome in
     let same : to_z w64 (of_z w64 c.signed.result) ≡ c.signed.result = search rules in
     rw (← c.type_of.ensures) (call_returns _ _ _ _ _ _ _ c.packet-outcome.ensures.1 _ (same ∙ c.signed.ensures))

@@ -16,7 +16,6 @@ use Rattle.c_api.proofs.calls.palustrode_report.Goals as goal
 pub returns-then-words-ne18 : goal.returns-then-words-ne18
 unfolding report_on signed both_lengths number_of is_granted
 returns-then-words-ne18 c =
-    let a = c.args in
     let same : to_z w64 (of_z w64 c.minus.result) ≡ c.minus.result = search rules in
     rw (ne_eqb (length c.args.words.now) 18 c.if-words-ne18.true) (record { result-is = same ∙ c.minus.ensures; state-is = refl; memory-is = refl; notice-is = refl; line-is = refl })
 
@@ -26,24 +25,18 @@ words_of-requires c = c.if-words-ne18.false
 pub both_lengths-requires : goal.both_lengths-requires
 unfolding Did
 both_lengths-requires c =
-    let a = c.args in
-    let w = c.words_of in
     let nine : length c.words_of.result ≡ 9 = rw c.words_of.ensures (nine_words c.args.words.now) in
     told-short _ _ _ _ _ _ _ c.report-told.ensures (report-small c.args.state.now c.args.memory.now _ _ _ c.words_of.result c.args.notice.now c.args.line.now nine)
 
 pub signed-requires : goal.signed-requires
 unfolding Did
 signed-requires c =
-    let a = c.args in
-    let w = c.words_of in
     let nine : length c.words_of.result ≡ 9 = rw c.words_of.ensures (nine_words c.args.words.now) in
     subst Short (sym c.both_lengths.ensures) (told-short _ _ _ _ _ _ _ c.report-told.ensures (report-small c.args.state.now c.args.memory.now _ _ _ c.words_of.result c.args.notice.now c.args.line.now nine))
 
 pub returns : goal.returns
 unfolding report_on Did
 returns c =
-    let a = c.args in
-    let w = c.words_of in
     let same : to_z w64 (of_z w64 c.signed.result) ≡ c.signed.result = search rules in
     let kind = c.byte_of-2.ensures ∙ ap byte_of c.kind_of.ensures in
     rw (eq-eqb (length c.args.words.now) 18 c.if-words-ne18.false, ← c.words_of.ensures, ← narrow-report c.args.state.now c.args.memory.now c.args.pid c.args.kind c.args.reason c.words_of.result c.args.notice.now c.args.line.now, ← c.byte_of.ensures, ← kind)

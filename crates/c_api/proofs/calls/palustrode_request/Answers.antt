@@ -12,13 +12,10 @@ use Rattle.c_api.proofs.calls.palustrode_request.Goals as goal
 pub signed-requires : goal.signed-requires
 unfolding Did
 signed-requires c =
-    let a = c.args in
-    let v = c.request-outcome in
     call-short _ _ _ _ _ _ (request c.args.message.now c.args.reply.now) c.request-outcome.ensures (omega (arith, c.request-outcome.auto.reply))
 
 pub returns : goal.returns
 unfolding Did
 returns c =
-    let a = c.args in
     let same : to_z w64 (of_z w64 c.signed.result) ≡ c.signed.result = search rules in
     call_returns _ _ _ _ _ _ (request c.args.message.now c.args.reply.now) c.request-outcome.ensures _ (same ∙ c.signed.ensures)

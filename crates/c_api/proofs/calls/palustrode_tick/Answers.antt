@@ -14,12 +14,10 @@ use Rattle.c_api.proofs.calls.palustrode_tick.Goals as goal
 pub signed-requires : goal.signed-requires
 unfolding Did
 signed-requires c =
-    let a = c.args in
     call-short _ _ _ _ _ _ (tick (door_of c.args.state.now)) (c.tick-outcome.ensures []).1 (omega arith)
 
 pub returns : goal.returns
 unfolding Did
 returns c memory =
-    let a = c.args in
     let same : to_z w64 (of_z w64 c.signed.result) ≡ c.signed.result = search rules in
     call_returns _ _ _ _ _ _ (tick (door_of c.args.state.now)) (c.tick-outcome.ensures memory).1 _ (same ∙ c.signed.ensures)

@@ -20,7 +20,6 @@ returns-then-facts-ne2 c memory =
 pub returns : goal.returns
 unfolding why_with
 returns c memory =
-    let a = c.args in
     let same : to_z w64 (of_z w64 c.minus-2.result) ≡ c.minus-2.result = search rules in
     let number = c.number.ensures ∙ ap reason_number c.why-reason.ensures in
     rw (eq-eqb _ 2 c.if-facts-ne2.false)

@@ -17,13 +17,11 @@ returns-then-state-ne-STATE_BYTES c =
 pub returns-then-sizes_right : goal.returns-then-sizes_right
 unfolding start_number first_failing
 returns-then-sizes_right c =
-    let a = c.args in
     let right : sizes_right (bits_of c.args.there) c.args.sizes.now ≡ true = rw (c.bits.ensures, c.eight.ensures) at (sym c.sizes_right.ensures ∙ c.if-sizes_right.true) in
     rw (eq-eqb (length c.args.sizes.now) process_count c.requires.sizes_len, eq-eqb (length c.args.state.now) state_width c.if-state-ne-STATE_BYTES.false, right, le-ltb c.args.there 256 c.requires.le_there)
 
 pub returns-else-sizes_right : goal.returns-else-sizes_right
 unfolding start_number first_failing
 returns-else-sizes_right c =
-    let a = c.args in
     let wrong : sizes_right (bits_of c.args.there) c.args.sizes.now ≡ false = rw (c.bits.ensures, c.eight.ensures) at (sym c.sizes_right.ensures ∙ c.if-sizes_right.false) in
     rw (eq-eqb (length c.args.sizes.now) process_count c.requires.sizes_len, eq-eqb (length c.args.state.now) state_width c.if-state-ne-STATE_BYTES.false, wrong)

@@ -18,7 +18,6 @@ returns-then-request-lt-MESSAGE_BYTES c = rw (lt-ltb _ 266 c.if-request-lt-MESSA
 pub returns-then-carried-gt-STRING_BYTES : goal.returns-then-carried-gt-STRING_BYTES
 unfolding misfit_number first_failing wrong_length
 returns-then-carried-gt-STRING_BYTES c =
-    let a = c.args in
     let enough : 10 ≤ 10 + c.args.carried = omega arith in
     let long : 266 < 10 + c.args.carried = omega arith in
     rw (le-ltb _ 266 c.if-request-lt-MESSAGE_BYTES.false, le-ltb _ _ enough, lt-ltb _ _ long)
@@ -26,7 +25,6 @@ returns-then-carried-gt-STRING_BYTES c =
 pub returns-then-host-eq0 : goal.returns-then-host-eq0
 unfolding misfit_number first_failing wrong_length
 returns-then-host-eq0 c =
-    let a = c.args in
     let enough : 10 ≤ 10 + c.args.carried = omega arith in
     let short : 10 + c.args.carried ≤ 266 = omega arith in
     rw (le-ltb _ 266 c.if-request-lt-MESSAGE_BYTES.false, le-ltb _ _ enough, le-ltb _ _ short, eq-eqb c.args.host 0 c.if-host-eq0.true)
@@ -34,7 +32,6 @@ returns-then-host-eq0 c =
 pub returns-then-host-ge256 : goal.returns-then-host-ge256
 unfolding misfit_number first_failing wrong_length
 returns-then-host-ge256 c =
-    let a = c.args in
     let enough : 10 ≤ 10 + c.args.carried = omega arith in
     let short : 10 + c.args.carried ≤ 266 = omega arith in
     rw (le-ltb _ 266 c.if-request-lt-MESSAGE_BYTES.false, le-ltb _ _ enough, le-ltb _ _ short, le-ltb c.args.host 256 c.if-host-ge256.true, or-true (eqb c.args.host 0))
@@ -42,7 +39,6 @@ returns-then-host-ge256 c =
 pub returns-in-Known : goal.returns-in-Known
 unfolding misfit_number first_failing wrong_length
 returns-in-Known c =
-    let a = c.args in
     let enough : 10 ≤ 10 + c.args.carried = omega arith in
     let short : 10 + c.args.carried ≤ 266 = omega (arith, c.if-carried-gt-STRING_BYTES.false) in
     let form = sym c.in-Known.is ∙ c.request_form-found.ensures ∙ ap request_form c.byte_of.ensures ∙ form-byte c.args.cmd in
@@ -51,7 +47,6 @@ returns-in-Known c =
 pub returns-in-Unknown : goal.returns-in-Unknown
 unfolding misfit_number first_failing wrong_length
 returns-in-Unknown c =
-    let a = c.args in
     let enough : 10 ≤ 10 + c.args.carried = omega arith in
     let short : 10 + c.args.carried ≤ 266 = omega (arith, c.if-carried-gt-STRING_BYTES.false) in
     let form = sym c.in-Unknown.is ∙ c.request_form-found.ensures ∙ ap request_form c.byte_of.ensures ∙ form-byte c.args.cmd in

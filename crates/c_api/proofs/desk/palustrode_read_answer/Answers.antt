@@ -31,7 +31,6 @@ signed-requires c = omega (arith, (read_length _ _ (sym c.read_answer-reading.en
 pub returns-in-Message : goal.returns-in-Message
 unfolding read_on hand_over signed is_granted number_of length_of
 returns-in-Message c =
-    let a = c.args in
     let found = sym c.read_answer-reading.ensures ∙ c.in-Message.is in
     let same : to_z w64 (of_z w64 c.signed.result) ≡ c.signed.result = search rules in
     let long = (read_length c.args.message.now _ found).0 in

@@ -21,7 +21,6 @@ module _ (host cmd pid arg1 arg2 : ℕ) (fit : Bool) (e : fit ≡ fields_fit (fi
 pub returns-then-not-fields_fit : goal.returns-then-not-fields_fit
 unfolding signed is_granted number_of
 returns-then-not-fields_fit c =
-    let a = c.args in
     let h = fields c.args.host c.args.cmd c.args.pid c.args.arg1 c.args.arg2 in
     let same : to_z w64 (of_z w64 c.minus.result) ≡ c.minus.result = search rules in
     rw (misfit-writes h c.args.string.now c.args.request.now (sym c.fields_fit.ensures ∙ c.if-not-fields_fit.true))
@@ -44,13 +43,11 @@ overflow_cast-header-5 c = omega (arith, (known _ _ _ _ _ _ c.fields_fit.ensures
 
 pub signed-requires : goal.signed-requires
 signed-requires c =
-    let a = c.args in
     let h = fields c.args.host c.args.cmd c.args.pid c.args.arg1 c.args.arg2 in
     subst Short (sym c.write_request-outcome.ensures.value) (writes_short h c.args.string.now c.args.request.now)
 
 pub returns : goal.returns
 returns c =
-    let a = c.args in
     let h = fields c.args.host c.args.cmd c.args.pid c.args.arg1 c.args.arg2 in
     let same : to_z w64 (of_z w64 c.signed.result) ≡ c.signed.result = search rules in
     rw (fit-writes h c.args.string.now c.args.request.now (sym c.fields_fit.ensures ∙ c.if-not-fields_fit.false))

@@ -12,5 +12,4 @@ returns-then-not-read c = does-wrong _ _ _ _ _ _ _ _ _ (sym c.read_report-read.e
 pub returns : goal.returns
 unfolding report_effect
 returns c =
-    let e = c.read_report-read.ensures in
     does-right _ _ _ _ _ _ _ _ _ (sym c.read_report-read.ensures.ok_value ∙ not-false _ c.if-not-read.false) (rw (c.read_report-read.ensures.process_value, c.read_report-read.ensures.kind_value, c.read_report-read.ensures.reason_value, c.read_report-read.ensures.words_value) at c.make_report.ensures)

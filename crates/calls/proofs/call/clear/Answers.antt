@@ -17,7 +17,6 @@ loop-i-smaller c = omega (arith, c.loop-i.invariant.1)
 
 pub loop-i-preserved : goal.loop-i-preserved
 loop-i-preserved c =
-    let a = c.args in
     let h : c.loop-i.i < length c.args.memory.now = omega (arith, c.loop-i.invariant.1) in (
       simp length-set (omega arith),
       simp length-set c.loop-i.invariant.1,
@@ -29,4 +28,4 @@ shape_of-memory c = c.loop-i.invariant.1
 
 pub returns : goal.returns
 returns c =
-    let a = c.args in c.loop-i.invariant.2 ∙ zero-all c.args.memory.now c.loop-i.i (omega (arith, c.loop-i.invariant.0, c.loop-i.invariant.1))
+    c.loop-i.invariant.2 ∙ zero-all c.args.memory.now c.loop-i.i (omega (arith, c.loop-i.invariant.0, c.loop-i.invariant.1))

@@ -21,8 +21,6 @@ put_beside-requires c =
 pub returns : goal.returns
 unfolding report_made Did
 returns c =
-    let q = c.report-told in
-    let a = c.args in
     let notice = c.report-told.new.notice in
     let line = c.report-told.new.line in
     rw (← c.zero_buffer-notice.ensures, ← c.zero_line-line.ensures)

@@ -4,4 +4,4 @@ use lib.Seq.{set_out}
 use Rattle.calls.proofs.call.store.Goals as goal
 
 pub returns-else-at-memory : goal.returns-else-at-memory
-returns-else-at-memory c = let a = c.args in sym (set_out c.args.memory.now c.args.at c.args.byte c.if-at-memory.false)
+returns-else-at-memory c = sym (set_out c.args.memory.now c.args.at c.args.byte c.if-at-memory.false)

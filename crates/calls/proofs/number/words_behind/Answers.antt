@@ -11,7 +11,6 @@ loop-i-init c = (omega arith, refl, refl, refl)
 
 pub loop-i-preserved : goal.loop-i-preserved
 loop-i-preserved c =
-    let a = c.args in
     let next = c.then-last.result in
     let is = c.then-last.ensures.value in
     let low : c.loop-i.i < 9 = omega arith in (
@@ -23,7 +22,6 @@ loop-i-preserved c =
 
 pub returns : goal.returns
 returns c =
-    let a = c.args in
     let end : 9 ≤ c.loop-i.i = omega arith in record {
       last_value = sym (last_end 9 c.args.line.now c.loop-i.last c.loop-i.i end) ∙ c.loop-i.invariant.2;
       words_value = sym (words-end 9 c.args.line.now c.loop-i.last c.loop-i.i end c.loop-i.words c.loop-i.invariant.1) ∙ c.loop-i.invariant.3;

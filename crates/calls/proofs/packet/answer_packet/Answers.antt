@@ -15,7 +15,6 @@ returns-then-not-read c = does-wrong _ _ _ _ _ _ _ _ _ (sym c.read_packet-read.e
 pub returns : goal.returns
 unfolding packet_effect
 returns c =
-    let e = c.read_packet-read.ensures in
     let line = c.args.line.now in
     let all = c.read_packet-read.result.words in
     let words : take c.most_words-n.result all ≡ words_in line =

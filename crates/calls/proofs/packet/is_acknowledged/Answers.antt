@@ -22,5 +22,4 @@ returns-in-130 c = rw (eq-eqb _ 0 c.if-number-ne0.false, c.in-130.is)
 pub returns-in_default : goal.returns-in_default
 unfolding acknowledged
 returns-in_default c =
-    let n = c.in_default.in_default-own.rest in
     rw (eq-eqb _ 0 c.if-number-ne0.false, ne_eqb _ 128 c.in_default.in_default-own.rest.0.0.1, ne_eqb _ 129 c.in_default.in_default-own.rest.0.1, ne_eqb _ 130 c.in_default.in_default-own.rest.1)

@@ -9,7 +9,6 @@ use Rattle.calls.proofs.packet.make_packet.Goals as goal
 pub returns : goal.returns
 unfolding packet_made Did
 returns c =
-    let a = c.args in
     rw (← c.zero_ack-ack.ensures)
     (does-packet c.packet-outcome.result c.packet-outcome.new.state c.packet-outcome.new.memory c.packet-outcome.new.out
     (call_on c.args.state.now c.args.memory.now (packet (door_of c.args.state.now) c.args.kind c.args.id c.args.words.now c.zero_ack-ack.result)) c.packet-outcome.ensures.1

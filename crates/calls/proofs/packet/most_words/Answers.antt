@@ -8,7 +8,7 @@ use lib.Seq.{take-length, length-take-le}
 use Rattle.calls.proofs.packet.most_words.Goals as goal
 
 pub returns-then-n-words : goal.returns-then-n-words
-returns-then-n-words c = let a = c.args in (omega arith, omega arith, omega arith, sym (length-take-le c.args.n c.args.words.now (omega arith)))
+returns-then-n-words c = (omega arith, omega arith, omega arith, sym (length-take-le c.args.n c.args.words.now (omega arith)))
 
 pub returns : goal.returns
-returns c = let a = c.args in (omega arith, omega arith, omega arith, sym (ap (λ (l : List ℕ). length l) (take-length c.args.words.now)))
+returns c = (omega arith, omega arith, omega arith, sym (ap (λ (l : List ℕ). length l) (take-length c.args.words.now)))

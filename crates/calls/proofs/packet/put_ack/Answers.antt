@@ -12,7 +12,6 @@ use Rattle.calls.proofs.packet.put_ack.Goals as goal
 pub returns : goal.returns
 unfolding ack_line field
 returns c =
-    let a = c.args in
     let words = c.args.words.now in
     let r1 = c.put_number-first.result in
     let r2 = c.put_field-second.result in

@@ -9,7 +9,5 @@ use Rattle.calls.proofs.query.make_why.Goals as goal
 pub returns : goal.returns
 unfolding why_made
 returns c =
-    let a = c.args in
-    let e = c.put_reason.ensures in
     let said : c.recounted-reason.result ≡ recounted c.args.count (why_on c.args.state.now c.args.message.now) = c.recounted-reason.ensures ∙ ap (recounted c.args.count) c.why.ensures in
     record { state = refl; memory = refl; text = prints-as _ _ _ _ _ (ap why_line said) (record { size = c.put_reason.ensures.value; fits = c.put_reason.ensures.upper_bound; laid = c.put_reason.ensures.out_after }) }

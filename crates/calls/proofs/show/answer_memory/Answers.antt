@@ -23,7 +23,6 @@ returns-then-not-ends_within c =
 pub returns : goal.returns
 unfolding memory_effect
 returns c =
-    let s = c.args in
     let a = c.then-address.result.value in
     let n = c.then-count.result in
     let P : c.then-process.result ≡ memory_p c.args.line.now = c.then-process.ensures.value ∙ ap (behind 7 c.args.line.now) c.start.ensures in

@@ -17,9 +17,6 @@ returns-then-not-ends c =
 pub returns : goal.returns
 unfolding process_effect
 returns c =
-    let p = c.put_process.ensures in
-    let start = c.read_start-start in
-    let record_of = c.read_process_at-p in
     let is : c.then-process.result ≡ shown_p c.args.line.now = c.then-process.ensures.value ∙ ap (behind 7 c.args.line.now) c.start.ensures in
     let right = sym c.ends.ensures ∙ c.if-not-ends.false in
     let same = ap (λ (q : Process). process_line q c.read_start-start.result) c.read_process_at-p.ensures ∙ ap (process_line _) c.read_start-start.ensures in

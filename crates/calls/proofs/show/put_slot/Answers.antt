@@ -6,9 +6,5 @@ use Rattle.calls.proofs.show.put_slot.Goals as goal
 
 pub returns : goal.returns
 returns c =
-    let p = c.put_pairs.ensures in
-    let start = c.at_most-start in
-    let end = c.at_most-end in
-    let a = c.args in
     let same = part-slot c.args.from c.args.count c.at_most-start.result c.at_most-end.result c.args.memory.now c.at_most-start.ensures.0 c.at_most-end.ensures.0 in
     prints-as _ _ _ _ _ (ap pairs_line same) (record { size = c.put_pairs.ensures.value; fits = c.put_pairs.ensures.upper_bound; laid = c.put_pairs.ensures.out_after })

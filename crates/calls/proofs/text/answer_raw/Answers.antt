@@ -14,8 +14,6 @@ returns-then-not-is_full c = does-wrong _ _ _ _ _ _ _ _ _ (sym c.is_full.ensures
 pub returns : goal.returns
 unfolding raw_effect
 returns c =
-    let a = c.args in
-    let e = c.part-scan.ensures in
     let n = c.new.ensures in
     let same = pairs_made 36 (λ x. text_made Recorded x c.args.state.now c.args.memory.now) (λ n x h. text-front Recorded n x c.args.state.now c.args.memory.now h) c.new.result c.part-scan.result _ c.args.pairs.now _ _ c.new.ensures.phase_value c.new.ensures.len_value c.part-scan.ensures.len_value c.part-scan.ensures.buffer_after c.at_most-n.ensures.0 (omega arith) in
     does-right _ _ _ _ _ _ _ _ _ (sym c.is_full.ensures ∙ c.if-not-is_full.false) (does-as _ _ _ _ _ _ _ same c.make_text.ensures)

@@ -11,6 +11,5 @@ use Rattle.calls.proofs.text.answer_text.Goals as goal
 pub returns : goal.returns
 unfolding text_effect
 returns c =
-    let a = c.args in
     let line = printed _ _ _ _ _ c.put_ended.ensures c.at_most-n.ensures.0 in
     does-as _ _ _ _ _ _ _ (ap (λ (l : List ℕ). text_made c.args.shown l c.args.state.now c.args.memory.now) line ∙ ended-front c.args.shown 35 c.args.text.now c.args.state.now c.args.memory.now (omega arith)) c.make_text.ensures

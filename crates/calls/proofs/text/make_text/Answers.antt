@@ -10,7 +10,6 @@ use Rattle.calls.proofs.text.make_text.Goals as goal
 pub returns : goal.returns
 unfolding text_made Did
 returns c =
-    let a = c.args in
     let line = c.text_line-outcome.new.out in
     rw (← c.zero_line-line.ensures)
     (does-text c.args.shown c.text_line-outcome.result c.text_line-outcome.new.state c.text_line-outcome.new.memory line (call_on c.args.state.now c.args.memory.now (text_line c.args.text.now c.zero_line-line.result)) c.text_line-outcome.ensures c.number.result c.line_length.result c.at_most-n.result c.put_text.result c.args.out.now _

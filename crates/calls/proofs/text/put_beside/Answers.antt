@@ -6,11 +6,9 @@ use Rattle.calls.proofs.text.put_beside.Goals as goal
 
 pub returns-then-line-eq0 : goal.returns-then-line-eq0
 returns-then-line-eq0 c =
-    let a = c.args in
     put_as c.args.at _ _ _ c.args.out.now _ (sym (beside_none c.args.shown c.args.line.now c.if-line-eq0.true)) c.put.ensures
 
 pub returns : goal.returns
 returns c =
-    let a = c.args in
     put_as c.args.at _ _ _ c.args.out.now _ (sym (beside-some c.args.shown c.args.line.now c.if-line-eq0.false))
     (put_then c.args.at c.put_between-next.result _ _ c.args.line.now c.args.out.now _ _ c.put_between-next.ensures.put c.put-2.ensures)

@@ -10,7 +10,6 @@ use Rattle.calls.proofs.text.put_ended.Goals as goal
 
 pub returns : goal.returns
 returns c =
-    let a = c.args in
     let text = c.args.text.now in
     let front : take c.at_most-n.result text ≡ take 35 text = ap (λ (n : ℕ). take n text) c.at_most-n.ensures.0 ∙ take-at-most 35 text in
     prints-put (take 35 text ++ (10 ∷ [])) _ c.args.line.now _ (omega (arith, length-append (take 35 text) (10 ∷ []), length-take 35 text, c.requires))

@@ -8,13 +8,11 @@ use Rattle.calls.proofs.text.put_recorded.Goals as goal
 
 pub returns-then-line-eq0 : goal.returns-then-line-eq0
 returns-then-line-eq0 c =
-    let a = c.args in
     put_as 0 _ _ _ c.args.out.now _ (sym (recorded-none c.args.number c.args.line.now c.if-line-eq0.true))
     (put_then 0 c.put_number-at.result _ (numeral c.args.number) (32 ∷ 45 ∷ 10 ∷ []) c.args.out.now _ _ c.put_number-at.ensures.put c.put.ensures)
 
 pub returns : goal.returns
 returns c =
-    let a = c.args in
     put_as 0 _ _ _ c.args.out.now _ (sym (recorded-some c.args.number c.args.line.now c.if-line-eq0.false))
     (put_then 0 c.put_number-at.result _ (numeral c.args.number) ((32 ∷ []) ++ c.args.line.now) c.args.out.now _ _ c.put_number-at.ensures.put
     (put_then c.put_number-at.result c.put-next.result _ (32 ∷ []) c.args.line.now _ _ _ c.put-next.ensures c.put-2.ensures))

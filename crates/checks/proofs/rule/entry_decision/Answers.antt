@@ -16,6 +16,5 @@ returns-then-cmd-eq-UNBREAK c = c.unbreak_decision.ensures ∙ unbreak-decides _
 pub returns : goal.returns
 unfolding entry_decision entry_of decision_by first_failing
 returns c =
-    let a = c.args in
     let r = coded c.args.h.cmd in
     rw (r.room c.args.h c.args.process, r.found c.args.h c.args.process, r.his c.args.h c.args.process, ne_eqb _ _ c.if-cmd-eq-BREAK.false, ne_eqb _ _ c.if-cmd-eq-UNBREAK.false)

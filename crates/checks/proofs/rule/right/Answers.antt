@@ -38,6 +38,4 @@ returns-in-15 c = rw c.in-15.is c.watches.ensures
 
 pub returns-in_default : goal.returns-in_default
 returns-in_default c =
-    let a = c.args in
-    let n = c.in_default.in_default-own.rest in
     rw ((coded c.args.cmd).right (public c.args.process) c.args.asker, ne_eqb _ 1 c.in_default.in_default-own.rest.0.0.0.0.0.0.1, ne_eqb _ 6 c.in_default.in_default-own.rest.0.0.0.0.0.1, ne_eqb _ 8 c.in_default.in_default-own.rest.0.0.0.0.1, ne_eqb _ 9 c.in_default.in_default-own.rest.0.0.0.1, ne_eqb _ 16 c.in_default.in_default-own.rest.0.0.1, ne_eqb _ 14 c.in_default.in_default-own.rest.0.1, ne_eqb _ 15 c.in_default.in_default-own.rest.1) c.debugs.ensures

@@ -4,16 +4,16 @@ use Rattle.checks.proofs.OpLaws.{coded}
 use Rattle.checks.proofs.rule.runs.Goals as goal
 
 pub returns-then-cmd-eq-RESUME : goal.returns-then-cmd-eq-RESUME
-returns-then-cmd-eq-RESUME c = let a = c.args in rw ((coded c.args.cmd).runs c.args.run, eq-eqb _ _ c.if-cmd-eq-RESUME.true) c.stopped_or_at_break.ensures
+returns-then-cmd-eq-RESUME c = rw ((coded c.args.cmd).runs c.args.run, eq-eqb _ _ c.if-cmd-eq-RESUME.true) c.stopped_or_at_break.ensures
 
 pub returns-then-cmd-eq-SINGLE_STEP : goal.returns-then-cmd-eq-SINGLE_STEP
 returns-then-cmd-eq-SINGLE_STEP c =
-    let a = c.args in rw ((coded c.args.cmd).runs c.args.run, ne_eqb _ _ c.if-cmd-eq-RESUME.false, eq-eqb _ _ c.if-cmd-eq-SINGLE_STEP.true) c.stopped_or_at_break-then-cmd-eq-SINGLE_STEP.ensures
+    rw ((coded c.args.cmd).runs c.args.run, ne_eqb _ _ c.if-cmd-eq-RESUME.false, eq-eqb _ _ c.if-cmd-eq-SINGLE_STEP.true) c.stopped_or_at_break-then-cmd-eq-SINGLE_STEP.ensures
 
 pub returns-then-cmd-eq-PROCEED : goal.returns-then-cmd-eq-PROCEED
 returns-then-cmd-eq-PROCEED c =
-    let a = c.args in rw ((coded c.args.cmd).runs c.args.run, ne_eqb _ _ c.if-cmd-eq-RESUME.false, ne_eqb _ _ c.if-cmd-eq-SINGLE_STEP.false, eq-eqb _ _ c.if-cmd-eq-PROCEED.true) c.at_break.ensures
+    rw ((coded c.args.cmd).runs c.args.run, ne_eqb _ _ c.if-cmd-eq-RESUME.false, ne_eqb _ _ c.if-cmd-eq-SINGLE_STEP.false, eq-eqb _ _ c.if-cmd-eq-PROCEED.true) c.at_break.ensures
 
 pub returns : goal.returns
 returns c =
-    let a = c.args in rw ((coded c.args.cmd).runs c.args.run, ne_eqb _ _ c.if-cmd-eq-RESUME.false, ne_eqb _ _ c.if-cmd-eq-SINGLE_STEP.false, ne_eqb _ _ c.if-cmd-eq-PROCEED.false)
+    rw ((coded c.args.cmd).runs c.args.run, ne_eqb _ _ c.if-cmd-eq-RESUME.false, ne_eqb _ _ c.if-cmd-eq-SINGLE_STEP.false, ne_eqb _ _ c.if-cmd-eq-PROCEED.false)

@@ -10,20 +10,17 @@ use Rattle.checks.proofs.rule.unbreak_decision.Goals as goal
 
 pub own_decision-requires : goal.own_decision-requires
 own_decision-requires c =
-    let a = c.args in
     let at = found-index (find (At c.args.a) c.args.process) _ (sym c.find-found.ensures ∙ c.in-Index.is) in
     rw at.same at at.low
 
 pub returns-in-Index : goal.returns-in-Index
 unfolding unbreak_decision has_break
 returns-in-Index c =
-    let a = c.args in
     let at = found-index (find (At c.args.a) c.args.process) _ (sym c.find-found.ensures ∙ c.in-Index.is) in
     rw (lt-ltb _ _ at.low, at.same) c.own_decision.ensures
 
 pub returns-in-Nowhere : goal.returns-in-Nowhere
 unfolding unbreak_decision has_break
 returns-in-Nowhere c =
-    let a = c.args in
     let none = found_nowhere (find (At c.args.a) c.args.process) (sym c.find-found.ensures ∙ c.in-Nowhere.is) in
     rw (le-ltb _ _ none)

@@ -5,8 +5,8 @@ use Rattle.checks.proofs.OpLaws.{coded}
 use Rattle.checks.proofs.rule.unwatched.Goals as goal
 
 pub returns-then-cmd-ne-WATCH : goal.returns-then-cmd-ne-WATCH
-returns-then-cmd-ne-WATCH c = let a = c.args in rw ((coded c.args.cmd).unwatched (public c.args.process) c.args.asker, ne_eqb _ _ c.if-cmd-ne-WATCH.true)
+returns-then-cmd-ne-WATCH c = rw ((coded c.args.cmd).unwatched (public c.args.process) c.args.asker, ne_eqb _ _ c.if-cmd-ne-WATCH.true)
 
 pub returns : goal.returns
 returns c =
-    let a = c.args in rw ((coded c.args.cmd).unwatched (public c.args.process) c.args.asker, eq-eqb _ _ c.if-cmd-ne-WATCH.false) c.no_other_watches.ensures
+    rw ((coded c.args.cmd).unwatched (public c.args.process) c.args.asker, eq-eqb _ _ c.if-cmd-ne-WATCH.false) c.no_other_watches.ensures

@@ -17,6 +17,5 @@ put-requires c =
 
 pub returns : goal.returns
 returns c =
-    let a = c.args in
     let text : take c.decimal-k.result c.decimal-k.new.out ≡ numeral c.args.n = c.decimal-k.ensures.digits ∙ fewest-numeral c.decimal-k.result c.args.n c.decimal-k.ensures.len in
     put_as c.args.at c.put.result _ _ c.args.out.now c.put.new.out text c.put.ensures

@@ -12,17 +12,14 @@ use Rattle.decimal.proofs.number.is_plain.Goals as goal
 
 pub returns-then-end-at : goal.returns-then-end-at
 returns-then-end-at c =
-    let a = c.args in
     sym (plain-none (drop c.args.at c.args.line.now) (c.args.end - c.args.at) (omega arith))
 
 pub returns-then-end-at-eq1 : goal.returns-then-end-at-eq1
 returns-then-end-at-eq1 c =
-    let a = c.args in
     sym (plain-single (drop c.args.at c.args.line.now) _ c.if-end-at-eq1.true (omega (arith, length-drop c.args.at c.args.line.now, c.requires)))
 
 pub returns : goal.returns
 returns c =
-    let a = c.args in
     let rest = drop c.args.at c.args.line.now in
     let one : get_or c.args.line.now c.args.at 0 ≡ get_or rest 0 0 = sym (get_or-drop c.args.at c.args.line.now 0 0 ∙ ap (λ (k : ℕ). get_or c.args.line.now k 0) (add-zero c.args.at)) in
     ap (λ (k : ℕ). not (eqb k 48)) one

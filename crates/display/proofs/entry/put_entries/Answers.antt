@@ -11,18 +11,16 @@ pub loop-i-init : goal.loop-i-init
 loop-i-init c = (omega arith, search rules, omega arith, refl, put-joined-none entry_text c.args.from c.args.out.now)
 
 pub loop-i-preserved : goal.loop-i-preserved
-loop-i-preserved c =
-    let a = c.args in (
-      omega arith,
-      c.loop-i.invariant.1,
-      omega (arith, c.put_entry-at.ensures.upper_bound),
-      search rules,
-      put-more entry_text free c.args.breaks c.loop-i.i c.args.from c.loop-i.at c.put_entry-at.result c.args.out.now c.loop-i.out c.put_entry-at.new.out (omega arith) c.loop-i.invariant.4 c.put_entry-at.ensures.put,
-    )
+loop-i-preserved c = (
+  omega arith,
+  c.loop-i.invariant.1,
+  omega (arith, c.put_entry-at.ensures.upper_bound),
+  search rules,
+  put-more entry_text free c.args.breaks c.loop-i.i c.args.from c.loop-i.at c.put_entry-at.result c.args.out.now c.loop-i.out c.put_entry-at.new.out (omega arith) c.loop-i.invariant.4 c.put_entry-at.ensures.put,
+)
 
 pub returns : goal.returns
 returns c =
-    let a = c.args in
     record {
       put = put-joined-all entry_text c.args.breaks c.loop-i.i c.args.from c.loop-i.at c.args.out.now c.loop-i.out (omega arith) c.loop-i.invariant.4;
       upper_bound = omega arith;

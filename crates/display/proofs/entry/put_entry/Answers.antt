@@ -14,7 +14,6 @@ use Rattle.display.proofs.entry.put_entry.Goals as goal
 pub returns : goal.returns
 unfolding entry_text
 returns c =
-    let a = c.args in
     let out1 = c.put_field-used.new.out in
     let out2 = c.put_field-address.new.out in
     let out3 = c.put_field-count.new.out in

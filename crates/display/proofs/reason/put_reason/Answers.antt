@@ -10,7 +10,6 @@ use Rattle.display.proofs.reason.put_reason.Goals as goal
 pub returns : goal.returns
 unfolding why_line
 returns c =
-    let a = c.args in
     let end = c.put_text-end.result in
     let out1 = c.put_text-end.new.out in
     let out2 = c.put_mark.new.out in

@@ -14,7 +14,6 @@ returns-then-number-eq0 c =
 pub returns : goal.returns
 unfolding reason_text
 returns c =
-    let a = c.args in
     let out1 = c.put_number-at.new.out in
     let out2 = c.put_facts.new.out in
     rw (← c.number-number.ensures, ne_eqb _ 0 c.if-number-eq0.false) record {

@@ -11,7 +11,6 @@ use Rattle.display.proofs.record.put_go.Goals as goal
 pub returns-then-not-go : goal.returns-then-not-go
 unfolding go_text go_shown
 returns-then-not-go c =
-    let a = c.args in
     let at = c.put-at.result in
     let out1 = c.put-at.new.out in
     let out2 = c.put_mark.new.out in
@@ -26,7 +25,6 @@ returns-then-not-go c =
 pub returns : goal.returns
 unfolding go_text go_shown
 returns c =
-    let a = c.args in
     let at = c.put-at.result in
     let out1 = c.put-at.new.out in
     let out2 = c.put_waiting.new.out in

@@ -12,7 +12,6 @@ use Rattle.display.proofs.record.put_head.Goals as goal
 pub returns : goal.returns
 unfolding head_text
 returns c =
-    let a = c.args in
     let out1 = c.put_number-first.new.out in
     let out2 = c.put_field-second.new.out in
     let out3 = c.put_field.new.out in

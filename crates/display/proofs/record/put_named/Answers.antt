@@ -8,7 +8,6 @@ use Rattle.display.proofs.record.put_named.Goals as goal
 pub returns : goal.returns
 unfolding named
 returns c =
-    let a = c.args in
     let out1 = c.put-at.new.out in
     let out2 = c.put_field.new.out in record {
       put = put_then c.args.from c.put-at.result c.put_field.result c.args.name.now (field 32 c.args.n) c.args.out.now out1 out2 c.put-at.ensures c.put_field.ensures.put;

@@ -10,7 +10,6 @@ use Rattle.display.proofs.record.put_owed.Goals as goal
 pub returns : goal.returns
 unfolding owed_text
 returns c =
-    let a = c.args in
     let at = c.put-at.result in
     let out1 = c.put-at.new.out in
     let out2 = c.put_mark.new.out in

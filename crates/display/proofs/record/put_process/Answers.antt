@@ -11,7 +11,6 @@ use Rattle.display.proofs.record.put_process.Goals as goal
 pub returns : goal.returns
 unfolding process_line
 returns c =
-    let a = c.args in
     let end = c.put_named-end.result in
     let out1 = c.put_record-record.new.out in
     let out2 = c.put_named-end.new.out in

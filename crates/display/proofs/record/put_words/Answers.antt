@@ -10,18 +10,16 @@ pub loop-i-init : goal.loop-i-init
 loop-i-init c = (omega arith, search rules, omega arith, refl, put-joined-none word_text c.args.from c.args.out.now)
 
 pub loop-i-preserved : goal.loop-i-preserved
-loop-i-preserved c =
-    let a = c.args in (
-      omega arith,
-      c.loop-i.invariant.1,
-      omega (arith, c.put_field-at.ensures.upper_bound),
-      search rules,
-      put-more word_text 0 c.args.words c.loop-i.i c.args.from c.loop-i.at c.put_field-at.result c.args.out.now c.loop-i.out c.put_field-at.new.out (omega arith) c.loop-i.invariant.4 c.put_field-at.ensures.put,
-    )
+loop-i-preserved c = (
+  omega arith,
+  c.loop-i.invariant.1,
+  omega (arith, c.put_field-at.ensures.upper_bound),
+  search rules,
+  put-more word_text 0 c.args.words c.loop-i.i c.args.from c.loop-i.at c.put_field-at.result c.args.out.now c.loop-i.out c.put_field-at.new.out (omega arith) c.loop-i.invariant.4 c.put_field-at.ensures.put,
+)
 
 pub returns : goal.returns
 returns c =
-    let a = c.args in
     record {
       put = put-joined-all word_text c.args.words c.loop-i.i c.args.from c.loop-i.at c.args.out.now c.loop-i.out (omega arith) c.loop-i.invariant.4;
       upper_bound = omega arith;

@@ -8,7 +8,6 @@ use Rattle.fields.proofs.answer.write_answer.Goals as goal
 
 pub returns : goal.returns
 returns c =
-    let a = c.args in
     let e = c.fields.ensures in record {
       value = c.write_fields.ensures.value ∙ ap (λ (x : Fields). length (written x)) e;
       upper_bound = c.write_fields.ensures.upper_bound;

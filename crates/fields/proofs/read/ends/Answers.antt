@@ -4,10 +4,10 @@ use Rattle.fields.proofs.LineLaws.{ends-past, ends-other, ends_last}
 use Rattle.fields.proofs.read.ends.Goals as goal
 
 pub returns-then-text-at : goal.returns-then-text-at
-returns-then-text-at c = let a = c.args in ends-past c.args.text.now c.args.at c.if-text-at.true
+returns-then-text-at c = ends-past c.args.text.now c.args.at c.if-text-at.true
 
 pub returns-then-text-at-ne10 : goal.returns-then-text-at-ne10
-returns-then-text-at-ne10 c = let a = c.args in ends-other c.args.text.now c.args.at c.if-text-at-ne10.true
+returns-then-text-at-ne10 c = ends-other c.args.text.now c.args.at c.if-text-at-ne10.true
 
 pub returns : goal.returns
-returns c = let a = c.args in ends_last c.args.text.now c.args.at (omega arith) c.if-text-at-ne10.false
+returns c = ends_last c.args.text.now c.args.at (omega arith) c.if-text-at-ne10.false

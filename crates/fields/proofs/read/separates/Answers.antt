@@ -4,10 +4,10 @@ use Rattle.fields.proofs.LineLaws.{separates-end, separates-blank, separates-oth
 use Rattle.fields.proofs.read.separates.Goals as goal
 
 pub returns-then-text-at : goal.returns-then-text-at
-returns-then-text-at c = let a = c.args in separates-end c.args.text.now c.args.at c.if-text-at.true
+returns-then-text-at c = separates-end c.args.text.now c.args.at c.if-text-at.true
 
 pub returns-then-text-at-eq32 : goal.returns-then-text-at-eq32
-returns-then-text-at-eq32 c = let a = c.args in separates-blank c.args.text.now c.args.at (omega arith) c.if-text-at-eq32.true
+returns-then-text-at-eq32 c = separates-blank c.args.text.now c.args.at (omega arith) c.if-text-at-eq32.true
 
 pub returns : goal.returns
-returns c = let a = c.args in separates-other c.args.text.now c.args.at (omega arith) c.if-text-at-eq32.false
+returns c = separates-other c.args.text.now c.args.at (omega arith) c.if-text-at-eq32.false

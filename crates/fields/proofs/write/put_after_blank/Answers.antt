@@ -13,13 +13,11 @@ put_number-requires c = simp length-set (omega arith)
 
 pub shape_of-out : goal.shape_of-out
 shape_of-out c =
-    let a = c.args in
     put-length (c.args.at + 1) c.put_number.result (hex_numeral c.args.n) (set c.args.out.now c.args.at 32) c.put_number.new.out c.put_number.ensures.put ∙ simp length-set
 
 pub returns : goal.returns
 unfolding blank_numeral
 returns c =
-    let a = c.args in
     record {
       put = put-after-one c.args.at 32 c.put_number.result (hex_numeral c.args.n) c.args.out.now c.put_number.new.out c.put_number.ensures.put;
       upper_bound = omega (arith, c.put_number.ensures.upper_bound);

@@ -43,7 +43,7 @@ shape_of-out c = length-set c.loop-rest.out _ _ ∙ c.loop-rest.invariant.2
 pub returns : goal.returns
 returns c =
     let rest = c.loop-rest.rest in
-    let e = c.digit_count.ensures in record {
+    record {
       put = (
         omega (arith, c.digit_count.ensures.value),
         ap (λ (v : ℕ). set c.loop-rest.out c.args.at v) c.digit-2.ensures ∙ digits-done rest c.args.at c.loop-rest.out (omega arith) ∙ c.loop-rest.invariant.3,

@@ -15,13 +15,11 @@ put_digits-requires c = simp length-set (omega arith)
 
 pub shape_of-out : goal.shape_of-out
 shape_of-out c =
-    let a = c.args in
     put-length (c.args.at + 2) c.put_digits.result (hex_digits c.args.n) (set (set c.args.out.now c.args.at 48) (c.args.at + 1) 120) c.put_digits.new.out c.put_digits.ensures.put ∙ simp length-set
 
 pub returns : goal.returns
 unfolding hex_numeral
 returns c =
-    let a = c.args in
     record {
       put = put-after-two c.args.at 48 120 c.put_digits.result (hex_digits c.args.n) c.args.out.now c.put_digits.new.out c.put_digits.ensures.put;
       upper_bound = omega (arith, c.put_digits.ensures.upper_bound);

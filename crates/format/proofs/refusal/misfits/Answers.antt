@@ -10,7 +10,6 @@ returns-then-not-fields_right c = rw (← c.fields_right.ensures, c.if-not-field
 
 pub overflow_add-result : goal.overflow_add-result
 overflow_add-result c =
-    let a = c.args in
     omega (arith, c.carried_length.ensures, carried_length-≤ c.args.f.carried c.args.h.arg2)
 
 pub returns : goal.returns

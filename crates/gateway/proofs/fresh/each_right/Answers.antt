@@ -13,13 +13,11 @@ loop-p-init c = (omega arith, search rules, refl)
 pub returns-then-not-size_right : goal.returns-then-not-size_right
 unfolding each_right
 returns-then-not-size_right c =
-    let a = c.args in
     let is = rw c.size_of.ensures at c.size_right.ensures in
     sym (below_fails (right c.args.there c.args.sizes) 8 c.loop-p.p c.loop-p-test.true (sym is ∙ c.if-not-size_right.true))
 
 pub loop-p-preserved : goal.loop-p-preserved
 loop-p-preserved c =
-    let a = c.args in
     let is = rw c.size_of.ensures at c.size_right.ensures in
     (omega arith, c.loop-p.invariant.1, below_more (right c.args.there c.args.sizes) c.loop-p.p c.loop-p.invariant.2 (sym is ∙ c.if-not-size_right.false))
 

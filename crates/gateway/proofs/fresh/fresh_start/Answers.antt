@@ -15,12 +15,10 @@ returns-then-state-ne-STATE_BYTES c = rw (ne_eqb (length c.args.state.now) state
 pub returns-then-not-sizes_right : goal.returns-then-not-sizes_right
 unfolding start_on
 returns-then-not-sizes_right c =
-    let a = c.args in
     rw (eq-eqb (length c.args.state.now) state_width c.if-state-ne-STATE_BYTES.false, ← c.sizes_right.ensures, c.if-not-sizes_right.true) refl
 
 pub put_fresh_start-requires : goal.put_fresh_start-requires
 put_fresh_start-requires c =
-    let x = c.sizes_right in
     record {
       sizes_value = sym c.sizes_right.ensures ∙ c.if-not-sizes_right.false;
       state_len = search rules;
@@ -29,5 +27,4 @@ put_fresh_start-requires c =
 pub returns : goal.returns
 unfolding start_on
 returns c =
-    let a = c.args in
     rw (eq-eqb (length c.args.state.now) state_width c.if-state-ne-STATE_BYTES.false, ← c.sizes_right.ensures, c.if-not-sizes_right.false) (ap (started (outcome 0 0)) c.put_fresh_start.ensures)

@@ -21,14 +21,12 @@ loop-p-init c = (omega arith, search rules, refl, omega arith)
 
 pub overflow_add-sum : goal.overflow_add-sum
 overflow_add-sum c =
-    let a = c.args in
     let short : c.size_needed-sum.result ≤ 65535 = rw c.size_needed-sum.ensures (cond_short (get_or c.args.there c.loop-p.p false) c.size_of.result (omega arith)) in
     omega arith
 
 pub loop-p-preserved : goal.loop-p-preserved
 unfolding total
 loop-p-preserved c =
-    let a = c.args in
     let short : c.size_needed-sum.result ≤ 65535 = rw c.size_needed-sum.ensures (cond_short (get_or c.args.there c.loop-p.p false) c.size_of.result (omega arith)) in
     let is : c.size_needed-sum.result ≡ bytes_of c.args.there c.args.sizes c.loop-p.p = rw c.size_of.ensures at c.size_needed-sum.ensures in
     (omega arith, c.loop-p.invariant.1, rw (add-one c.loop-p.p) (ap₂ (λ (x y : ℕ). x + y) c.loop-p.invariant.2 is), omega arith)

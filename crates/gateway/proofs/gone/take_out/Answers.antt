@@ -15,13 +15,10 @@ use Rattle.gateway.proofs.gone.take_out.Goals as goal
 
 pub used_bytes-end-requires : goal.used_bytes-end-requires
 used_bytes-end-requires c =
-    let a = c.args in
     omega (arith, formed-long c.args.state.now (sound-formed c.args.state.now c.requires.state_value.0))
 
 pub close-requires : goal.close-requires
 close-requires c =
-    let u = c.used_bytes-end in
-    let a = c.args in
     let st = lent (state_of c.args.state.now) c.args.memory.now in
     let laid = layout_of st (sound-ready c.args.state.now c.args.memory.now c.requires.state_value.0 c.requires.state_value.1) in
     let inside : c.args.start + c.args.count ≤ used (state_of c.args.state.now) = rw (c.requires.start_value.0, c.requires.start_value.1) (start-inside (state_of c.args.state.now) laid c.args.pid c.requires.pid_bound.0 c.requires.pid_bound.1) in
@@ -29,7 +26,6 @@ close-requires c =
 
 pub put_starts_without-requires : goal.put_starts_without-requires
 put_starts_without-requires c =
-    let a = c.args in
     record {
       p_lt_process_count = omega (arith, c.requires.pid_bound.0);
       state_len = formed-long c.args.state.now (sound-formed c.args.state.now c.requires.state_value.0);
@@ -37,7 +33,6 @@ put_starts_without-requires c =
 
 pub put_process_at-requires : goal.put_process_at-requires
 put_process_at-requires c =
-    let a = c.args in
     record {
       p_lt_process_count = c.requires.pid_bound.0;
       state_len = c.put_starts_without.auto.state ∙ formed-long c.args.state.now (sound-formed c.args.state.now c.requires.state_value.0);
@@ -46,11 +41,6 @@ put_process_at-requires c =
 pub returns : goal.returns
 unfolding taken_out
 returns c =
-    let f = c.put_process_at in
-    let b = c.put_starts_without in
-    let k = c.close in
-    let u = c.used_bytes-end in
-    let a = c.args in
     let bytes : Bytes c.args.state.now = λ i. omega (arith, c.slice_known-1.given i) in
     let more : Bytes (with_starts_bytes (starts_without c.args.pid (state_of c.args.state.now)) c.args.state.now) = λ i. rw (← c.put_starts_without.ensures) (omega (arith, c.slice_known-4-1.given i)) in
     let formed = sound-formed c.args.state.now c.requires.state_value.0 in record {

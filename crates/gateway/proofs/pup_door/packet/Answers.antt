@@ -16,13 +16,11 @@ use Rattle.gateway.proofs.pup_door.packet.Goals as goal
 pub returns-then-number-ne0 : goal.returns-then-number-ne0
 unfolding Did
 returns-then-number-ne0 c =
-    let a = c.args in
     (refl, packet-unfit c.args.state.now c.args.memory.now (door_of c.args.state.now) c.args.kind c.args.id c.args.words.now c.args.out.now _ c.check_ack_buffer_and_state-number.ensures c.if-number-ne0.true)
 
 pub returns-then-too_few : goal.returns-then-too_few
 unfolding Did step
 returns-then-too_few c =
-    let a = c.args in
     let zero = sym c.check_ack_buffer_and_state-number.ensures ∙ c.if-number-ne0.false in
     let st = lent (state_of c.args.state.now) c.args.memory.now in
     let fit = ack-fits c.args.state.now c.args.memory.now c.args.out.now zero in
@@ -36,7 +34,6 @@ returns-then-too_few c =
 pub returns-then-not-is_known : goal.returns-then-not-is_known
 unfolding Did step
 returns-then-not-is_known c =
-    let a = c.args in
     let zero = sym c.check_ack_buffer_and_state-number.ensures ∙ c.if-number-ne0.false in
     let st = lent (state_of c.args.state.now) c.args.memory.now in
     let fit = ack-fits c.args.state.now c.args.memory.now c.args.out.now zero in
@@ -50,14 +47,12 @@ returns-then-not-is_known c =
 
 pub read_door-door-requires : goal.read_door-door-requires
 read_door-door-requires c =
-    let a = c.args in
     let zero = sym c.check_ack_buffer_and_state-number.ensures ∙ c.if-number-ne0.false in
     omega (arith, (ack-fits c.args.state.now c.args.memory.now c.args.out.now zero).long)
 
 pub returns-then-door-ge8 : goal.returns-then-door-ge8
 unfolding Did step
 returns-then-door-ge8 c =
-    let a = c.args in
     let zero = sym c.check_ack_buffer_and_state-number.ensures ∙ c.if-number-ne0.false in
     let st = lent (state_of c.args.state.now) c.args.memory.now in
     let fit = ack-fits c.args.state.now c.args.memory.now c.args.out.now zero in
@@ -81,7 +76,6 @@ packet_known-requires c =
 pub returns : goal.returns
 unfolding Did step
 returns c =
-    let a = c.args in
     let zero = sym c.check_ack_buffer_and_state-number.ensures ∙ c.if-number-ne0.false in
     let st = lent (state_of c.args.state.now) c.args.memory.now in
     let fit = ack-fits c.args.state.now c.args.memory.now c.args.out.now zero in

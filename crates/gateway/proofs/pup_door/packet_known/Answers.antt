@@ -16,7 +16,6 @@ use Rattle.gateway.proofs.pup_door.packet_known.Goals as goal
 
 pub read_process_at-process-requires : goal.read_process_at-process-requires
 read_process_at-process-requires c =
-    let a = c.args in
     let fit = ack-fits c.args.state.now c.args.memory.now c.args.out.now c.requires.out_value in
     record {
       p_lt_process_count = c.requires.pid_bound.0;
@@ -25,7 +24,6 @@ read_process_at-process-requires c =
 
 pub start_of-start-requires : goal.start_of-start-requires
 start_of-start-requires c =
-    let a = c.args in
     let fit = ack-fits c.args.state.now c.args.memory.now c.args.out.now c.requires.out_value in
     record {
       pid_bound = c.requires.pid_bound.0;
@@ -34,31 +32,19 @@ start_of-start-requires c =
 
 pub overflow_add-end : goal.overflow_add-end
 overflow_add-end c =
-    let a = c.args in
     let fit = ack-fits c.args.state.now c.args.memory.now c.args.out.now c.requires.out_value in
-    let t = c.start_of-start in
-    let x = c.extent in
-    let q = c.read_process_at-process in
     let st = lent (state_of c.args.state.now) c.args.memory.now in
     omega (arith, fit.ready.memory, part-inside st fit.ready c.args.pid c.start_of-start.result c.extent.result c.read_process_at-process.result c.requires.pid_bound.0 c.start_of-start.ensures c.read_process_at-process.ensures c.extent.ensures)
 
 pub slice_bounds-packet_for_process-end : goal.slice_bounds-packet_for_process-end
 slice_bounds-packet_for_process-end c =
-    let a = c.args in
     let fit = ack-fits c.args.state.now c.args.memory.now c.args.out.now c.requires.out_value in
-    let t = c.start_of-start in
-    let x = c.extent in
-    let q = c.read_process_at-process in
     let st = lent (state_of c.args.state.now) c.args.memory.now in
     part-inside st fit.ready c.args.pid c.start_of-start.result c.extent.result c.read_process_at-process.result c.requires.pid_bound.0 c.start_of-start.ensures c.read_process_at-process.ensures c.extent.ensures
 
 pub packet_for_process-served-requires : goal.packet_for_process-served-requires
 packet_for_process-served-requires c =
-    let a = c.args in
     let fit = ack-fits c.args.state.now c.args.memory.now c.args.out.now c.requires.out_value in
-    let t = c.start_of-start in
-    let x = c.extent in
-    let q = c.read_process_at-process in
     let st = lent (state_of c.args.state.now) c.args.memory.now in
     record {
       tested = tested-part st fit.ready c.args.pid c.start_of-start.result c.extent.result c.read_process_at-process.result c.requires.pid_bound.0 c.start_of-start.ensures c.read_process_at-process.ensures c.extent.ensures;
@@ -68,7 +54,6 @@ packet_for_process-served-requires c =
 
 pub keep-requires : goal.keep-requires
 keep-requires c =
-    let a = c.args in
     let fit = ack-fits c.args.state.now c.args.memory.now c.args.out.now c.requires.out_value in
     record {
       pid_bound = c.requires.pid_bound.0;
@@ -78,14 +63,8 @@ keep-requires c =
 pub returns : goal.returns
 unfolding packet_step_at
 returns c =
-    let a = c.args in
     let fit = ack-fits c.args.state.now c.args.memory.now c.args.out.now c.requires.out_value in
-    let t = c.start_of-start in
-    let x = c.extent in
-    let q = c.read_process_at-process in
     let st = lent (state_of c.args.state.now) c.args.memory.now in
-    let f = c.keep in
-    let v = c.packet_for_process-served in
     let bytes : Bytes c.args.state.now = λ k. omega (arith, c.slice_known-1.given k) in
     let does = rw (local-part st fit.ready c.args.pid c.start_of-start.result c.extent.result c.read_process_at-process.result c.requires.pid_bound.0 c.start_of-start.ensures c.read_process_at-process.ensures c.extent.ensures) at c.packet_for_process-served.ensures in
     let stays = ap (λ (z : ProcessResult). z.left.process.there) does ∙ packet-stays c.args.kind c.args.id c.args.words.now c.args.out.now (local_of st c.args.pid) in

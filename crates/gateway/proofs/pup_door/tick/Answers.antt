@@ -14,25 +14,21 @@ use Rattle.gateway.proofs.pup_door.tick.Goals as goal
 pub returns-then-number-ne0 : goal.returns-then-number-ne0
 unfolding Did
 returns-then-number-ne0 c memory =
-    let a = c.args in
     (refl, tick-unfit c.args.state.now memory (door_of c.args.state.now) _ c.check_state_alone-number.ensures c.if-number-ne0.true)
 
 pub read_door-door-requires : goal.read_door-door-requires
 read_door-door-requires c =
-    let a = c.args in
     let zero = sym c.check_state_alone-number.ensures ∙ c.if-number-ne0.false in
     omega (arith, formed-long c.args.state.now (sound-formed c.args.state.now (passed c.args.state.now false zero).1))
 
 pub tick_at-requires : goal.tick_at-requires
 tick_at-requires c =
-    let a = c.args in
     let zero = sym c.check_state_alone-number.ensures ∙ c.if-number-ne0.false in
     (omega arith, (passed c.args.state.now false zero).1)
 
 pub returns-then-door-lt8 : goal.returns-then-door-lt8
 unfolding Did
 returns-then-door-lt8 c memory =
-    let a = c.args in
     let zero = sym c.check_state_alone-number.ensures ∙ c.if-number-ne0.false in
     let bytes : Bytes c.args.state.now = λ i. omega (arith, c.slice_known-1.given i) in
     let read = c.read_door-door.ensures in
@@ -42,7 +38,6 @@ returns-then-door-lt8 c memory =
 pub returns-else-door-lt8 : goal.returns-else-door-lt8
 unfolding Did
 returns-else-door-lt8 c memory =
-    let a = c.args in
     let zero = sym c.check_state_alone-number.ensures ∙ c.if-number-ne0.false in
     let bytes : Bytes c.args.state.now = λ i. omega (arith, c.slice_known-1.given i) in
     let high : 8 ≤ door_of c.args.state.now = omega (arith, c.read_door-door.ensures, c.if-door-lt8.false) in

@@ -6,7 +6,6 @@ use Rattle.gateway.proofs.queries.why.Goals as goal
 
 pub returns-then-not-state_sound : goal.returns-then-not-state_sound
 returns-then-not-state_sound c =
-    let a = c.args in
     sym (why-unsound c.args.state.now c.args.message.now (sym c.state_sound.ensures ∙ c.if-not-state_sound.true))
 
 pub why_read-requires : goal.why_read-requires
@@ -18,7 +17,6 @@ why_read-requires c =
 
 pub returns-in-Refused : goal.returns-in-Refused
 returns-in-Refused c =
-    let a = c.args in
     let sound = sym c.state_sound.ensures ∙ c.if-not-state_sound.false in
     let read = refused-found c.args.message.now _ (sym c.in-Refused.is ∙ c.read_request-incoming.ensures) in
     c.reason_without_process.ensures ∙ sym (why-refused c.args.state.now c.args.message.now sound _ (sym read))

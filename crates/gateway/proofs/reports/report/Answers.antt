@@ -11,14 +11,12 @@ use Rattle.gateway.proofs.reports.report.Goals as goal
 pub returns-then-number-ne0 : goal.returns-then-number-ne0
 unfolding Did
 returns-then-number-ne0 c =
-    let a = c.args in
     rw (c.refused.ensures.0, c.refused.ensures.1)
     (report-unfit c.args.state.now c.args.memory.now c.args.pid c.args.kind c.args.reason c.args.words c.args.notice.now c.args.line.now _ c.check_report_buffers_and_state-number.ensures c.if-number-ne0.true)
 
 pub returns-then-bad-ne0 : goal.returns-then-bad-ne0
 unfolding Did step
 returns-then-bad-ne0 c =
-    let a = c.args in
     let zero = sym c.check_report_buffers_and_state-number.ensures ∙ c.if-number-ne0.false in
     let st = lent (state_of c.args.state.now) c.args.memory.now in
     let formed = (report-fits c.args.state.now c.args.memory.now c.args.notice.now c.args.line.now zero).formed in
@@ -36,7 +34,6 @@ report_known-requires c =
 pub returns : goal.returns
 unfolding Did step
 returns c =
-    let a = c.args in
     let zero = sym c.check_report_buffers_and_state-number.ensures ∙ c.if-number-ne0.false in
     let formed = (report-fits c.args.state.now c.args.memory.now c.args.notice.now c.args.line.now zero).formed in
     rw (call-fit c.args.state.now c.args.memory.now formed (report c.args.pid c.args.kind c.args.reason c.args.words c.args.notice.now c.args.line.now)) c.report_known.ensures

@@ -15,7 +15,6 @@ use Rattle.gateway.proofs.reports.report_known.Goals as goal
 
 pub read_process_at-process-requires : goal.read_process_at-process-requires
 read_process_at-process-requires c =
-    let a = c.args in
     record {
       p_lt_process_count = report-low c.args.pid c.args.kind c.args.reason c.requires.reason_value;
       state_width_in_bounds = omega (arith, (report-fits c.args.state.now c.args.memory.now c.args.notice.now c.args.line.now c.requires.line_value).long);
@@ -23,7 +22,6 @@ read_process_at-process-requires c =
 
 pub start_of-start-requires : goal.start_of-start-requires
 start_of-start-requires c =
-    let a = c.args in
     record {
       pid_bound = report-low c.args.pid c.args.kind c.args.reason c.requires.reason_value;
       state_width_in_bounds = omega (arith, (report-fits c.args.state.now c.args.memory.now c.args.notice.now c.args.line.now c.requires.line_value).long);
@@ -31,10 +29,6 @@ start_of-start-requires c =
 
 pub overflow_add-end : goal.overflow_add-end
 overflow_add-end c =
-    let t = c.start_of-start in
-    let x = c.extent in
-    let q = c.read_process_at-process in
-    let a = c.args in
     let st = lent (state_of c.args.state.now) c.args.memory.now in
     let low = report-low c.args.pid c.args.kind c.args.reason c.requires.reason_value in
     let fit = report-fits c.args.state.now c.args.memory.now c.args.notice.now c.args.line.now c.requires.line_value in
@@ -42,10 +36,6 @@ overflow_add-end c =
 
 pub slice_bounds-report_for_process-end : goal.slice_bounds-report_for_process-end
 slice_bounds-report_for_process-end c =
-    let t = c.start_of-start in
-    let x = c.extent in
-    let q = c.read_process_at-process in
-    let a = c.args in
     let st = lent (state_of c.args.state.now) c.args.memory.now in
     let low = report-low c.args.pid c.args.kind c.args.reason c.requires.reason_value in
     let fit = report-fits c.args.state.now c.args.memory.now c.args.notice.now c.args.line.now c.requires.line_value in
@@ -53,10 +43,6 @@ slice_bounds-report_for_process-end c =
 
 pub report_for_process-served-requires : goal.report_for_process-served-requires
 report_for_process-served-requires c =
-    let t = c.start_of-start in
-    let x = c.extent in
-    let q = c.read_process_at-process in
-    let a = c.args in
     let st = lent (state_of c.args.state.now) c.args.memory.now in
     let low = report-low c.args.pid c.args.kind c.args.reason c.requires.reason_value in
     let fit = report-fits c.args.state.now c.args.memory.now c.args.notice.now c.args.line.now c.requires.line_value in
@@ -68,7 +54,6 @@ report_for_process-served-requires c =
 
 pub keep-requires : goal.keep-requires
 keep-requires c =
-    let a = c.args in
     record {
       pid_bound = report-low c.args.pid c.args.kind c.args.reason c.requires.reason_value;
       state_len = (report-fits c.args.state.now c.args.memory.now c.args.notice.now c.args.line.now c.requires.line_value).long;
@@ -76,12 +61,6 @@ keep-requires c =
 
 pub returns : goal.returns
 returns c =
-    let f = c.keep in
-    let v = c.report_for_process-served in
-    let t = c.start_of-start in
-    let x = c.extent in
-    let q = c.read_process_at-process in
-    let a = c.args in
     let st = lent (state_of c.args.state.now) c.args.memory.now in
     let low = report-low c.args.pid c.args.kind c.args.reason c.requires.reason_value in
     let fit = report-fits c.args.state.now c.args.memory.now c.args.notice.now c.args.line.now c.requires.line_value in

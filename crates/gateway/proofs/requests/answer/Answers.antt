@@ -13,7 +13,6 @@ use Rattle.gateway.proofs.requests.answer.Goals as goal
 
 pub answer_named-requires : goal.answer_named-requires
 answer_named-requires c =
-    let a = c.args in
     let read = request-found c.args.message.now c.args.h c.args.form c.requires.form_value in
     let goes = target-says c.args.h c.args.form (Named _) read.1 (sym c.in-Named.is ∙ c.target_of-target.ensures) in
     let short = carried-short c.args.message.now c.args.h read.0 in
@@ -25,7 +24,6 @@ answer_named-requires c =
 
 pub refuse-requires : goal.refuse-requires
 refuse-requires c =
-    let a = c.args in
     record {
       fact = λ e. omega (arith, e);
       message_bytes_in_bounds = (request-fits c.args.state.now c.args.memory.now c.args.reply.now c.requires.reply_value).room;
@@ -33,7 +31,6 @@ refuse-requires c =
 
 pub answer_new-requires : goal.answer_new-requires
 answer_new-requires c =
-    let a = c.args in
     let read = request-found c.args.message.now c.args.h c.args.form c.requires.form_value in
     let goes = target-says c.args.h c.args.form New read.1 (sym c.in-New.is ∙ c.target_of-target.ensures) in
     record {
@@ -43,7 +40,6 @@ answer_new-requires c =
 
 pub reply_plain-requires : goal.reply_plain-requires
 reply_plain-requires c =
-    let a = c.args in
     (request-fits c.args.state.now c.args.memory.now c.args.reply.now c.requires.reply_value).room
 
 pub returns-in-Named : goal.returns-in-Named
@@ -51,7 +47,6 @@ returns-in-Named c = rw c.string.ensures at c.answer_named.ensures
 
 pub returns-in-OutOfRange : goal.returns-in-OutOfRange
 returns-in-OutOfRange c =
-    let a = c.args in
     let st = lent (state_of c.args.state.now) c.args.memory.now in
     let read = request-found c.args.message.now c.args.h c.args.form c.requires.form_value in
     let goes = target-says c.args.h c.args.form OutOfRange read.1 (sym c.in-OutOfRange.is ∙ c.target_of-target.ensures) in
@@ -64,7 +59,6 @@ returns-in-New c = c.answer_new.ensures (string_of c.args.message.now)
 
 pub returns-in-Nowhere : goal.returns-in-Nowhere
 returns-in-Nowhere c =
-    let a = c.args in
     let st = lent (state_of c.args.state.now) c.args.memory.now in
     let read = request-found c.args.message.now c.args.h c.args.form c.requires.form_value in
     let goes = target-says c.args.h c.args.form Nowhere read.1 (sym c.in-Nowhere.is ∙ c.target_of-target.ensures) in

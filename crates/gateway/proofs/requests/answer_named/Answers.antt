@@ -19,7 +19,6 @@ use Rattle.gateway.proofs.requests.answer_named.Goals as goal
 
 pub read_process_at-process-requires : goal.read_process_at-process-requires
 read_process_at-process-requires c =
-    let a = c.args in
     record {
       p_lt_process_count = c.requires.cmd_value.2;
       state_width_in_bounds = omega (arith, (request-fits c.args.state.now c.args.memory.now c.args.reply.now c.requires.reply_value).long);
@@ -27,7 +26,6 @@ read_process_at-process-requires c =
 
 pub start_of-start-requires : goal.start_of-start-requires
 start_of-start-requires c =
-    let a = c.args in
     record {
       pid_bound = c.requires.cmd_value.2;
       state_width_in_bounds = omega (arith, (request-fits c.args.state.now c.args.memory.now c.args.reply.now c.requires.reply_value).long);
@@ -35,30 +33,18 @@ start_of-start-requires c =
 
 pub overflow_add-end : goal.overflow_add-end
 overflow_add-end c =
-    let t = c.start_of-start in
-    let x = c.extent-size in
-    let q = c.read_process_at-process in
-    let a = c.args in
     let st = lent (state_of c.args.state.now) c.args.memory.now in
     let ready = (request-fits c.args.state.now c.args.memory.now c.args.reply.now c.requires.reply_value).ready in
     omega (arith, ready.memory, part-inside st ready c.args.pid c.start_of-start.result c.extent-size.result c.read_process_at-process.result c.requires.cmd_value.2 c.start_of-start.ensures c.read_process_at-process.ensures c.extent-size.ensures)
 
 pub slice_bounds-answer_for_process-end : goal.slice_bounds-answer_for_process-end
 slice_bounds-answer_for_process-end c =
-    let t = c.start_of-start in
-    let x = c.extent-size in
-    let q = c.read_process_at-process in
-    let a = c.args in
     let st = lent (state_of c.args.state.now) c.args.memory.now in
     let ready = (request-fits c.args.state.now c.args.memory.now c.args.reply.now c.requires.reply_value).ready in
     part-inside st ready c.args.pid c.start_of-start.result c.extent-size.result c.read_process_at-process.result c.requires.cmd_value.2 c.start_of-start.ensures c.read_process_at-process.ensures c.extent-size.ensures
 
 pub answer_for_process-served-requires : goal.answer_for_process-served-requires
 answer_for_process-served-requires c =
-    let t = c.start_of-start in
-    let x = c.extent-size in
-    let q = c.read_process_at-process in
-    let a = c.args in
     let st = lent (state_of c.args.state.now) c.args.memory.now in
     let ready = (request-fits c.args.state.now c.args.memory.now c.args.reply.now c.requires.reply_value).ready in
     record {
@@ -69,11 +55,6 @@ answer_for_process-served-requires c =
 
 pub remove-requires : goal.remove-requires
 remove-requires c =
-    let v = c.answer_for_process-served in
-    let t = c.start_of-start in
-    let x = c.extent-size in
-    let q = c.read_process_at-process in
-    let a = c.args in
     let st = lent (state_of c.args.state.now) c.args.memory.now in
     let ready = (request-fits c.args.state.now c.args.memory.now c.args.reply.now c.requires.reply_value).ready in
     let does = rw (local-part st ready c.args.pid c.start_of-start.result c.extent-size.result c.read_process_at-process.result c.requires.cmd_value.2 c.start_of-start.ensures c.read_process_at-process.ensures c.extent-size.ensures) at c.answer_for_process-served.ensures in
@@ -86,12 +67,6 @@ remove-requires c =
 
 pub returns-then-h-eq-DESTROY : goal.returns-then-h-eq-DESTROY
 returns-then-h-eq-DESTROY c =
-    let o = c.remove in
-    let v = c.answer_for_process-served in
-    let t = c.start_of-start in
-    let x = c.extent-size in
-    let q = c.read_process_at-process in
-    let a = c.args in
     let st = lent (state_of c.args.state.now) c.args.memory.now in
     let ready = (request-fits c.args.state.now c.args.memory.now c.args.reply.now c.requires.reply_value).ready in
     let bytes : Bytes c.args.state.now = λ i. omega (arith, c.slice_known-1.given i) in
@@ -111,7 +86,6 @@ returns-then-h-eq-DESTROY c =
 
 pub keep-requires : goal.keep-requires
 keep-requires c =
-    let a = c.args in
     record {
       pid_bound = c.requires.cmd_value.2;
       state_len = (request-fits c.args.state.now c.args.memory.now c.args.reply.now c.requires.reply_value).long;
@@ -119,12 +93,6 @@ keep-requires c =
 
 pub returns-then-changes : goal.returns-then-changes
 returns-then-changes c =
-    let f = c.keep in
-    let v = c.answer_for_process-served in
-    let t = c.start_of-start in
-    let x = c.extent-size in
-    let q = c.read_process_at-process in
-    let a = c.args in
     let st = lent (state_of c.args.state.now) c.args.memory.now in
     let ready = (request-fits c.args.state.now c.args.memory.now c.args.reply.now c.requires.reply_value).ready in
     let bytes : Bytes c.args.state.now = λ i. omega (arith, c.slice_known-1.given i) in
@@ -136,11 +104,6 @@ returns-then-changes c =
 
 pub returns-else-changes : goal.returns-else-changes
 returns-else-changes c =
-    let v = c.answer_for_process-served in
-    let t = c.start_of-start in
-    let x = c.extent-size in
-    let q = c.read_process_at-process in
-    let a = c.args in
     let st = lent (state_of c.args.state.now) c.args.memory.now in
     let ready = (request-fits c.args.state.now c.args.memory.now c.args.reply.now c.requires.reply_value).ready in
     let bytes : Bytes c.args.state.now = λ i. omega (arith, c.slice_known-1.given i) in

@@ -18,23 +18,19 @@ use Rattle.gateway.proofs.requests.answer_new.Goals as goal
 
 pub lowest_absent-pid-requires : goal.lowest_absent-pid-requires
 lowest_absent-pid-requires c =
-    let a = c.args in
     omega (arith, (request-fits c.args.state.now c.args.memory.now c.args.reply.now c.requires.reply_value).long)
 
 pub used_bytes-start-requires : goal.used_bytes-start-requires
 used_bytes-start-requires c =
-    let a = c.args in
     omega (arith, (request-fits c.args.state.now c.args.memory.now c.args.reply.now c.requires.reply_value).long)
 
 pub no_place-requires : goal.no_place-requires
 no_place-requires c =
-    let a = c.args in
     let st = lent (state_of c.args.state.now) c.args.memory.now in
     rw c.used_bytes-start.ensures (layout_of st (request-fits c.args.state.now c.args.memory.now c.args.reply.now c.requires.reply_value).ready).fits
 
 pub refuse-requires : goal.refuse-requires
 refuse-requires c =
-    let a = c.args in
     record {
       fact = λ e. omega (arith, e);
       message_bytes_in_bounds = (request-fits c.args.state.now c.args.memory.now c.args.reply.now c.requires.reply_value).room;
@@ -43,8 +39,6 @@ refuse-requires c =
 pub returns-then-no_place : goal.returns-then-no_place
 returns-then-no_place c =
     λ string.
-    let n = c.no_place in
-    let a = c.args in
     let st = lent (state_of c.args.state.now) c.args.memory.now in
     let bytes : Bytes c.args.state.now = λ i. omega (arith, c.slice_known-1.given i) in
     let formed = (request-fits c.args.state.now c.args.memory.now c.args.reply.now c.requires.reply_value).formed in
@@ -53,11 +47,6 @@ returns-then-no_place c =
 
 pub create_last-requires : goal.create_last-requires
 create_last-requires c =
-    let n = c.no_place in
-    let p = c.lowest_absent-pid in
-    let u = c.used_bytes-start in
-    let z = c.size_asked-size in
-    let a = c.args in
     let st = lent (state_of c.args.state.now) c.args.memory.now in
     let laid = layout_of st (request-fits c.args.state.now c.args.memory.now c.args.reply.now c.requires.reply_value).ready in
     let free = sym c.no_place.ensures ∙ c.if-no_place.false in

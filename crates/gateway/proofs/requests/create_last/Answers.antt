@@ -17,7 +17,6 @@ use Rattle.gateway.proofs.requests.create_last.Goals as goal
 
 pub read_process_at-process-requires : goal.read_process_at-process-requires
 read_process_at-process-requires c =
-    let a = c.args in
     record {
       p_lt_process_count = c.requires.pid_bound.0;
       state_width_in_bounds = omega (arith, (request-fits c.args.state.now c.args.memory.now c.args.reply.now c.requires.reply_value).long);
@@ -25,12 +24,10 @@ read_process_at-process-requires c =
 
 pub slice_bounds-answer_create-end : goal.slice_bounds-answer_create-end
 slice_bounds-answer_create-end c =
-    let a = c.args in
     omega (arith, c.requires.pid_bound.2, (request-fits c.args.state.now c.args.memory.now c.args.reply.now c.requires.reply_value).ready.memory)
 
 pub answer_create-served-requires : goal.answer_create-served-requires
 answer_create-served-requires c =
-    let a = c.args in
     let fit = request-fits c.args.state.now c.args.memory.now c.args.reply.now c.requires.reply_value in
     let fits : c.args.start + c.args.size ≤ length c.args.memory.now = omega (arith, c.requires.pid_bound.2, fit.ready.memory) in
     record {
@@ -41,7 +38,6 @@ answer_create-served-requires c =
 
 pub put_start-requires : goal.put_start-requires
 put_start-requires c =
-    let a = c.args in
     record {
       p_lt_process_count = c.requires.pid_bound.0;
       state_len = (request-fits c.args.state.now c.args.memory.now c.args.reply.now c.requires.reply_value).long;
@@ -49,7 +45,6 @@ put_start-requires c =
 
 pub put_process_at-requires : goal.put_process_at-requires
 put_process_at-requires c =
-    let a = c.args in
     record {
       p_lt_process_count = c.requires.pid_bound.0;
       state_len = c.put_start.auto.state ∙ (request-fits c.args.state.now c.args.memory.now c.args.reply.now c.requires.reply_value).long;
@@ -58,10 +53,6 @@ put_process_at-requires c =
 pub returns : goal.returns
 returns c =
     λ string.
-    let f = c.put_process_at in
-    let b = c.put_start in
-    let v = c.answer_create-served in
-    let a = c.args in
     let st = lent (state_of c.args.state.now) c.args.memory.now in
     let ready = (request-fits c.args.state.now c.args.memory.now c.args.reply.now c.requires.reply_value).ready in
     let formed = (request-fits c.args.state.now c.args.memory.now c.args.reply.now c.requires.reply_value).formed in

@@ -13,7 +13,6 @@ use Rattle.gateway.proofs.requests.request.Goals as goal
 pub returns-then-number-ne0 : goal.returns-then-number-ne0
 unfolding Did
 returns-then-number-ne0 c =
-    let a = c.args in
     request-unfit c.args.state.now c.args.memory.now c.args.message.now c.args.reply.now _ c.check_buffers_and_state-number.ensures c.if-number-ne0.true
 
 pub answer-requires : goal.answer-requires
@@ -26,7 +25,6 @@ answer-requires c =
 pub returns-in-Request : goal.returns-in-Request
 unfolding Did step
 returns-in-Request c =
-    let a = c.args in
     let zero = sym c.check_buffers_and_state-number.ensures ∙ c.if-number-ne0.false in
     let st = lent (state_of c.args.state.now) c.args.memory.now in
     let passes = lent-passes c.args.state.now (no_room c.args.memory.now c.args.reply.now) c.args.memory.now zero in
@@ -37,7 +35,6 @@ returns-in-Request c =
 pub returns-in-Refused : goal.returns-in-Refused
 unfolding Did step
 returns-in-Refused c =
-    let a = c.args in
     let zero = sym c.check_buffers_and_state-number.ensures ∙ c.if-number-ne0.false in
     let st = lent (state_of c.args.state.now) c.args.memory.now in
     let passes = lent-passes c.args.state.now (no_room c.args.memory.now c.args.reply.now) c.args.memory.now zero in

@@ -16,7 +16,6 @@ use Rattle.gateway.proofs.text_lines.line_known.Goals as goal
 
 pub read_process_at-process-requires : goal.read_process_at-process-requires
 read_process_at-process-requires c =
-    let a = c.args in
     record {
       p_lt_process_count = c.requires.pid_bound;
       state_width_in_bounds = omega (arith, (line-fits c.args.state.now c.args.memory.now c.args.out.now c.requires.out_value).long);
@@ -24,7 +23,6 @@ read_process_at-process-requires c =
 
 pub start_of-start-requires : goal.start_of-start-requires
 start_of-start-requires c =
-    let a = c.args in
     record {
       pid_bound = c.requires.pid_bound;
       state_width_in_bounds = omega (arith, (line-fits c.args.state.now c.args.memory.now c.args.out.now c.requires.out_value).long);
@@ -32,10 +30,6 @@ start_of-start-requires c =
 
 pub overflow_add-end : goal.overflow_add-end
 overflow_add-end c =
-    let t = c.start_of-start in
-    let x = c.extent in
-    let q = c.read_process_at-process in
-    let a = c.args in
     let st = lent (state_of c.args.state.now) c.args.memory.now in
     let low = c.requires.pid_bound in
     let fit = line-fits c.args.state.now c.args.memory.now c.args.out.now c.requires.out_value in
@@ -43,10 +37,6 @@ overflow_add-end c =
 
 pub slice_bounds-line_for_process-end : goal.slice_bounds-line_for_process-end
 slice_bounds-line_for_process-end c =
-    let t = c.start_of-start in
-    let x = c.extent in
-    let q = c.read_process_at-process in
-    let a = c.args in
     let st = lent (state_of c.args.state.now) c.args.memory.now in
     let low = c.requires.pid_bound in
     let fit = line-fits c.args.state.now c.args.memory.now c.args.out.now c.requires.out_value in
@@ -54,10 +44,6 @@ slice_bounds-line_for_process-end c =
 
 pub line_for_process-served-requires : goal.line_for_process-served-requires
 line_for_process-served-requires c =
-    let t = c.start_of-start in
-    let x = c.extent in
-    let q = c.read_process_at-process in
-    let a = c.args in
     let st = lent (state_of c.args.state.now) c.args.memory.now in
     let low = c.requires.pid_bound in
     let fit = line-fits c.args.state.now c.args.memory.now c.args.out.now c.requires.out_value in
@@ -68,7 +54,6 @@ line_for_process-served-requires c =
 
 pub keep-requires : goal.keep-requires
 keep-requires c =
-    let a = c.args in
     record {
       pid_bound = c.requires.pid_bound;
       state_len = (line-fits c.args.state.now c.args.memory.now c.args.out.now c.requires.out_value).long;
@@ -77,12 +62,6 @@ keep-requires c =
 pub returns : goal.returns
 unfolding line_step
 returns c =
-    let f = c.keep in
-    let v = c.line_for_process-served in
-    let t = c.start_of-start in
-    let x = c.extent in
-    let q = c.read_process_at-process in
-    let a = c.args in
     let st = lent (state_of c.args.state.now) c.args.memory.now in
     let low = c.requires.pid_bound in
     let fit = line-fits c.args.state.now c.args.memory.now c.args.out.now c.requires.out_value in

@@ -20,14 +20,11 @@ use Rattle.gateway.proofs.text_lines.text_line.Goals as goal
 pub returns-then-number-ne0 : goal.returns-then-number-ne0
 unfolding Did
 returns-then-number-ne0 c =
-    let a = c.args in
     line-unfit c.args.state.now c.args.memory.now c.args.text.now c.args.out.now _ c.check_line_buffer_and_state-number.ensures c.if-number-ne0.true
 
 pub returns-then-not-line : goal.returns-then-not-line
 unfolding Did step
 returns-then-not-line c =
-    let a = c.args in
-    let read = c.read_line-line in
     let zero = sym c.check_line_buffer_and_state-number.ensures ∙ c.if-number-ne0.false in
     let st = lent (state_of c.args.state.now) c.args.memory.now in
     let fit = line-fits c.args.state.now c.args.memory.now c.args.out.now zero in
@@ -38,7 +35,6 @@ returns-then-not-line c =
 
 pub fail-requires : goal.fail-requires
 fail-requires c =
-    let a = c.args in
     record {
       le_number = omega arith;
       line_bytes_in_bounds = (line-fits c.args.state.now c.args.memory.now c.args.out.now (sym c.check_line_buffer_and_state-number.ensures ∙ c.if-number-ne0.false)).room;
@@ -47,8 +43,6 @@ fail-requires c =
 pub returns-then-not-line-2 : goal.returns-then-not-line-2
 unfolding Did step
 returns-then-not-line-2 c =
-    let a = c.args in
-    let read = c.read_line-line in
     let zero = sym c.check_line_buffer_and_state-number.ensures ∙ c.if-number-ne0.false in
     let st = lent (state_of c.args.state.now) c.args.memory.now in
     let fit = line-fits c.args.state.now c.args.memory.now c.args.out.now zero in
@@ -61,7 +55,6 @@ returns-then-not-line-2 c =
 
 pub fail-requires-then-line-ge8 : goal.fail-requires-then-line-ge8
 fail-requires-then-line-ge8 c =
-    let a = c.args in
     record {
       le_number = omega arith;
       line_bytes_in_bounds = (line-fits c.args.state.now c.args.memory.now c.args.out.now (sym c.check_line_buffer_and_state-number.ensures ∙ c.if-number-ne0.false)).room;
@@ -70,8 +63,6 @@ fail-requires-then-line-ge8 c =
 pub returns-then-line-ge8 : goal.returns-then-line-ge8
 unfolding Did step
 returns-then-line-ge8 c =
-    let a = c.args in
-    let read = c.read_line-line in
     let zero = sym c.check_line_buffer_and_state-number.ensures ∙ c.if-number-ne0.false in
     let st = lent (state_of c.args.state.now) c.args.memory.now in
     let fit = line-fits c.args.state.now c.args.memory.now c.args.out.now zero in
@@ -89,8 +80,6 @@ line_known-requires c = record { pid_bound = omega arith; out_value = sym c.chec
 pub returns : goal.returns
 unfolding Did step
 returns c =
-    let a = c.args in
-    let read = c.read_line-line in
     let zero = sym c.check_line_buffer_and_state-number.ensures ∙ c.if-number-ne0.false in
     let st = lent (state_of c.args.state.now) c.args.memory.now in
     let fit = line-fits c.args.state.now c.args.memory.now c.args.out.now zero in

@@ -8,7 +8,7 @@ use lib.Seq.{take-length, length-take-le}
 use Rattle.lines.proofs.count.at_most.Goals as goal
 
 pub returns-then-n-bytes : goal.returns-then-n-bytes
-returns-then-n-bytes c = let a = c.args in (omega arith, omega arith, omega arith, sym (length-take-le c.args.n c.args.bytes.now (omega arith)))
+returns-then-n-bytes c = (omega arith, omega arith, omega arith, sym (length-take-le c.args.n c.args.bytes.now (omega arith)))
 
 pub returns : goal.returns
-returns c = let a = c.args in (omega arith, omega arith, omega arith, sym (ap (λ (l : List ℕ). length l) (take-length c.args.bytes.now)))
+returns c = (omega arith, omega arith, omega arith, sym (ap (λ (l : List ℕ). length l) (take-length c.args.bytes.now)))

@@ -16,7 +16,6 @@ returns-then-bytes-eq0 c =
 
 pub returns : goal.returns
 returns c =
-    let a = c.args in
     rw (some-spaced c.args.bytes.now c.if-bytes-eq0.false) record {
       value = sym (length-spaced c.args.bytes.now);
       out_after = c.put_spaced.ensures;

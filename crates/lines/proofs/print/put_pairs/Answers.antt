@@ -10,7 +10,6 @@ use Rattle.lines.proofs.print.put_pairs.Goals as goal
 
 pub returns-then-bytes-eq0 : goal.returns-then-bytes-eq0
 returns-then-bytes-eq0 c =
-    let a = c.args in
     let e = line-none c.args.bytes.now c.if-bytes-eq0.true in
     rw e record {
       value = refl;
@@ -20,7 +19,6 @@ returns-then-bytes-eq0 c =
 
 pub returns : goal.returns
 returns c =
-    let a = c.args in
     let some : 1 ≤ length c.args.bytes.now = omega arith in record {
       value = length-line c.args.bytes.now c.args.out.now c.put_parted.new.out some c.put_parted.ensures c.requires;
       upper_bound = omega (arith, c.requires, some);

@@ -11,7 +11,6 @@ use Rattle.lines.proofs.print.put_parted.Goals as goal
 
 pub returns : goal.returns
 returns c =
-    let a = c.args in
     let xs = pair (get_or c.args.bytes.now 0 0) in
     let ys = spaced (take (length c.args.bytes.now - 1) (drop 1 c.args.bytes.now)) in
     laid-part xs ys c.args.out.now c.put_first.new.out c.put_spaced.new.out 2 refl c.put_first.ensures c.put_spaced.ensures

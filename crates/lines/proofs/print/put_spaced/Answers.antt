@@ -23,7 +23,6 @@ put_pair-requires c = omega (arith, c.requires, c.loop-i.invariant.1)
 
 pub loop-i-preserved : goal.loop-i-preserved
 loop-i-preserved c =
-    let a = c.args in
     let h : c.loop-i.i < length c.args.bytes.now = omega arith in
     let laid = c.put_pair.ensures ∙ spaced-step c.args.bytes.now c.args.out.now c.loop-i.out c.loop-i.i h c.requires c.loop-i.invariant.2 in
     let short : length (spaced (take (c.loop-i.i + 1) c.args.bytes.now)) ≤ length c.args.out.now =
@@ -35,5 +34,4 @@ shape_of-out c = c.loop-i.invariant.1
 
 pub returns : goal.returns
 returns c =
-    let a = c.args in
     c.loop-i.invariant.2 ∙ ap (λ (xs : List ℕ). overlay xs c.args.out.now) (spaced-all c.args.bytes.now c.loop-i.i (omega arith))

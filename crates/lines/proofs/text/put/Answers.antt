@@ -13,7 +13,6 @@ loop-i-init c = (omega arith, refl, ap (λ (n : ℕ). kept n c.args.text.now c.a
 
 pub loop-i-preserved : goal.loop-i-preserved
 loop-i-preserved c =
-    let a = c.args in
     let h : c.loop-i.i < length c.args.text.now = omega arith in
     (omega arith, simp length-set (omega arith), sym (kept-turn c.args.text.now c.loop-i.out c.args.at c.loop-i.i h) ∙ c.loop-i.invariant.2)
 
@@ -22,5 +21,4 @@ shape_of-out c = c.loop-i.invariant.1
 
 pub returns : goal.returns
 returns c =
-    let a = c.args in
     (omega arith, sym (kept-done c.args.text.now c.loop-i.out (c.args.at + c.loop-i.i) c.loop-i.i (omega arith)) ∙ c.loop-i.invariant.2)

@@ -11,5 +11,4 @@ use Rattle.message.proofs.answer.write_contents.Goals as goal
 pub returns : goal.returns
 unfolding sends_head
 returns c =
-    let a = c.args in
     rw c.put.ensures (ap (λ (o : Outcome). wrote o (overlay (header c.args.answer) c.args.buffer.now)) (ap Granted (omega arith)))

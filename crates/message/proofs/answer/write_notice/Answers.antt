@@ -15,7 +15,6 @@ use Rattle.message.proofs.answer.write_notice.Goals as goal
 pub returns : goal.returns
 unfolding sends written
 returns c =
-    let a = c.args in
     let size : length (low_first c.args.vector) ≡ 18 = length-low_first c.args.vector ∙ ap (λ (k : ℕ). 2 * k) c.well_formed.1.1.1.1.0.1.0.1 in
     rw (c.put_string.ensures, c.put.ensures, c.notice-h.ensures, c.vector_bytes-bytes.ensures)
     (ap₂ (λ (k : ℕ) (b : List ℕ). wrote (Granted (10 + k)) b) (sym size) (paste-overlay (header (notice_of c.args.host c.args.kind c.args.pid c.args.reason)) (low_first c.args.vector) c.args.buffer.now))

@@ -16,13 +16,11 @@ returns-then-number-ne0 c =
 pub returns-in-Known : goal.returns-in-Known
 unfolding read_number
 returns-in-Known c =
-    let a = c.args in
     let e = rw (c.fixed_right.ensures, c.request_form-found.ensures, c.of-h.ensures) at c.layout_number-number.ensures in
     rw c.of-h.ensures (incoming-read c.args.message.now (sym e ∙ c.if-number-ne0.false) _ (rw c.of-h.ensures at (sym c.in-Known.is ∙ c.request_form-found.ensures)))
 
 pub returns-in-Unknown : goal.returns-in-Unknown
 unfolding read_number
 returns-in-Unknown c =
-    let a = c.args in
     let e = rw (c.fixed_right.ensures, c.request_form-found.ensures, c.of-h.ensures) at c.layout_number-number.ensures in
     absurd (incoming-known c.args.message.now (sym e ∙ c.if-number-ne0.false) (rw c.of-h.ensures at (sym c.in-Unknown.is ∙ c.request_form-found.ensures)))

@@ -11,6 +11,5 @@ examine-requires c = omega (arith, ap (λ (a : ByteAddress). a.0) c.first_byte-f
 
 pub returns : goal.returns
 returns c =
-    let a = c.args in
     word-seen c.args.at (local c.args.process c.args.bytes.now) c.first_byte-first.result.0 c.word_of.result _
     (ap (λ (b : ByteAddress). b.0) c.first_byte-first.ensures) c.examine.ensures c.word_of.ensures

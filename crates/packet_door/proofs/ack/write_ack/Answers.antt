@@ -13,7 +13,6 @@ use Rattle.packet_door.proofs.ack.write_ack.Goals as goal
 
 pub word_at-requires : goal.word_at-requires
 word_at-requires c =
-    let a = c.args in
     omega (arith, ap (λ (w : WordAddress). w.0) c.address_of-at.ensures, inside-within c.args.words.now c.args.process.size c.requires.in_bounds.1, c.requires.bytes_len)
 
 pub start_ack-count-requires : goal.start_ack-count-requires
@@ -21,7 +20,6 @@ start_ack-count-requires c = record { block_bound = rw c.block_to_send-block.ens
 
 pub write_seen-requires : goal.write_seen-requires
 write_seen-requires c =
-    let a = c.args in
     let sent = sent-for (byte_count c.args.process.size) c.address_of-at.result c.args.words.now _ _ (sym c.block_to_send-block.ensures ∙ c.in-Words.is) in
     record {
       count_in_bounds = omega (arith, sent.within, c.requires.bytes_len);
@@ -30,7 +28,6 @@ write_seen-requires c =
 
 pub returns-in-Nothing : goal.returns-in-Nothing
 returns-in-Nothing c =
-    let a = c.args in
     let l = local c.args.process c.args.bytes.now in
     let begun =
     started c.args.kind c.args.words.now l _ _ _ c.args.out.now _ _ _ c.address_of-at.ensures c.word_at.ensures c.second_word-second.ensures
@@ -39,7 +36,6 @@ returns-in-Nothing c =
 
 pub returns-in-Words : goal.returns-in-Words
 returns-in-Words c =
-    let a = c.args in
     let l = local c.args.process c.args.bytes.now in
     let begun =
     started c.args.kind c.args.words.now l _ _ _ c.args.out.now _ _ _ c.address_of-at.ensures c.word_at.ensures c.second_word-second.ensures

@@ -9,11 +9,10 @@ use Rattle.packet_door.proofs.answer.grant.Goals as goal
 
 pub reply_to-outcome-requires : goal.reply_to-outcome-requires
 reply_to-outcome-requires c =
-    let a = c.args in
     let l = local c.args.process c.args.bytes.now in
     let size = whole c.args.process c.args.bytes.now c.requires.present in
     let h = c.requires.passed in
-    let e = c.perform-next.ensures in record {
+    record {
       bytes_len = whole-after c.args.request c.args.id c.args.words.now l h size c.perform-next.result _ c.perform-next.ensures.value c.perform-next.ensures.bytes_after;
       passed = passed-after c.args.request c.args.id c.args.words.now l h size c.perform-next.result _ c.perform-next.ensures.value c.perform-next.ensures.bytes_after;
       ack_words_in_bounds = c.requires.ack_words_in_bounds;
@@ -21,6 +20,5 @@ reply_to-outcome-requires c =
 
 pub returns : goal.returns
 returns c =
-    let a = c.args in
     let after : local _ _ ≡ (row_of c.args.request).effect c.args.id c.args.words.now (local c.args.process c.args.bytes.now) = ap₂ local c.perform-next.ensures.value c.perform-next.ensures.bytes_after in
     ap₂ leaving (c.reply_to-outcome.ensures ∙ ap (λ (m : Local). replied ((row_of c.args.request).ack c.args.words.now m) c.args.out.now) after) after

@@ -15,7 +15,6 @@ packet_number-number-requires c = rw c.request_of-request.ensures (enough c.args
 pub returns-then-number-ne0 : goal.returns-then-number-ne0
 unfolding packet_at
 returns-then-number-ne0 c =
-    let a = c.args in
     rw (
       c.refuse.ensures.0,
       c.refuse.ensures.1,
@@ -28,7 +27,6 @@ returns-then-number-ne0 c =
 
 pub grant-requires : goal.grant-requires
 grant-requires c =
-    let a = c.args in
     let z = sym c.packet_number-number.ensures ∙ c.if-number-ne0.false in
     let here : Present c.args.process c.args.bytes.now = record { tested = c.requires.tested; there = passed-there c.request_of-request.result c.args.words.now c.args.process z } in
     let some : fewest_of c.request_of-request.result ≤ length c.args.words.now = rw c.request_of-request.ensures (enough c.args.kind c.args.words.now c.requires.words_value) in
@@ -41,7 +39,6 @@ grant-requires c =
 pub returns : goal.returns
 unfolding packet_at
 returns c =
-    let a = c.args in
     let z = sym c.packet_number-number.ensures ∙ c.if-number-ne0.false in
     rw (
       number-of c.args.kind c.args.words.now c.args.process,

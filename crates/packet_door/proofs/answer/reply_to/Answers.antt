@@ -8,7 +8,6 @@ use Rattle.packet_door.proofs.answer.reply_to.Goals as goal
 pub write_ack-requires : goal.write_ack-requires
 unfolding row_of fewest_of
 write_ack-requires c =
-    let h = c.requires.passed in
     let enough = rw c.in-Store.is at c.requires.passed.enough in
     record {
       bytes_len = c.requires.bytes_len;
@@ -19,7 +18,6 @@ write_ack-requires c =
 pub write_ack-requires-in-Fetch : goal.write_ack-requires-in-Fetch
 unfolding row_of fewest_of
 write_ack-requires-in-Fetch c =
-    let h = c.requires.passed in
     let enough = rw c.in-Fetch.is at c.requires.passed.enough in
     record {
       bytes_len = c.requires.bytes_len;

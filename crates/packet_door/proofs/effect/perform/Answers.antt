@@ -9,7 +9,6 @@ use Rattle.packet_door.proofs.effect.perform.Goals as goal
 pub store-requires : goal.store-requires
 unfolding row_of fewest_of
 store-requires c =
-    let a = c.args in
     let enough = rw c.in-Store.is at c.requires.passed.enough in
     let inside = inside-within c.args.words.now c.args.process.size (rw c.in-Store.is at c.requires.passed.range) in
     record {

@@ -18,7 +18,6 @@ overflow_add-result c = omega (arith, length-with c.in-Words.is, c.requires.bloc
 pub returns-in-Nothing : goal.returns-in-Nothing
 unfolding ack_length ack_start
 returns-in-Nothing c =
-    let a = c.args in
     let none = c.in-Nothing.is in record {
       result_value = sym (ap ack_length none);
       out_after = rw none (two-set c.args.out.now c.args.at.0 c.args.second (omega (arith, c.requires.ack_words_in_bounds)));
@@ -26,7 +25,6 @@ returns-in-Nothing c =
 
 pub returns-in-Words : goal.returns-in-Words
 returns-in-Words c =
-    let a = c.args in
     let some = c.in-Words.is in record {
       result_value = omega (arith, length-with some);
       out_after = rw (start-with c.args.at c.args.second some) (three-set c.args.out.now c.args.at.0 c.args.second _ (omega (arith, c.requires.ack_words_in_bounds)));

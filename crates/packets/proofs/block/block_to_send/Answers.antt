@@ -10,5 +10,4 @@ halve_to_fit-requires c = rw c.length_to_send-longest.ensures (to-send-none-or c
 pub returns : goal.returns
 unfolding block_for
 returns c =
-    let a = c.args in
     c.halve_to_fit.ensures ∙ ap (halved_to_fit 6 c.args.size c.args.at) (c.length_to_send-longest.ensures ∙ ap length_to_send c.asked.ensures)

@@ -16,13 +16,10 @@ loop-count-init c = (6, omega (arith, none-or-most c.args.longest.0 c.requires),
 
 pub base_of-base-requires : goal.base_of-base-requires
 base_of-base-requires c =
-    let l = c.loop-count in
     some-sendable c.loop-count.count.0 c.loop-count.invariant.2 c.loop-count-test.true
 
 pub returns-then-holds : goal.returns-then-holds
 returns-then-holds c =
-    let l = c.loop-count in
-    let a = c.args in
     let fits : holds c.args.size (base_of c.args.at c.loop-count.count) c.loop-count.count ≡ true =
     ap (λ (base : WordAddress). holds c.args.size base c.loop-count.count) (sym c.base_of-base.ensures) ∙ sym c.holds.ensures ∙ c.if-holds.true in
     ap (λ (base : WordAddress). Words base c.loop-count.count) c.base_of-base.ensures
@@ -34,8 +31,6 @@ loop-count-smaller c = omega (arith, c.loop-count-test.true, ap (λ (n : WordCou
 
 pub loop-count-preserved : goal.loop-count-preserved
 loop-count-preserved c =
-    let l = c.loop-count in
-    let a = c.args in
     let past : holds c.args.size (base_of c.args.at c.loop-count.count) c.loop-count.count ≡ false =
     ap (λ (base : WordAddress). holds c.args.size base c.loop-count.count) (sym c.base_of-base.ensures) ∙ sym c.holds.ensures ∙ c.if-holds.false in
     let next = halved-next c.args.size c.args.at c.loop-count.count c.loop-count.invariant.0 c.loop-count-test.true c.loop-count.invariant.1 past in
@@ -44,6 +39,4 @@ loop-count-preserved c =
 
 pub returns : goal.returns
 returns c =
-    let l = c.loop-count in
-    let a = c.args in
     sym (halved_none c.args.size c.args.at c.loop-count.count c.loop-count.invariant.0 (omega (arith, c.loop-count-test.false))) ∙ c.loop-count.invariant.3

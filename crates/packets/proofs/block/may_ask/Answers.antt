@@ -42,5 +42,4 @@ returns-in-256 c = rw c.in-256.is
 pub returns-in_default : goal.returns-in_default
 unfolding sendable may_ask
 returns-in_default c =
-    let n = c.in_default.in_default-own.rest in
     rw (ne_eqb _ 1 c.in_default.in_default-own.rest.0.0.0.0.0.0.0.0.1, ne_eqb _ 2 c.in_default.in_default-own.rest.0.0.0.0.0.0.0.1, ne_eqb _ 4 c.in_default.in_default-own.rest.0.0.0.0.0.0.1, ne_eqb _ 8 c.in_default.in_default-own.rest.0.0.0.0.0.1, ne_eqb _ 16 c.in_default.in_default-own.rest.0.0.0.0.1, ne_eqb _ 32 c.in_default.in_default-own.rest.0.0.0.1, ne_eqb _ 64 c.in_default.in_default-own.rest.0.0.1, ne_eqb _ 128 c.in_default.in_default-own.rest.0.1, ne_eqb _ 256 c.in_default.in_default-own.rest.1)

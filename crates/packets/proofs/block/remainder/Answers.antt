@@ -20,7 +20,6 @@ returns-in-16 c = record { value = rw c.in-16.is; upper_bound = omega arith }
 
 pub returns-in_default : goal.returns-in_default
 returns-in_default c =
-    let n = c.in_default.in_default-own.rest in
     let e = last-length c.args.length c.requires c.in_default.in_default-own.rest.0.0.0.0.1 c.in_default.in_default-own.rest.0.0.0.1 c.in_default.in_default-own.rest.0.0.1 c.in_default.in_default-own.rest.0.1 c.in_default.in_default-own.rest.1 in
     record {
       value = rw e;

@@ -14,4 +14,4 @@ returns-in-129 c = rw c.in-129.is
 pub returns-in_default : goal.returns-in_default
 unfolding fewest_words
 returns-in_default c =
-    let n = c.in_default.in_default-own.rest in rw (ne_eqb _ 128 c.in_default.in_default-own.rest.0.1, ne_eqb _ 129 c.in_default.in_default-own.rest.1)
+    rw (ne_eqb _ 128 c.in_default.in_default-own.rest.0.1, ne_eqb _ 129 c.in_default.in_default-own.rest.1)

@@ -22,4 +22,4 @@ returns-in-131 c = rw c.in-131.is
 pub returns-in_default : goal.returns-in_default
 unfolding known_type
 returns-in_default c =
-    let n = c.in_default.in_default-own.rest in rw (ne_eqb _ 128 c.in_default.in_default-own.rest.0.0.0.1, ne_eqb _ 129 c.in_default.in_default-own.rest.0.0.1, ne_eqb _ 130 c.in_default.in_default-own.rest.0.1, ne_eqb _ 131 c.in_default.in_default-own.rest.1)
+    rw (ne_eqb _ 128 c.in_default.in_default-own.rest.0.0.0.1, ne_eqb _ 129 c.in_default.in_default-own.rest.0.0.1, ne_eqb _ 130 c.in_default.in_default-own.rest.0.1, ne_eqb _ 131 c.in_default.in_default-own.rest.1)

@@ -6,22 +6,19 @@ use Rattle.recording.proofs.CommandLaws.{begins-short, begins-next, begins-other
 use Rattle.recording.proofs.command.begins.Goals as goal
 
 pub returns-then-line-text : goal.returns-then-line-text
-returns-then-line-text c = let a = c.args in begins-short c.args.text.now c.args.line.now c.if-line-text.true
+returns-then-line-text c = begins-short c.args.text.now c.args.line.now c.if-line-text.true
 
 pub loop-i-init : goal.loop-i-init
 loop-i-init c = (omega arith, omega arith, refl)
 
 pub returns-then-line-i : goal.returns-then-line-i
 returns-then-line-i c =
-    let a = c.args in
     begins-other c.args.text.now c.args.line.now c.loop-i.i (omega arith) (omega arith) c.if-line-i.true ∙ c.loop-i.invariant.2
 
 pub loop-i-preserved : goal.loop-i-preserved
 loop-i-preserved c =
-    let a = c.args in
     (omega arith, omega arith, begins-next c.args.text.now c.args.line.now c.loop-i.i (omega arith) (omega arith) c.if-line-i.false ∙ c.loop-i.invariant.2)
 
 pub returns : goal.returns
 returns c =
-    let a = c.args in
     begins-end c.args.text.now (drop c.loop-i.i c.args.line.now) c.loop-i.i (omega arith) ∙ c.loop-i.invariant.2

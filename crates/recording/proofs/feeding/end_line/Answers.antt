@@ -7,5 +7,4 @@ use Rattle.recording.proofs.feeding.end_line.Goals as goal
 
 pub returns : goal.returns
 returns c =
-    let a = c.args in
     rw (ap (λ (j : ℕ). take j c.args.line.now) c.at_most-n.ensures.0 ∙ take-at-most c.args.partial.len c.args.line.now) at c.answer_line.ensures

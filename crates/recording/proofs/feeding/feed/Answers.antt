@@ -20,8 +20,6 @@ shape_of-out-then-must_wait c = c.loop-at.invariant.2
 
 pub returns-then-must_wait : goal.returns-then-must_wait
 returns-then-must_wait c =
-    let i = c.loop-at in
-    let a = c.args in
     feeds-wait c.args.language c.args.block.now c.loop-at.at c.loop-at.len (session (reading c.loop-at.now c.loop-at.line) c.loop-at.state c.loop-at.memory) c.loop-at.out c.args.out.now c.loop-at.invariant.1 c.loop-at.invariant.2 c.loop-at.invariant.3 c.loop-at.now c.loop-at.line c.loop-at.state c.loop-at.memory _ refl (omega arith) (sym c.must_wait.ensures ∙ c.if-must_wait.true) c.loop-at.invariant.4
 
 pub slice_bounds-read_character-count : goal.slice_bounds-read_character-count
@@ -35,13 +33,11 @@ slice_bounds-read_character-end c = omega (arith, c.loop-at.invariant.1)
 
 pub read_character-step-requires : goal.read_character-step-requires
 read_character-step-requires c =
-    let i = c.loop-at in
     let size : length (take (length c.loop-at.out - c.loop-at.len) (drop c.loop-at.len c.loop-at.out)) ≡ length c.loop-at.out - c.loop-at.len = length-take-le _ (drop c.loop-at.len c.loop-at.out) (omega (arith, length-drop c.loop-at.len c.loop-at.out)) in
     rw size (sym c.must_wait.ensures ∙ c.if-must_wait.false)
 
 pub overflow_add-len : goal.overflow_add-len
 overflow_add-len c =
-    let i = c.loop-at in
     let size : length (take (length c.loop-at.out - c.loop-at.len) (drop c.loop-at.len c.loop-at.out)) ≡ length c.loop-at.out - c.loop-at.len = length-take-le _ (drop c.loop-at.len c.loop-at.out) (omega (arith, length-drop c.loop-at.len c.loop-at.out)) in
     omega (arith, c.read_character-step.ensures.text.fits, size, c.loop-at.invariant.1, c.loop-at.invariant.2, c.well_formed.1.1.1.1.1.1)
 
@@ -50,8 +46,6 @@ overflow_add-at c = omega (arith, c.well_formed.1.1.1.1.1.0)
 
 pub loop-at-preserved : goal.loop-at-preserved
 loop-at-preserved c =
-    let i = c.loop-at in
-    let a = c.args in
     let done = turn c.args.language c.args.block.now c.loop-at.at c.loop-at.len (session (reading c.loop-at.now c.loop-at.line) c.loop-at.state c.loop-at.memory) c.loop-at.out c.args.out.now c.loop-at.invariant.1 c.loop-at.invariant.2 c.loop-at.invariant.3 c.read_character-step.result _ _ _ _ (omega arith) (sym c.must_wait.ensures ∙ c.if-must_wait.false) c.read_character-step.ensures _ c.loop-at.invariant.4 in
     (omega arith, done.0, done.1, done.2, done.3)
 
@@ -60,6 +54,4 @@ shape_of-out c = c.loop-at.invariant.2
 
 pub returns : goal.returns
 returns c =
-    let i = c.loop-at in
-    let a = c.args in
     feeds-all c.args.language c.args.block.now c.loop-at.at c.loop-at.len (session (reading c.loop-at.now c.loop-at.line) c.loop-at.state c.loop-at.memory) c.loop-at.out c.args.out.now c.loop-at.invariant.1 c.loop-at.invariant.2 c.loop-at.invariant.3 c.loop-at.now c.loop-at.line c.loop-at.state c.loop-at.memory _ refl (omega arith) c.loop-at.invariant.4

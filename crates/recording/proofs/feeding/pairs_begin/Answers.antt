@@ -8,5 +8,4 @@ use Rattle.recording.proofs.feeding.pairs_begin.Goals as goal
 
 pub returns : goal.returns
 returns c =
-    let a = c.args in
     c.pairs_from.ensures ∙ ap (pairs_from c.args.language) (ap (λ (j : ℕ). take j c.args.line.now) c.at_most-n.ensures.0 ∙ take-at-most c.args.partial.len c.args.line.now)

@@ -11,14 +11,12 @@ use Rattle.recording.proofs.feeding.read_character.Goals as goal
 
 pub push-requires : goal.push-requires
 push-requires c =
-    let a = c.args in
     let size : length c.args.line.now ≡ 1025 = search rules in
     omega (arith, size, c.pairs_begin-first.ensures, pairs-within c.args.language (reading c.args.partial c.args.line.now).line)
 
 pub returns-then-c-ne10 : goal.returns-then-c-ne10
 unfolding stepped overlay
 returns-then-c-ne10 c =
-    let a = c.args in
     let size : length c.args.line.now ≡ 1025 = search rules in
     rw (ne_eqb _ _ c.if-c-ne10.true)
     (record {

@@ -10,7 +10,6 @@ use Rattle.sentence.proofs.count.put_count.Goals as goal
 pub returns-then-n-eq1 : goal.returns-then-n-eq1
 unfolding count_text
 returns-then-n-eq1 c =
-    let a = c.args in
     let out1 = c.put_wide-at.new.out in
     let out2 = c.put.new.out in
     let both = put_then c.args.from c.put_wide-at.result c.put.result (numeral c.args.n) (text " byte") c.args.out.now out1 out2 c.put_wide-at.ensures.put c.put.ensures in
@@ -22,7 +21,6 @@ returns-then-n-eq1 c =
 pub returns : goal.returns
 unfolding count_text
 returns c =
-    let a = c.args in
     let out1 = c.put_wide-at.new.out in
     let out2 = c.put-2.new.out in
     let both = put_then c.args.from c.put_wide-at.result c.put-2.result (numeral c.args.n) (text " bytes") c.args.out.now out1 out2 c.put_wide-at.ensures.put c.put-2.ensures in

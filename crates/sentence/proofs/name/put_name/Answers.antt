@@ -12,7 +12,6 @@ put_word-requires c = omega (arith, c.requires.by_index c.args.number, c.require
 pub returns-then-number-count : goal.returns-then-number-count
 unfolding name_in
 returns-then-number-count c =
-    let a = c.args in
     record {
       put = rw (lt-ltb c.args.number c.args.count c.if-number-count.true) c.put_word.ensures;
       upper_bound = omega (arith, c.put_word.ensures.0, c.requires.by_index c.args.number);
@@ -21,7 +20,6 @@ returns-then-number-count c =
 pub returns : goal.returns
 unfolding name_in
 returns c =
-    let a = c.args in
     let out1 = c.put-at.new.out in
     let out2 = c.put_number.new.out in
     let both = put_then c.args.from c.put-at.result c.put_number.result c.args.other.now (numeral c.args.number) c.args.out.now out1 out2 c.put-at.ensures c.put_number.ensures.put in

@@ -10,7 +10,7 @@ use Rattle.sentence.proofs.name.put_word.Goals as goal
 use Rattle.sentence.proofs.name.put_word.Goals.{then-c-eq-COMMA+else-before-eq0, else-c-eq-COMMA+then-before-eq0-2, else-c-eq-COMMA+else-before-eq0-2}
 
 -- where a character is put, the word is not at its end
-inside : (c : goal.Then-before-eq0-2) → let a = c.args in c.loop-i.at < c.args.from + length (word_at c.args.number c.args.words.now)
+inside : (c : goal.Then-before-eq0-2) → c.loop-i.at < c.args.from + length (word_at c.args.number c.args.words.now)
 inside c =
     let words = c.args.words.now in
     let low : c.loop-i.i < length words = omega arith in
@@ -25,7 +25,6 @@ shape_of-out-then-before-eq0 c = c.loop-i.invariant.1
 
 pub returns-then-before-eq0 : goal.returns-then-before-eq0
 returns-then-before-eq0 c =
-    let a = c.args in
     let words = c.args.words.now in
     let low : c.loop-i.i < length words = omega arith in
     let none = word-ends c.loop-i.before words c.loop-i.i low c.if-c-eq-COMMA.true c.if-before-eq0.true in
@@ -39,7 +38,6 @@ overflow_add-at c = omega (arith, inside c, c.requires, c.loop-i.invariant.1)
 
 pub loop-i-preserved : goal.loop-i-preserved
 loop-i-preserved c =
-    let a = c.args in
     let words = c.args.words.now in
     let i = c.loop-i.i in
     let low : i < length words = omega arith in
@@ -70,7 +68,6 @@ shape_of-out c = c.loop-i.invariant.1
 
 pub returns : goal.returns
 returns c =
-    let a = c.args in
     let words = c.args.words.now in
     let none = word_none c.loop-i.before words c.loop-i.i (omega arith) in
     rest-none c.args.from (word_at c.args.number words) c.args.out.now c.loop-i.at (word_at c.loop-i.before (drop c.loop-i.i words)) c.loop-i.out none c.loop-i.invariant.2

@@ -10,7 +10,7 @@ use Rattle.sentence.proofs.PatternLaws.{room_next}
 use Rattle.sentence.proofs.pattern.put_filled.Goals as goal
 
 pub loop-i-init : goal.loop-i-init
-loop-i-init c = let a = c.args in (omega arith, refl, omega arith, put-joined-none (piece_of c.args.h c.args.n) c.args.from c.args.out.now)
+loop-i-init c = (omega arith, refl, omega arith, put-joined-none (piece_of c.args.h c.args.n) c.args.from c.args.out.now)
 
 pub put_piece-at-requires : goal.put_piece-at-requires
 put_piece-at-requires c =
@@ -19,7 +19,6 @@ put_piece-at-requires c =
 
 pub loop-i-preserved : goal.loop-i-preserved
 loop-i-preserved c =
-    let a = c.args in
     let pattern = c.args.pattern.now in
     let i = c.loop-i.i in
     let low : i < length pattern = omega arith in (
@@ -34,7 +33,6 @@ shape_of-out c = c.loop-i.invariant.1
 
 pub returns : goal.returns
 returns c =
-    let a = c.args in
     record {
       put = put-joined-all (piece_of c.args.h c.args.n) c.args.pattern.now c.loop-i.i c.args.from c.loop-i.at c.args.out.now c.loop-i.out (omega arith) c.loop-i.invariant.3;
       upper_bound = omega (arith, c.loop-i.invariant.2);

@@ -81,4 +81,4 @@ returns-in-60 c = rw (c.in-60.is, ← c.less-in-60.ensures) c.put_wide-in-60.ens
 
 pub returns-in_default : goal.returns-in_default
 returns-in_default c =
-    let a = c.args in let e = itself c.args.h c.args.n c.args.c c.in_default.in_default-own.rest in rw (e.0, e.1) c.put_character.ensures
+    let e = itself c.args.h c.args.n c.args.c c.in_default.in_default-own.rest in rw (e.0, e.1) c.put_character.ensures

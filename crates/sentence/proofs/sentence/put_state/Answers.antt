@@ -10,7 +10,6 @@ use Rattle.sentence.proofs.sentence.put_state.Goals as goal
 pub returns-then-run-eq-ENDED : goal.returns-then-run-eq-ENDED
 unfolding state_text
 returns-then-run-eq-ENDED c =
-    let a = c.args in
     let both = put_then c.args.from c.put-has.result c.put_run_name.result (text "the process has ") (run_name c.args.run) c.args.out.now c.put-has.new.out c.put_run_name.new.out c.put-has.ensures c.put_run_name.ensures.put in
     record {
       put = rw (eq-eqb c.args.run 4 c.if-run-eq-ENDED.true) both;
@@ -20,7 +19,6 @@ returns-then-run-eq-ENDED c =
 pub returns : goal.returns
 unfolding state_text
 returns c =
-    let a = c.args in
     let both = put_then c.args.from c.put-is.result c.put_run_name-2.result (text "the process is ") (run_name c.args.run) c.args.out.now c.put-is.new.out c.put_run_name-2.new.out c.put-is.ensures c.put_run_name-2.ensures.put in
     record {
       put = rw (ne_eqb c.args.run 4 c.if-run-eq-ENDED.false) both;

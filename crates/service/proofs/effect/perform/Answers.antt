@@ -13,17 +13,17 @@ use Rattle.service.proofs.effect.perform.Goals as goal
 
 pub deposit-requires : goal.deposit-requires
 deposit-requires c =
-    let a = c.args in record {
+    record {
       tested = c.requires.present.tested;
       string_in_bounds = rw (whole c.args.process c.args.bytes.now c.requires.present) (deposit-within c.args.h c.args.process c.requires.process_value _ c.in-4.is c.requires.string_len_bound);
     }
 
 pub deposit_vector-requires : goal.deposit_vector-requires
-deposit_vector-requires c = let a = c.args in vector-within c.args.h c.args.process c.requires.process_value _ c.in-7.is c.requires.string_len_bound
+deposit_vector-requires c = vector-within c.args.h c.args.process c.requires.process_value _ c.in-7.is c.requires.string_len_bound
 
 pub set_break-requires : goal.set_break-requires
 set_break-requires c =
-    let a = c.args in (break-low c.args.h c.args.process c.requires.process_value c.args.k c.requires.k_value c.in-8.is, break-is c.args.h c.args.process c.requires.process_value c.args.k c.requires.k_value c.in-8.is, rw (whole c.args.process c.args.bytes.now c.requires.present) (break-within c.args.h c.args.process c.requires.process_value c.in-8.is), tested-counted c.args.process c.args.bytes.now c.requires.present.tested, break-host c.args.h c.args.process c.requires.process_value c.in-8.is)
+    (break-low c.args.h c.args.process c.requires.process_value c.args.k c.requires.k_value c.in-8.is, break-is c.args.h c.args.process c.requires.process_value c.args.k c.requires.k_value c.in-8.is, rw (whole c.args.process c.args.bytes.now c.requires.present) (break-within c.args.h c.args.process c.requires.process_value c.in-8.is), tested-counted c.args.process c.args.bytes.now c.requires.present.tested, break-host c.args.h c.args.process c.requires.process_value c.in-8.is)
 
 pub remove_from-requires : goal.remove_from-requires
 remove_from-requires c =
@@ -60,7 +60,6 @@ returns-in-8 c = rw c.in-8.is record { value = c.set_break.ensures.value; bytes_
 pub returns-in-9 : goal.returns-in-9
 unfolding rule_of break_removed
 returns-in-9 c =
-    let a = c.args in
     rw (c.in-9.is, ← unbreak-is c.args.h c.args.process c.requires.process_value c.args.k c.requires.k_value c.in-9.is) record {
       value = c.remove_from.ensures.value;
       bytes_after = laid _ _ _ (search rules) c.remove_from.ensures.bytes_after;
@@ -90,8 +89,6 @@ returns-in-15 c =
 
 pub returns-in_default : goal.returns-in_default
 returns-in_default c =
-    let a = c.args in
-    let n = c.in_default.in_default-own.rest in
     rw ((coded c.args.h.cmd).idle (rw (ne_eqb _ 1 c.in_default.in_default-own.rest.0.0.0.0.0.0.0.0.0.0.0.0.1, ne_eqb _ 2 c.in_default.in_default-own.rest.0.0.0.0.0.0.0.0.0.0.0.1, ne_eqb _ 3 c.in_default.in_default-own.rest.0.0.0.0.0.0.0.0.0.0.1, ne_eqb _ 4 c.in_default.in_default-own.rest.0.0.0.0.0.0.0.0.0.1, ne_eqb _ 5 c.in_default.in_default-own.rest.0.0.0.0.0.0.0.0.1, ne_eqb _ 7 c.in_default.in_default-own.rest.0.0.0.0.0.0.0.1, ne_eqb _ 8 c.in_default.in_default-own.rest.0.0.0.0.0.0.1, ne_eqb _ 9 c.in_default.in_default-own.rest.0.0.0.0.0.1, ne_eqb _ 10 c.in_default.in_default-own.rest.0.0.0.0.1, ne_eqb _ 11 c.in_default.in_default-own.rest.0.0.0.1, ne_eqb _ 13 c.in_default.in_default-own.rest.0.0.1, ne_eqb _ 14 c.in_default.in_default-own.rest.0.1, ne_eqb _ 15 c.in_default.in_default-own.rest.1)) c.args.h _ _) record {
       value = refl;
       bytes_after = stays _;

@@ -14,7 +14,6 @@ use Rattle.service.proofs.reply.reply_contents.Goals as goal
 pub returns : goal.returns
 unfolding sends
 returns c =
-    let a = c.args in
     let at = c.args.h.arg1 in
     let n = c.args.h.arg2 in
     let l = local c.args.process c.args.bytes.now in

@@ -9,7 +9,6 @@ use Rattle.service.proofs.request.answer_for_process.Goals as goal
 
 pub grant-requires : goal.grant-requires
 grant-requires c =
-    let a = c.args in
     let d = says c.args.h c.args.process (Allow _) (sym c.in-Allow.is ∙ c.decide-decision.ensures) in
     record {
       present = record { tested = c.requires.tested; there = d.there };
@@ -21,7 +20,6 @@ grant-requires c =
 
 pub refuse-requires : goal.refuse-requires
 refuse-requires c =
-    let a = c.args in
     let d = says c.args.h c.args.process (Refuse _) (sym c.in-Refuse.is ∙ c.decide-decision.ensures) in
     record {
       fact = d.1;
@@ -31,14 +29,12 @@ refuse-requires c =
 pub returns-in-Allow : goal.returns-in-Allow
 unfolding named_at named_by
 returns-in-Allow c =
-    let a = c.args in
     let d = says c.args.h c.args.process (Allow _) (sym c.in-Allow.is ∙ c.decide-decision.ensures) in
     rw d.passed c.grant.ensures
 
 pub returns-in-Refuse : goal.returns-in-Refuse
 unfolding named_at
 returns-in-Refuse c =
-    let a = c.args in
     let d = says c.args.h c.args.process (Refuse _) (sym c.in-Refuse.is ∙ c.decide-decision.ensures) in
     rw (← d.0, named-refused _ d.1 c.args.h c.args.string.now c.args.reply.now (local c.args.process c.args.bytes.now))
     (ap₂ leaving c.refuse.ensures refl)

@@ -4,7 +4,6 @@ use Rattle.state.proofs.memory.close.Goals as goal
 
 pub returns : goal.returns
 returns c =
-    let a = c.args in
     closed-part c.args.start c.args.count c.args.end c.args.memory.now c.requires.0 c.requires.1 c.move_down.new.memory c.zero.new.bytes
     c.move_down.ensures
     c.zero.ensures

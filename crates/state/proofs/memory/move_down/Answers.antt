@@ -9,12 +9,10 @@ use Rattle.state.proofs.MemoryLaws.{lowered_is}
 use Rattle.state.proofs.memory.move_down.Goals as goal
 
 pub loop-i-init : goal.loop-i-init
-loop-i-init c = let a = c.args in (omega arith, omega arith, refl, moved_none c.args.start c.args.count c.args.memory.now)
+loop-i-init c = (omega arith, omega arith, refl, moved_none c.args.start c.args.count c.args.memory.now)
 
 pub loop-i-preserved : goal.loop-i-preserved
 loop-i-preserved c =
-    let a = c.args in
-    let v = c.loop-i.invariant in
     let low : c.loop-i.i < length c.loop-i.memory = omega (arith, c.loop-i.invariant.2) in (
       omega (arith, c.loop-i.invariant.0),
       omega arith,
@@ -24,8 +22,6 @@ loop-i-preserved c =
 
 pub returns : goal.returns
 returns c =
-    let a = c.args in
-    let v = c.loop-i.invariant in
     let at : c.loop-i.i ≡ c.args.end - c.args.count = omega (arith, c.loop-i.invariant.1) in
     lowered_is c.args.start c.args.count c.args.end c.args.memory.now c.requires.0 c.requires.1 c.loop-i.memory
     (subst (λ (i : ℕ). Moved c.args.start c.args.count i c.args.memory.now c.loop-i.memory) at c.loop-i.invariant.3)

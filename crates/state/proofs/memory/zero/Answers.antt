@@ -14,7 +14,6 @@ loop-i-init c = (omega arith, refl, refl)
 pub loop-i-preserved : goal.loop-i-preserved
 loop-i-preserved c =
     let was = c.args.bytes.now in
-    let v = c.loop-i.invariant in
     let i = c.loop-i.i in
     let low : i < length was = omega (arith, c.loop-i.invariant.1) in
     (omega arith, length-set c.loop-i.bytes i 0 ∙ c.loop-i.invariant.1, ap (λ (xs : List ℕ). set xs i 0) c.loop-i.invariant.2 ∙ replicate-step i 0 was low)
@@ -22,6 +21,5 @@ loop-i-preserved c =
 pub returns : goal.returns
 returns c =
     let was = c.args.bytes.now in
-    let v = c.loop-i.invariant in
     let at : c.loop-i.i ≡ length was = omega (arith, c.loop-i.invariant.0, c.loop-i.invariant.1) in
     c.loop-i.invariant.2 ∙ rw at (replicate-whole 0 was)

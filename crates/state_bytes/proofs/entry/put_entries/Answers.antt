@@ -37,7 +37,6 @@ put_entry-requires c =
 
 pub loop-k-preserved : goal.loop-k-preserved
 loop-k-preserved c =
-    let a = c.args in
     let h : c.loop-k.k < length c.args.entries = omega (arith, c.loop-k.invariant.1) in
     let laid = joined_step entry_bytes c.args.entries c.loop-k.k (entry_width * c.loop-k.k) free c.args.bytes.now c.loop-k.bytes c.put_entry.new.bytes h c.loop-k.invariant.3 c.loop-k.invariant.4 c.put_entry.ensures in
     let long : length (joined entry_bytes (take (c.loop-k.k + 1) c.args.entries)) ≡ entry_width * (c.loop-k.k + 1) = length-joined-more entry_width entry_bytes c.args.entries c.loop-k.k (entry_width * c.loop-k.k) free h c.loop-k.invariant.3 (length-entry_bytes _) ∙ omega arith in
@@ -48,5 +47,4 @@ shape_of-bytes c = c.loop-k.invariant.2
 
 pub returns : goal.returns
 returns c =
-    let a = c.args in
     c.loop-k.invariant.4 ∙ ap (λ (xs : List _). overlay (joined entry_bytes xs) c.args.bytes.now) (take_all c.loop-k.k c.args.entries (omega (arith, c.loop-k.invariant.1)))

@@ -12,14 +12,12 @@ use Rattle.state_bytes.proofs.layout.is_placed.Goals as goal
 pub returns-then-not-is_there : goal.returns-then-not-is_there
 unfolding placed
 returns-then-not-is_there c =
-    let a = c.args in
     let absent : (process_at (state_of c.args.state.now) c.args.p).there ≡ false = sym c.is_there.ensures ∙ c.if-not-is_there.true in
     rw absent
 
 pub returns-then-used_before-start : goal.returns-then-used_before-start
 unfolding placed
 returns-then-used_before-start c =
-    let a = c.args in
     let g = state_of c.args.state.now in
     let there : (process_at g c.args.p).there ≡ true = sym c.is_there.ensures ∙ c.if-not-is_there.false in
     let before = c.used_before.ensures ∙ ap (λ (n : ℕ). used_before n g) c.read_start-start.ensures in
@@ -29,7 +27,6 @@ returns-then-used_before-start c =
 pub returns : goal.returns
 unfolding placed
 returns c =
-    let a = c.args in
     let g = state_of c.args.state.now in
     let there : (process_at g c.args.p).there ≡ true = sym c.is_there.ensures ∙ c.if-not-is_there.false in
     let before = c.used_before.ensures ∙ ap (λ (n : ℕ). used_before n g) c.read_start-start.ensures in

@@ -19,7 +19,6 @@ extent_before-requires c = record { q_lt_process_count = omega arith; state_widt
 
 pub loop-q-preserved : goal.loop-q-preserved
 loop-q-preserved c =
-    let a = c.args in
     let q = c.loop-q.q in
     (omega arith, rw (add-one q) (omega (arith, total-suc (extent_before (state_of c.args.state.now) c.args.start) q, c.extent_before.ensures, c.loop-q.invariant.1)), omega arith)
 

@@ -49,7 +49,6 @@ put_u32_le-requires c = simp (length-take, length-drop, length-set) (omega arith
 
 pub returns : goal.returns
 returns c =
-    let a = c.args in
     let id = u32_le_bytes c.args.p.session.go.id in
     let front : List ℕ =
     c.flag.result

@@ -17,7 +17,6 @@ use Rattle.state_bytes.proofs.process_form.put_process.Goals as goal
 
 pub returns : goal.returns
 returns c =
-    let a = c.args in
     let words = c.put_vector.ensures.vector_len in
     let eight : length c.args.p.breaks ≡ 8 = search rules in
     let front = head_bytes c.args.p ++ low_first c.args.p.vector in

@@ -10,7 +10,6 @@ use Rattle.state_bytes.proofs.process_form.session_fits.Goals as goal
 pub returns-then-bytes-eq0-3 : goal.returns-then-bytes-eq0-3
 unfolding session_fits owed_of session_sound owed_sound watcher_sound go_sound
 returns-then-bytes-eq0-3 c =
-    let m = c.args.bytes.now in
     rw (c.if-bytes-eq0.true, c.if-bytes-eq0-2.true, c.if-bytes-eq0-3.true)
 
 pub returns-then-bytes-gt-LAST_OWED_NUMBER : goal.returns-then-bytes-gt-LAST_OWED_NUMBER

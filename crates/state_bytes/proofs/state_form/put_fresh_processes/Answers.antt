@@ -31,7 +31,6 @@ put_process-requires c =
 
 pub loop-p-preserved : goal.loop-p-preserved
 loop-p-preserved c =
-    let a = c.args in
     let k = c.loop-p.p in
     let all = fresh_processes c.args.there c.args.sizes in
     let h : k < length all = omega (arith, c.loop-p.invariant.1, length-fresh_processes c.args.there c.args.sizes) in
@@ -47,7 +46,6 @@ shape_of-state c = c.loop-p.invariant.2
 
 pub returns : goal.returns
 returns c =
-    let a = c.args in
     let processes = fresh_processes c.args.there c.args.sizes in
     let all : take c.loop-p.p processes ≡ processes = take_all c.loop-p.p processes (omega (arith, c.loop-p.invariant.1, length-fresh_processes c.args.there c.args.sizes)) in
     let end : c.loop-p.at ≡ starts_at = omega arith in

@@ -10,6 +10,5 @@ shape_of-state c = simp length-set (omega arith)
 
 pub returns : goal.returns
 returns c =
-    let a = c.args in
     fresh-bytes c.args.there c.args.sizes c.args.state.now c.put_fresh_processes.new.state c.put_fresh_starts.new.state c.args.door
     (search rules) (search rules) c.put_fresh_processes.ensures.sizes_len c.put_fresh_processes.ensures.state_after c.put_fresh_starts.ensures

@@ -9,5 +9,4 @@ use Rattle.text_door.proofs.answer.fail.Goals as goal
 pub returns : goal.returns
 unfolding answer_fields failure
 returns c =
-    let a = c.args in
     rw (le-ltb c.args.number 100 c.requires.le_number, ← outcome-other c.args.number 0 (λ e. omega (arith, e, c.requires.le_number)), c.write_answer.ensures.out_after)

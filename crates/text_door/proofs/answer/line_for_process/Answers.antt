@@ -8,7 +8,6 @@ use Rattle.text_door.proofs.answer.line_for_process.Goals as goal
 
 pub fail-requires : goal.fail-requires
 fail-requires c =
-    let a = c.args in
     record {
       le_number = rw c.text_number-number.ensures (number-high c.args.line c.args.process (rw c.text_number-number.ensures at c.if-number-ne0.true));
       line_bytes_in_bounds = c.requires.line_bytes_in_bounds;
@@ -17,12 +16,10 @@ fail-requires c =
 pub returns-then-number-ne0 : goal.returns-then-number-ne0
 unfolding text_at
 returns-then-number-ne0 c =
-    let a = c.args in
     rw (← c.text_number-number.ensures, text-refused _ c.if-number-ne0.true c.args.line c.args.out.now (local c.args.process c.args.bytes.now)) (ap₂ leaving c.fail.ensures refl)
 
 pub grant-requires : goal.grant-requires
 grant-requires c =
-    let a = c.args in
     let z = sym c.text_number-number.ensures ∙ c.if-number-ne0.false in
     record {
       present = record { tested = c.requires.tested; there = passed-there c.args.line c.args.process z };
@@ -33,6 +30,5 @@ grant-requires c =
 pub returns : goal.returns
 unfolding text_at
 returns c =
-    let a = c.args in
     let z = sym c.text_number-number.ensures ∙ c.if-number-ne0.false in
     rw (z, text-granted c.args.line c.args.out.now (local c.args.process c.args.bytes.now), ← c.request_of-request.ensures) c.grant.ensures

@@ -10,25 +10,21 @@ use Rattle.text_door.proofs.answer.reply_to.Goals as goal
 pub read_word-requires : goal.read_word-requires
 unfolding row_of
 read_word-requires c =
-    let a = c.args in
     rw (whole c.args.process c.args.bytes.now c.requires.present) (word-within c.args.line c.args.process.size (rw c.in-ReadWord.is at c.requires.passed.range))
 
 pub read_word-requires-in-WriteWord : goal.read_word-requires-in-WriteWord
 unfolding row_of
 read_word-requires-in-WriteWord c =
-    let a = c.args in
     rw (whole c.args.process c.args.bytes.now c.requires.present) (word-within c.args.line c.args.process.size (rw c.in-WriteWord.is at c.requires.passed.range))
 
 pub read_register-requires : goal.read_register-requires
 unfolding row_of
 read_register-requires c =
-    let a = c.args in
     register-low c.args.line c.args.process.size (rw c.in-ReadRegister.is at c.requires.passed.range)
 
 pub read_register-requires-in-WriteRegister : goal.read_register-requires-in-WriteRegister
 unfolding row_of
 read_register-requires-in-WriteRegister c =
-    let a = c.args in
     register-low c.args.line c.args.process.size (rw c.in-WriteRegister.is at c.requires.passed.range)
 
 pub returns-in-ReadWord : goal.returns-in-ReadWord

@@ -11,7 +11,6 @@ use Rattle.text_door.proofs.effect.perform.Goals as goal
 pub write_word-requires : goal.write_word-requires
 unfolding row_of
 write_word-requires c =
-    let a = c.args in
     record {
       tested = c.requires.present.tested;
       third_in_bounds = rw (whole c.args.process c.args.bytes.now c.requires.present) (word-within c.args.line c.args.process.size (rw c.in-WriteWord.is at c.requires.passed.range));
@@ -20,19 +19,16 @@ write_word-requires c =
 pub write_register-requires : goal.write_register-requires
 unfolding row_of
 write_register-requires c =
-    let a = c.args in
     (register-low c.args.line c.args.process.size (rw c.in-WriteRegister.is at c.requires.passed.range), leb-true c.args.line.fourth 65535 (rw c.in-WriteRegister.is at c.requires.passed.state))
 
 pub overflow_cast-line : goal.overflow_cast-line
 unfolding row_of
 overflow_cast-line c =
-    let a = c.args in
     omega (arith, pc-low c.args.line c.args.process.size (tested-sound c.args.process c.args.bytes.now c.requires.present.tested).sized.most (rw c.in-Continue.is at c.requires.passed.range))
 
 pub overflow_cast-line-in-Step : goal.overflow_cast-line-in-Step
 unfolding row_of
 overflow_cast-line-in-Step c =
-    let a = c.args in
     omega (arith, pc-low c.args.line c.args.process.size (tested-sound c.args.process c.args.bytes.now c.requires.present.tested).sized.most (rw c.in-Step.is at c.requires.passed.range))
 
 pub returns-in-ReadWord : goal.returns-in-ReadWord

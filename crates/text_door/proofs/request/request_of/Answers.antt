@@ -34,4 +34,4 @@ returns-in-99 c = rw c.in-99.is
 pub returns-in_default : goal.returns-in_default
 unfolding request_of
 returns-in_default c =
-    let n = c.in_default.in_default-own.rest in rw (ne_eqb _ 105 c.in_default.in_default-own.rest.0.0.0.0.0.0.1, ne_eqb _ 100 c.in_default.in_default-own.rest.0.0.0.0.0.1, ne_eqb _ 73 c.in_default.in_default-own.rest.0.0.0.0.1, ne_eqb _ 68 c.in_default.in_default-own.rest.0.0.0.1, ne_eqb _ 114 c.in_default.in_default-own.rest.0.0.1, ne_eqb _ 82 c.in_default.in_default-own.rest.0.1, ne_eqb _ 99 c.in_default.in_default-own.rest.1)
+    rw (ne_eqb _ 105 c.in_default.in_default-own.rest.0.0.0.0.0.0.1, ne_eqb _ 100 c.in_default.in_default-own.rest.0.0.0.0.0.1, ne_eqb _ 73 c.in_default.in_default-own.rest.0.0.0.0.1, ne_eqb _ 68 c.in_default.in_default-own.rest.0.0.0.1, ne_eqb _ 114 c.in_default.in_default-own.rest.0.0.1, ne_eqb _ 82 c.in_default.in_default-own.rest.0.1, ne_eqb _ 99 c.in_default.in_default-own.rest.1)

@@ -12,7 +12,7 @@ returns-then-address-eq1 c = rw (eq-eqb _ _ c.if-address-eq1.true)
 
 pub returns-then-address-gt65535 : goal.returns-then-address-gt65535
 unfolding pc_range
-returns-then-address-gt65535 c = let a = c.args in rw (ne_eqb _ _ c.if-address-eq1.false) (sym (far c.args.size c.args.line.third (omega arith)))
+returns-then-address-gt65535 c = rw (ne_eqb _ _ c.if-address-eq1.false) (sym (far c.args.size c.args.line.third (omega arith)))
 
 pub returns : goal.returns
 unfolding pc_range

@@ -11,7 +11,7 @@ returns-then-address-ne0 c = rw (ne_eqb _ _ c.if-address-ne0.true)
 
 pub returns-then-address-gt65535 : goal.returns-then-address-gt65535
 unfolding word_range
-returns-then-address-gt65535 c = let a = c.args in rw (eq-eqb _ _ c.if-address-ne0.false, lt-leb (c.args.line.third + 4) c.args.size (omega arith))
+returns-then-address-gt65535 c = rw (eq-eqb _ _ c.if-address-ne0.false, lt-leb (c.args.line.third + 4) c.args.size (omega arith))
 
 pub returns : goal.returns
 unfolding word_range

@@ -38,5 +38,4 @@ returns-in-16 c = rw (c.in-16.is, ← c.who_set.ensures)
 pub returns-in_default : goal.returns-in_default
 unfolding reason_for
 returns-in_default c =
-    let n = c.in_default.in_default-own.rest in
     rw (ne_eqb _ 0 c.in_default.in_default-own.rest.0.0.0.0.0.0.0.1, ne_eqb _ 3 c.in_default.in_default-own.rest.0.0.0.0.0.0.1, ne_eqb _ 8 c.in_default.in_default-own.rest.0.0.0.0.0.1, ne_eqb _ 9 c.in_default.in_default-own.rest.0.0.0.0.1, ne_eqb _ 10 c.in_default.in_default-own.rest.0.0.0.1, ne_eqb _ 11 c.in_default.in_default-own.rest.0.0.1, ne_eqb _ 15 c.in_default.in_default-own.rest.0.1, ne_eqb _ 16 c.in_default.in_default-own.rest.1)

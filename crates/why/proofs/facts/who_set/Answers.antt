@@ -13,21 +13,18 @@ use Rattle.why.proofs.facts.who_set.Goals as goal
 
 pub setter_in-requires : goal.setter_in-requires
 setter_in-requires c =
-    let a = c.args in
     let at = found-index (find (At c.args.h.arg1) c.args.process) _ (sym c.find-found.ensures ∙ c.in-Index.is) in
     rw at.same at at.low
 
 pub returns-in-Index : goal.returns-in-Index
 unfolding who_set
 returns-in-Index c =
-    let a = c.args in
     let at = found-index (find (At c.args.h.arg1) c.args.process) _ (sym c.find-found.ensures ∙ c.in-Index.is) in
     rw at.same c.setter_in.ensures
 
 pub returns-in-Nowhere : goal.returns-in-Nowhere
 unfolding who_set
 returns-in-Nowhere c =
-    let a = c.args in
     let eight : length c.args.process.breaks ≡ 8 = search rules in
     let none = found_nowhere (find (At c.args.h.arg1) c.args.process) (sym c.find-found.ensures ∙ c.in-Nowhere.is) in
     sym (ap (λ (b : Breakpoint). b.setter) (get_or-eq_default c.args.process.breaks free (omega (arith, eight, none))))

@@ -18,13 +18,11 @@ overflow_add-size c = omega (arith, (goes-range most_size (size_of c.args.self) 
 pub returns-then-goes_on : goal.returns-then-goes_on
 unfolding next_in
 returns-then-goes_on c =
-    let a = c.args in
     let e : goes_on most_size (size_of c.args.self) c.args.c ≡ true = sym c.goes_on.ensures ∙ c.if-goes_on.true in
     rw e c.sized.ensures
 
 pub returns : goal.returns
 unfolding next_in
 returns c =
-    let a = c.args in
     let e : goes_on most_size (size_of c.args.self) c.args.c ≡ false = sym c.goes_on.ensures ∙ c.if-goes_on.false in
     rw e c.only.ensures

@@ -18,13 +18,11 @@ overflow_add-door c = omega (arith, (goes-range no_door c.args.self.door c.args.
 pub returns-then-goes_on : goal.returns-then-goes_on
 unfolding next_in
 returns-then-goes_on c =
-    let a = c.args in
     let e : goes_on no_door c.args.self.door c.args.c ≡ true = sym c.goes_on.ensures ∙ c.if-goes_on.true in
     rw e c.doored.ensures
 
 pub returns : goal.returns
 unfolding next_in
 returns c =
-    let a = c.args in
     let e : goes_on no_door c.args.self.door c.args.c ≡ false = sym c.goes_on.ensures ∙ c.if-goes_on.false in
     rw e c.at.ensures

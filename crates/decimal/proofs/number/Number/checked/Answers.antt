@@ -6,10 +6,8 @@ use Rattle.decimal.proofs.number.Number.checked.Goals as goal
 
 pub returns-then-not-is_plain : goal.returns-then-not-is_plain
 returns-then-not-is_plain c =
-    let a = c.args in
     c.wrong.ensures ∙ ap (λ (t : Bool). checked t c.args.value c.args.end) (sym c.if-not-is_plain.true ∙ c.is_plain.ensures)
 
 pub returns : goal.returns
 returns c =
-    let a = c.args in
     ap (λ (t : Bool). checked t c.args.value c.args.end) (sym c.if-not-is_plain.false ∙ c.is_plain.ensures)

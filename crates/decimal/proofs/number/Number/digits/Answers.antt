@@ -12,14 +12,12 @@ loop-i-init c = (omega arith, omega (arith, c.requires.at_in_bounds), omega arit
 
 pub returns-then-v-eq10 : goal.returns-then-v-eq10
 returns-then-v-eq10 c =
-    let a = c.args in
     let h : c.loop-i.i < length c.args.line.now = omega arith in
     let none = stops-here c.args.line.now c.loop-i.i h (sym c.digit-v.ensures.value ∙ c.if-v-eq10.true) in
     c.checked.ensures ∙ all_read c.args.most c.args.at c.args.line.now c.loop-i.value c.loop-i.i c.loop-i.invariant.3 c.loop-i.invariant.4 none c.loop-i.invariant.2
 
 pub returns-then-most-value : goal.returns-then-most-value
 returns-then-most-value c =
-    let a = c.args in
     let h : c.loop-i.i < length c.args.line.now = omega arith in
     let e = c.digit-v.ensures.value in
     let rest = digits_of (drop (c.loop-i.i + 1) c.args.line.now) in
@@ -29,7 +27,6 @@ returns-then-most-value c =
 
 pub loop-i-preserved : goal.loop-i-preserved
 loop-i-preserved c =
-    let a = c.args in
     let h : c.loop-i.i < length c.args.line.now = omega arith in
     let e = c.digit-v.ensures.value in
     let rest = digits_of (drop (c.loop-i.i + 1) c.args.line.now) in
@@ -43,6 +40,5 @@ loop-i-preserved c =
 
 pub returns : goal.returns
 returns c =
-    let a = c.args in
     let none = stops_end c.args.line.now c.loop-i.i (omega arith) in
     c.checked-2.ensures ∙ all_read c.args.most c.args.at c.args.line.now c.loop-i.value c.loop-i.i c.loop-i.invariant.3 c.loop-i.invariant.4 none c.loop-i.invariant.2

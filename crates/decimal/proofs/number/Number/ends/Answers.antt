@@ -14,5 +14,4 @@ returns-then-not-self c = rw (not-true c.args.self.ok c.if-not-self.true)
 pub returns : goal.returns
 unfolding ends_line
 returns c =
-    let a = c.args in
     sym (ap (λ (t : Bool). t && eqb c.args.self.next (length c.args.line.now)) (not-false c.args.self.ok c.if-not-self.false))

@@ -9,7 +9,6 @@ use Rattle.decimal.proofs.number.Number.then.Goals as goal
 
 pub returns-then-not-self : goal.returns-then-not-self
 returns-then-not-self c =
-    let a = c.args in
     let e = c.wrong.ensures in
     record {
       value = e ∙ behind-wrong c.args.most c.args.line.now c.args.self (not-true _ c.if-not-self.true);
@@ -18,7 +17,6 @@ returns-then-not-self c =
 
 pub returns-then-line-at : goal.returns-then-line-at
 returns-then-line-at c =
-    let a = c.args in
     let e = c.wrong-then-line-at.ensures in
     record {
       value = e ∙ behind-end c.args.most c.args.line.now c.args.self c.if-line-at.true;
@@ -27,7 +25,6 @@ returns-then-line-at c =
 
 pub returns-then-line-at-ne32 : goal.returns-then-line-at-ne32
 returns-then-line-at-ne32 c =
-    let a = c.args in
     let e = c.wrong-then-line-at-ne32.ensures in
     record {
       value = e ∙ behind-other c.args.most c.args.line.now c.args.self c.if-line-at-ne32.true;
@@ -36,7 +33,6 @@ returns-then-line-at-ne32 c =
 
 pub returns : goal.returns
 returns c =
-    let a = c.args in
     let d = c.digits.ensures in record {
       value = d ∙ behind-blank c.args.most c.args.line.now c.args.self (not-false _ c.if-not-self.false) c.if-line-at-ne32.false;
       value_le_most = omega (arith, ap (λ (n : Number). n.value) d, number_bound c.args.most (c.args.self.next + 1) c.args.line.now);

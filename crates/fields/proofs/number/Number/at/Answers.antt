@@ -5,15 +5,14 @@ use Rattle.fields.proofs.ReadLaws.{number-first, number-second, number_short, nu
 use Rattle.fields.proofs.number.Number.at.Goals as goal
 
 pub returns-then-text-at-lt2 : goal.returns-then-text-at-lt2
-returns-then-text-at-lt2 c = let a = c.args in c.wrong.ensures ∙ number_short c.args.text.now c.args.at (omega arith)
+returns-then-text-at-lt2 c = c.wrong.ensures ∙ number_short c.args.text.now c.args.at (omega arith)
 
 pub returns-then-text-at-ne48 : goal.returns-then-text-at-ne48
-returns-then-text-at-ne48 c = let a = c.args in c.wrong-then-text-at-ne48.ensures ∙ number-first c.args.text.now c.args.at c.if-text-at-ne48.true
+returns-then-text-at-ne48 c = c.wrong-then-text-at-ne48.ensures ∙ number-first c.args.text.now c.args.at c.if-text-at-ne48.true
 
 pub returns-then-text-at-ne120 : goal.returns-then-text-at-ne120
-returns-then-text-at-ne120 c = let a = c.args in c.wrong-then-text-at-ne120.ensures ∙ number-second c.args.text.now c.args.at c.if-text-at-ne120.true
+returns-then-text-at-ne120 c = c.wrong-then-text-at-ne120.ensures ∙ number-second c.args.text.now c.args.at c.if-text-at-ne120.true
 
 pub returns : goal.returns
 returns c =
-    let a = c.args in
     c.digits.ensures ∙ number_digits c.args.text.now c.args.at c.if-text-at-ne48.false c.if-text-at-ne120.false

@@ -12,14 +12,12 @@ loop-i-init c = (omega arith, omega (arith, c.requires), omega arith, refl, refl
 
 pub returns-then-v-eq16 : goal.returns-then-v-eq16
 returns-then-v-eq16 c =
-    let a = c.args in
     let h : c.loop-i.i < length c.args.text.now = omega arith in
     let none = stops-here c.args.text.now c.loop-i.i h (sym c.digit_value-v.ensures.value ∙ c.if-v-eq16.true) in
     c.checked.ensures ∙ all_read c.args.at c.args.text.now c.loop-i.value c.loop-i.i c.loop-i.invariant.3 c.loop-i.invariant.4 none c.loop-i.invariant.2
 
 pub returns-then-value-gt268435455 : goal.returns-then-value-gt268435455
 returns-then-value-gt268435455 c =
-    let a = c.args in
     let h : c.loop-i.i < length c.args.text.now = omega arith in
     let e = c.digit_value-v.ensures.value in
     let same = sym (value-turn c.args.text.now c.loop-i.i h c.loop-i.value (λ q. c.if-v-eq16.false (e ∙ q))) ∙ c.loop-i.invariant.3 in
@@ -30,7 +28,6 @@ overflow_add-value c = omega (arith, c.if-v-eq16.false, c.digit_value-v.ensures.
 
 pub loop-i-preserved : goal.loop-i-preserved
 loop-i-preserved c =
-    let a = c.args in
     let h : c.loop-i.i < length c.args.text.now = omega arith in
     let e = c.digit_value-v.ensures.value in
     let rest = digits_of (drop (c.loop-i.i + 1) c.args.text.now) in
@@ -44,6 +41,5 @@ loop-i-preserved c =
 
 pub returns : goal.returns
 returns c =
-    let a = c.args in
     let none = stops_end c.args.text.now c.loop-i.i (omega arith) in
     c.checked-2.ensures ∙ all_read c.args.at c.args.text.now c.loop-i.value c.loop-i.i c.loop-i.invariant.3 c.loop-i.invariant.4 none c.loop-i.invariant.2

@@ -6,5 +6,4 @@ use Rattle.fields.proofs.read.Head.of.Goals as goal
 pub returns : goal.returns
 unfolding head_of
 returns c =
-    let a = c.args in
     c.after.ensures ∙ ap (head_after c.args.text.now) c.at.ensures

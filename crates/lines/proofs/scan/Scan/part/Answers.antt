@@ -12,10 +12,7 @@ loop-i-init c = (omega arith, refl, refl, refl, refl)
 
 pub loop-i-preserved : goal.loop-i-preserved
 loop-i-preserved c =
-    let a = c.args in
     let t = c.args.text.now in
-    let s = c.loop-i.scan in
-    let e = c.push-scan.ensures in
     let h : c.loop-i.i < length t = omega arith in
     let same = c.loop-i.invariant.1 in (
       omega arith,
@@ -30,9 +27,7 @@ shape_of-buffer c = c.loop-i.invariant.1
 
 pub returns : goal.returns
 returns c =
-    let a = c.args in
     let t = c.args.text.now in
-    let s = c.loop-i.scan in
     let past : length t ≤ c.loop-i.i = omega arith in record {
       phase_value = sym (end-phase c.loop-i.scan.phase t c.loop-i.i past) ∙ c.loop-i.invariant.2;
       len_value = sym (end-filled c.loop-i.scan.phase t c.loop-i.i past (length c.args.buffer.now) c.loop-i.scan.len) ∙ c.loop-i.invariant.3;

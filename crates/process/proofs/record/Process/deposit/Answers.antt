@@ -29,7 +29,6 @@ exchange-requires c =
 pub returns : goal.returns
 unfolding deposited sheltered
 returns c =
-    let p = c.args.self in
     let m = c.args.bytes.now in
     let string = c.args.string.now in
     let pasted = paste-lent c.args.at string c.exchange-p.new.bytes in

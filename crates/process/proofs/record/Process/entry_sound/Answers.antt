@@ -26,24 +26,20 @@ module _ (b e : Breakpoint) (same : b ≡ e) where
 pub returns-then-b-eq0 : goal.returns-then-b-eq0
 unfolding entry_sound used_sound
 returns-then-b-eq0 c =
-    let a = c.args in
     rw (used c.args.b (entry c.args.self c.args.k) c.requires.b_value _ (none-set c.args.b c.if-b-eq0.true))
 
 pub returns-then-self-eq0 : goal.returns-then-self-eq0
 unfolding entry_sound used_sound
 returns-then-self-eq0 c =
-    let a = c.args in
     rw (used c.args.b (entry c.args.self c.args.k) c.requires.b_value _ (some-set c.args.b c.if-b-eq0.false), eq-eqb _ _ c.if-self-eq0.true)
 
 pub setter_sound-requires : goal.setter_sound-requires
 setter_sound-requires c =
-    let a = c.args in
     setter c.args.b (entry c.args.self c.args.k) c.requires.b_value
 
 pub returns-then-not-setter_sound : goal.returns-then-not-setter_sound
 unfolding entry_sound used_sound
 returns-then-not-setter_sound c =
-    let a = c.args in
     rw (
       used c.args.b (entry c.args.self c.args.k) c.requires.b_value _ (some-set c.args.b c.if-b-eq0.false),
       ne_eqb _ _ c.if-self-eq0.false,
@@ -54,7 +50,6 @@ returns-then-not-setter_sound c =
 pub returns-then-not-valid_break_address : goal.returns-then-not-valid_break_address
 unfolding entry_sound used_sound
 returns-then-not-valid_break_address c =
-    let a = c.args in
     rw (
       used c.args.b (entry c.args.self c.args.k) c.requires.b_value _ (some-set c.args.b c.if-b-eq0.false),
       ne_eqb _ _ c.if-self-eq0.false,
@@ -66,7 +61,6 @@ returns-then-not-valid_break_address c =
 
 pub address_is_unique-requires : goal.address_is_unique-requires
 address_is_unique-requires c =
-    let a = c.args in
     let e = entry c.args.self c.args.k in
     record {
       k_lt_entry_count = c.requires.k_lt_entry_count;
@@ -77,7 +71,6 @@ address_is_unique-requires c =
 pub returns-then-not-address_is_unique : goal.returns-then-not-address_is_unique
 unfolding entry_sound used_sound
 returns-then-not-address_is_unique c =
-    let a = c.args in
     let e = entry c.args.self c.args.k in
     rw (
       used c.args.b e c.requires.b_value _ (some-set c.args.b c.if-b-eq0.false),
@@ -90,14 +83,12 @@ returns-then-not-address_is_unique c =
 
 pub lift_sound-requires : goal.lift_sound-requires
 lift_sound-requires c =
-    let a = c.args in
     let e = entry c.args.self c.args.k in
     (c.requires.k_lt_entry_count, used c.args.b e c.requires.b_value _ (some-set c.args.b c.if-b-eq0.false), lifted c.args.b e c.requires.b_value, c.requires.earlier_value)
 
 pub returns : goal.returns
 unfolding entry_sound used_sound
 returns c =
-    let a = c.args in
     let e = entry c.args.self c.args.k in
     rw (
       used c.args.b e c.requires.b_value _ (some-set c.args.b c.if-b-eq0.false),

@@ -18,21 +18,18 @@ loop-k-init c = (omega arith, (search rules), omega arith)
 pub returns-then-matches : goal.returns-then-matches
 unfolding find found_entry
 returns-then-matches c =
-    let a = c.args in
     let e = first-here (matches c.args.query) c.args.self.breaks c.loop-k.k free (omega arith) (sym c.matches.ensures ∙ c.if-matches.true) in
     let at : first (matches c.args.query) c.args.self.breaks ≡ c.loop-k.k = omega arith in
     rw (at, lt-ltb c.loop-k.k 8 (omega arith))
 
 pub loop-k-preserved : goal.loop-k-preserved
 loop-k-preserved c =
-    let a = c.args in
     let e = first_next (matches c.args.query) c.args.self.breaks c.loop-k.k free (omega arith) (sym c.matches.ensures ∙ c.if-matches.false) in
     (omega arith, c.loop-k.invariant.1, omega arith)
 
 pub returns : goal.returns
 unfolding find found_entry
 returns c =
-    let a = c.args in
     let past : length c.args.self.breaks ≤ c.loop-k.k = omega arith in
     let e = ap (first (matches c.args.query)) (drop_of_length-le c.args.self.breaks past) in
     rw (le-ltb (first (matches c.args.query) c.args.self.breaks) 8 (omega arith))

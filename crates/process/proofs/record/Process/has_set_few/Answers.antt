@@ -16,7 +16,6 @@ loop-k-init c = (omega arith, (search rules), omega arith, omega arith)
 
 pub returns-then-n-eq4 : goal.returns-then-n-eq4
 returns-then-n-eq4 c =
-    let a = c.args in
     let low : c.loop-k.k < length c.args.self.breaks = omega arith in
     elim c.if-is_set_by.branch [
       | then-is_set_by w ↦ let e = count-his c.args.host c.args.self.breaks c.loop-k.k low (sym c.is_set_by.ensures ∙ w.if-is_set_by.true) in
@@ -27,7 +26,6 @@ returns-then-n-eq4 c =
 
 pub loop-k-preserved : goal.loop-k-preserved
 loop-k-preserved c =
-    let a = c.args in
     let low : c.loop-k.k < length c.args.self.breaks = omega arith in
     elim c.if-is_set_by.branch [
       | then-is_set_by w ↦ let e = count-his c.args.host c.args.self.breaks c.loop-k.k low (sym c.is_set_by.ensures ∙ w.if-is_set_by.true) in
@@ -39,7 +37,6 @@ loop-k-preserved c =
 pub returns : goal.returns
 unfolding count_set_by
 returns c =
-    let a = c.args in
     let past : length c.args.self.breaks ≤ c.loop-k.k = omega arith in
     let e = ap (count_set_by c.args.host) (drop_of_length-le c.args.self.breaks past) in
     sym (lt-ltb (count_set_by c.args.host c.args.self.breaks) 4 (omega arith))

@@ -10,7 +10,6 @@ use Rattle.process.proofs.record.Process.lift_at.Goals as goal
 pub returns-in_default : goal.returns-in_default
 unfolding lifted_at
 returns-in_default c =
-    let a = c.args in
     let none = found_nowhere (find (At c.args.pc) c.args.self) (sym c.find-found.ensures ∙ c.in_default.is) in
     rw (le-ltb _ _ none) record {
       value = refl;
@@ -25,6 +24,5 @@ lift_in-requires c =
 pub returns : goal.returns
 unfolding lifted_at
 returns c =
-    let a = c.args in
     let at = found-index (find (At c.args.pc) c.args.self) _ (sym c.find-found.ensures ∙ c.in-Index.is) in
     rw (lt-ltb _ _ at.low, at.same) c.lift_in.ensures

@@ -28,7 +28,6 @@ returns-then-not-lifted c = rw (sym c.requires.2 ∙ c.if-not-lifted.true)
 pub returns-then-earlier : goal.returns-then-earlier
 unfolding lift_sound
 returns-then-earlier c =
-    let a = c.args in
     let before = ltb-true (find Lifted c.args.self) c.args.k (sym c.requires.3 ∙ c.if-earlier.true) in
     rw (sym c.requires.2 ∙ c.if-not-lifted.false, ne_eqb (find Lifted c.args.self) c.args.k (λ q. omega (arith, before, q)))
     (and-false (stepping_or_passing c.args.self.run))
@@ -36,7 +35,6 @@ returns-then-earlier c =
 pub returns : goal.returns
 unfolding lift_sound
 returns c =
-    let a = c.args in
     let lifted = sym c.requires.2 ∙ c.if-not-lifted.false in
     let eight : length c.args.self.breaks ≡ 8 = search rules in
     let none = ltb-false (find Lifted c.args.self) c.args.k (sym c.requires.3 ∙ c.if-earlier.false) in

@@ -27,14 +27,12 @@ loop-k-init c = (omega arith, (search rules), omega arith)
 
 pub returns-then-left-eq0 : goal.returns-then-left-eq0
 returns-then-left-eq0 c =
-    let a = c.args in
     let low : c.loop-k.k < length c.args.self.breaks = omega arith in
     let e = count-used c.args.self.breaks c.loop-k.k low (some-set (get_or c.args.self.breaks c.loop-k.k free) c.if-b-ne0.true) in
     sym (ne_eqb c.args.self.number (count_used c.args.self.breaks) (λ q. omega arith))
 
 pub loop-k-preserved : goal.loop-k-preserved
 loop-k-preserved c =
-    let a = c.args in
     let low : c.loop-k.k < length c.args.self.breaks = omega arith in
     elim c.if-b-ne0.branch [
       | then-b-ne0+else-left-eq0 w ↦ let e = count-used c.args.self.breaks c.loop-k.k low (some-set (get_or c.args.self.breaks c.loop-k.k free) w.if-b-ne0.true) in (omega arith, c.loop-k.invariant.1, omega arith)
@@ -44,7 +42,6 @@ loop-k-preserved c =
 pub returns : goal.returns
 unfolding count_used
 returns c =
-    let a = c.args in
     let past : length c.args.self.breaks ≤ c.loop-k.k = omega arith in
     let e = ap count_used (drop_of_length-le c.args.self.breaks past) in
     none_left c.loop-k.left c.args.self.number (count_used c.args.self.breaks) (omega arith)

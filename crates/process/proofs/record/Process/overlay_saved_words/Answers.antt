@@ -16,7 +16,6 @@ loop-k-init c = (omega arith, (search rules), refl, refl)
 
 pub loop-k-preserved : goal.loop-k-preserved
 loop-k-preserved c =
-    let a = c.args in
     let b = get_or c.args.self.breaks c.loop-k.k free in (
       omega arith,
       c.loop-k.invariant.1,
@@ -28,6 +27,5 @@ loop-k-preserved c =
 pub returns : goal.returns
 unfolding overlay_saved_words
 returns c =
-    let a = c.args in
     let past : length c.args.self.breaks ≤ c.loop-k.k = omega arith in
     sym (c.loop-k.invariant.3 ∙ ap (λ (bs : List Breakpoint). overlay_saved_words c.args.at bs c.loop-k.out) (drop_of_length-le c.args.self.breaks past))

@@ -13,7 +13,6 @@ restore-requires c = c.requires.1 c.args.k c.requires.0
 
 pub returns : goal.returns
 returns c =
-    let a = c.args in
     let eight : length c.args.self.breaks ≡ 8 = search rules in
     rw (passed-once c.args.k (local c.args.self c.args.bytes.now) (omega (arith, eight, c.requires.0)), c.with_run.ensures, c.after_pass.ensures, c.with_entry-p.ensures, c.with_lifted.ensures, c.with_count.ensures) record {
       value = refl;

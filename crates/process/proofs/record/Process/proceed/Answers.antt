@@ -12,7 +12,6 @@ use Rattle.process.proofs.record.Process.proceed.Goals as goal
 pub returns-in_default : goal.returns-in_default
 unfolding proceeded lifted_at has_break
 returns-in_default c =
-    let a = c.args in
     let none = found_nowhere (find (At c.pc.result) c.args.self) (sym c.find-found.ensures ∙ c.in_default.is) in
     rw (c.with_run.ensures, ← c.pc.ensures, le-ltb _ _ none) record {
       value = refl;
@@ -27,7 +26,6 @@ lift_in-p-requires c =
 pub returns : goal.returns
 unfolding proceeded lifted_at has_break
 returns c =
-    let a = c.args in
     let at = found-index (find (At c.pc.result) c.args.self) _ (sym c.find-found.ensures ∙ c.in-Index.is) in
     rw (c.with_run-2.ensures, ← c.pc.ensures, lt-ltb _ _ at.low, at.same, c.lift_in-p.ensures.value) record {
       value = refl;

@@ -14,7 +14,6 @@ use Rattle.process.proofs.record.Process.replant.Goals as goal
 pub returns-in_default : goal.returns-in_default
 unfolding replanted
 returns-in_default c =
-    let a = c.args in
     let none = found_nowhere (find Lifted c.args.self) (sym c.find-found.ensures ∙ c.in_default.is) in
     rw (le-ltb _ _ none) record {
       value = refl;
@@ -42,6 +41,5 @@ plant_in-requires c =
 pub returns : goal.returns
 unfolding replanted
 returns c =
-    let a = c.args in
     let at = found-index (find Lifted c.args.self) _ (sym c.find-found.ensures ∙ c.in-Index.is) in
     rw (lt-ltb _ _ at.low, at.same) c.plant_in.ensures

@@ -18,7 +18,6 @@ store_vector_and_replant-p-requires c = tested-inside c.args.self c.args.bytes.n
 pub pass-requires : goal.pass-requires
 unfolding store_vector_and_replant
 pass-requires c =
-    let a = c.args in
     let eight : length c.args.self.breaks ≡ 8 = search rules in
     let p = c.store_vector_and_replant-p.result in
     let counted = sym c.verdict-verdict.ensures ∙ c.in-CountsDown.is in
@@ -31,7 +30,6 @@ pass-requires c =
 pub returns-in-Stops : goal.returns-in-Stops
 unfolding reported recipient_of answer_of
 returns-in-Stops c =
-    let a = c.args in
     let l = local c.args.self c.args.bytes.now in
     let p = c.store_vector_and_replant-p.result in
     let stops = sym c.verdict-verdict.ensures ∙ c.in-Stops.is in
@@ -48,7 +46,6 @@ returns-in-Stops c =
 pub returns-in-CountsDown : goal.returns-in-CountsDown
 unfolding reported recipient_of answer_of
 returns-in-CountsDown c =
-    let a = c.args in
     let p = c.store_vector_and_replant-p.result in
     let counted = sym c.verdict-verdict.ensures ∙ c.in-CountsDown.is in
     let whole : store_vector_and_replant c.args.vector (local c.args.self c.args.bytes.now) ≡ local p c.store_vector_and_replant-p.new.bytes =
@@ -63,7 +60,6 @@ returns-in-CountsDown c =
 pub returns-in-GoesOn : goal.returns-in-GoesOn
 unfolding reported recipient_of answer_of
 returns-in-GoesOn c =
-    let a = c.args in
     let p = c.store_vector_and_replant-p.result in
     let goes = sym c.verdict-verdict.ensures ∙ c.in-GoesOn.is in
     let whole : store_vector_and_replant c.args.vector (local c.args.self c.args.bytes.now) ≡ local p c.store_vector_and_replant-p.new.bytes =

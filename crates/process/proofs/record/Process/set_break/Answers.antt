@@ -19,7 +19,6 @@ pub returns-then-b-ne0 : goal.returns-then-b-ne0
 unfolding break_set
 returns-then-b-ne0 c =
     let eight : length c.args.self.breaks ≡ 8 = search rules in
-    let a = c.args in
     let used = sym (entry-used c.args.a c.args.self eight (rw c.requires.1 at c.requires.0)) ∙ ap (λ (k : ℕ). in_use (entry c.args.self k)) (sym c.requires.1) ∙ some-set (entry c.args.self c.args.k) c.if-b-ne0.true in
     rw (used, ← entry-there c.args.a c.args.self used, ← c.requires.1, c.with_entry.ensures, c.with_count.ensures) record {
       value = refl;
@@ -38,7 +37,6 @@ pub returns : goal.returns
 unfolding break_set
 returns c =
     let eight : length c.args.self.breaks ≡ 8 = search rules in
-    let a = c.args in
     let used = sym (entry-used c.args.a c.args.self eight (rw c.requires.1 at c.requires.0)) ∙ ap (λ (k : ℕ). in_use (entry c.args.self k)) (sym c.requires.1) ∙ none-set (entry c.args.self c.args.k) c.if-b-ne0.false in
     let low = rw (← eight) at c.requires.0 in
     let l = local c.args.self c.args.bytes.now in
