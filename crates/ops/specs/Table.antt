@@ -1,6 +1,6 @@
 -- The table of op codes, and the form of every message that is known by its CMD.
 -- The code's own table is proved to be this one, row by row.
-use Rattle.std.specs.Prelude.{Bool, true, false, cond, List, [], ◌∷◌, ℕ, ◌-◌, length, get_or, ltb, eqb}
+use Rattle.std.specs.Prelude.{Option, Some, None, Bool, true, false, cond, List, [], ◌∷◌, ℕ, ◌-◌, length, get_or, ltb, eqb}
 use Rattle.ops.specs.Codes.{NOP, NOTICE, CANT}
 use Rattle.ops.specs.declared.table.ArgUse.{ArgUse}
 use Rattle.ops.specs.declared.table.ArgUse.TheVariants.{Unused, Any, Size}
@@ -8,10 +8,6 @@ use Rattle.ops.specs.declared.table.Carried.{Carried}
 use Rattle.ops.specs.declared.table.Carried.TheVariants.{Nothing, Counted, Vector}
 use Rattle.ops.specs.declared.table.Form.{Form}
 use Rattle.ops.specs.declared.table.Op.{Op}
-use Rattle.ops.specs.declared.table.Row.{Row}
-use Rattle.ops.specs.declared.table.Row.TheVariants.{Listed, Unlisted}
-use Rattle.ops.specs.declared.table.Found.{Found}
-use Rattle.ops.specs.declared.table.Found.TheVariants.{Known, Unknown}
 
 -- whether PID is used, how ARG1 is, whether ARG2 is, and what is carried
 abbrev pub form : Bool → ArgUse → Bool → Carried → Form
@@ -104,20 +100,20 @@ abbrev pub op : ℕ → Op
 op cmd = get_or ops cmd (row bare bare)
 
 -- what the table has for a CMD
-unfoldable pub row_of : ℕ → Row
-row_of cmd = cond (ltb cmd (length ops)) (Listed (op cmd)) Unlisted
+unfoldable pub row_of : ℕ → Option Op
+row_of cmd = cond (ltb cmd (length ops)) (Some (op cmd)) None
 
 -- the one form of a row or the other
-abbrev pub form_of : (Op → Form) → Row → Found
-form_of which (Listed o) = Known (which o)
-form_of which Unlisted = Unknown
+abbrev pub form_of : (Op → Form) → Option Op → Option Form
+form_of which (Some o) = Some (which o)
+form_of which None = None
 
 -- 'CMD not a known op code': the form of a request, if its CMD is one of the table
-unfoldable pub request_form : ℕ → Found
+unfoldable pub request_form : ℕ → Option Form
 request_form cmd = form_of asks (row_of cmd)
 
 -- the form of the reply that grants a request
-unfoldable pub reply_form : ℕ → Found
+unfoldable pub reply_form : ℕ → Option Form
 reply_form cmd = form_of replies (row_of cmd)
 
 -- the same fields with no string
@@ -125,20 +121,20 @@ abbrev pub without_string : Form → Form
 without_string f = form f.pid f.arg1 f.arg2 Nothing
 
 -- a form that was found, with no string
-abbrev pub stripped : Found → Found
-stripped (Known f) = Known (without_string f)
-stripped Unknown = Unknown
+abbrev pub stripped : Option Form → Option Form
+stripped (Some f) = Some (without_string f)
+stripped None = None
 
 -- 'CAN'T adds 128 to CMD': the fields of the request and no string; '128 is not accepted, since NOP is never refused'
-unfoldable pub cant_form : ℕ → Found
-cant_form cmd = cond (eqb cmd NOP) Unknown (stripped (request_form cmd))
+unfoldable pub cant_form : ℕ → Option Form
+cant_form cmd = cond (eqb cmd NOP) None (stripped (request_form cmd))
 
 -- the form of a notice by its kind
-unfoldable pub notice_form : ℕ → Found
-notice_form kind = cond (ltb kind (length notices)) (Known (get_or notices kind bare)) Unknown
+unfoldable pub notice_form : ℕ → Option Form
+notice_form kind = cond (ltb kind (length notices)) (Some (get_or notices kind bare)) None
 
 -- 'The desk reader accepts CMD 0 to 13, 129 to 141 and 64 to 67'; 'The desk end learns this op and every later one',
 -- so CMD 0 to 16, 129 to 144 and 64 to 67.
 -- The form of an answer, that is of a reply, notice or CAN'T.
-unfoldable pub answer_form : ℕ → Found
+unfoldable pub answer_form : ℕ → Option Form
 answer_form cmd = cond (ltb cmd NOTICE) (reply_form cmd) (cond (ltb cmd CANT) (notice_form (cmd - NOTICE)) (cant_form (cmd - CANT)))

@@ -36,4 +36,4 @@ pub use codes::{
     BREAK, CANT, CREATE, DEBUG, DEPOSIT, DEPOSIT_VECTOR, DESTROY, END_DEBUG, END_WATCH, EXAMINE,
     NOP, NOTICE, PROCEED, RESUME, SINGLE_STEP, STATUS, STOP, UNBREAK, WATCH,
 };
-pub use table::{ArgUse, Carried, Form, Found, answer_form, request_form};
+pub use table::{ArgUse, Carried, Form, Op, answer_form, request_form};

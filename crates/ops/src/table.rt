@@ -39,20 +39,6 @@ pub struct Form {
 #[derive(Clone, Copy)]
 pub struct Op(pub Form, pub Form);
 
-// What the table has for a CMD.
-#[derive(Clone, Copy)]
-pub enum Row {
-    Listed(Op),
-    Unlisted,
-}
-
-// The form that belongs to a CMD.
-#[derive(Clone, Copy)]
-pub enum Found {
-    Known(Form),
-    Unknown,
-}
-
 const BARE: Form = Form {
     pid: false,
     arg1: ArgUse::Unused,
@@ -150,86 +136,57 @@ impl Form {
     fn without_string(self) -> Form
         ensures { result ≡ without_string self }
     {
-        let arg1 = self.arg1;
         Form {
-            pid: self.pid,
-            arg1: arg1,
-            arg2: self.arg2,
             carried: Carried::Nothing,
+            ..self
         }
     }
 }
 
 // The row of an op code.
-fn row_of(cmd: u8) -> Row
+fn row_of(cmd: u8) -> Option<Op>
     ensures { result ≡ row_of cmd }
 {
     let i = cmd as usize;
-    if i < OPS.len() {
-        let op = OPS[i];
-        Row::Listed(op)
-    } else {
-        Row::Unlisted
-    }
+    if i < OPS.len() { Some(OPS[i]) } else { None }
 }
 
 // The form of a request with this CMD.
-pub fn request_form(cmd: u8) -> Found
+pub fn request_form(cmd: u8) -> Option<Form>
     ensures { result ≡ request_form cmd }
 {
-    let found = row_of(cmd);
-    match found {
-        Row::Listed(op) => {
-            let form = op.0;
-            Found::Known(form)
-        }
-        Row::Unlisted => Found::Unknown,
-    }
+    let row = row_of(cmd)?;
+    Some(row.0)
 }
 
 // The form of the reply that grants the request with this CMD.
-fn reply_form(cmd: u8) -> Found
+fn reply_form(cmd: u8) -> Option<Form>
     ensures { result ≡ reply_form cmd }
 {
-    let found = row_of(cmd);
-    match found {
-        Row::Listed(op) => {
-            let form = op.1;
-            Found::Known(form)
-        }
-        Row::Unlisted => Found::Unknown,
-    }
+    let row = row_of(cmd)?;
+    Some(row.1)
 }
 
 // The form of the CAN'T that refuses the request with this CMD. NOP is never refused.
-fn cant_form(cmd: u8) -> Found
+fn cant_form(cmd: u8) -> Option<Form>
     ensures { result ≡ cant_form cmd }
 {
     if cmd == NOP {
-        return Found::Unknown;
+        return None;
     }
-    let found = request_form(cmd);
-    match found {
-        Found::Known(form) => Found::Known(form.without_string()),
-        Found::Unknown => Found::Unknown,
-    }
+    let form = request_form(cmd)?;
+    Some(form.without_string())
 }
 
 // The form of the notice of this kind.
-fn notice_form(kind: u8) -> Found
+fn notice_form(kind: u8) -> Option<Form>
     ensures { result ≡ notice_form kind }
 {
-    let i = kind as usize;
-    if i < NOTICES.len() {
-        let form = NOTICES[i];
-        Found::Known(form)
-    } else {
-        Found::Unknown
-    }
+    NOTICES.get(kind as usize).copied()
 }
 
 // The form of an answer, that is of a reply, a notice or a CAN'T, with this CMD.
-pub fn answer_form(cmd: u8) -> Found
+pub fn answer_form(cmd: u8) -> Option<Form>
     ensures { result ≡ answer_form cmd }
 {
     if cmd < NOTICE {

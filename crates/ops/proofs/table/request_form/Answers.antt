@@ -1,11 +1,12 @@
 -- `ops::table::request_form` meets its contract: the first form of the row, if there is one. Assumes nothing.
+use Rattle.std.proofs.Common.{rules}
 use Rattle.ops.specs.Table.{request_form}
 use Rattle.ops.proofs.table.request_form.Goals as goal
 
-pub returns-in-Listed : goal.returns-in-Listed
+pub returns-in_err-row : goal.returns-in_err-row
 unfolding request_form
-returns-in-Listed c = rw (← c.row_of-found.ensures, c.in-Listed.is)
+returns-in_err-row c = search rules
 
-pub returns-in-Unlisted : goal.returns-in-Unlisted
+pub returns : goal.returns
 unfolding request_form
-returns-in-Unlisted c = rw (← c.row_of-found.ensures, c.in-Unlisted.is)
+returns c = search rules
