@@ -1,26 +1,30 @@
 -- Laws of the answers and of the first test that fails. Assumes nothing.
-use mathlib.Core.Path.{◌≡◌, refl}
+use mathlib.Core.Path.{◌≡◌, refl, sym, ap}
 use mathlib.Core.Bool.{Bool, true, false, cond}
 use mathlib.Core.List.{List, ◌∷◌}
 use Prim.Native.Nat.{ℕ, zero, suc}
 use native.Mathlib.Omega.{arith}
 use borrow.Author.Tests.{ne_eqb}
 use lib.Dec.{eqb}
+use Rattle.std.proofs.Common.{Result, Ok, Err}
 use Rattle.format.specs.declared.header.Header.{Header}
-use Rattle.format.specs.declared.outcome.Outcome.{Outcome}
-use Rattle.format.specs.declared.outcome.Outcome.TheVariants.{Granted}
-use Rattle.format.specs.declared.outcome.Outcome.TheVariants.{Refused as OutcomeRefused}
-use Rattle.format.specs.declared.outcome.Reading.{Reading}
-use Rattle.format.specs.declared.outcome.Reading.TheVariants.{Message}
-use Rattle.format.specs.declared.outcome.Reading.TheVariants.{Refused as ReadingRefused}
-use Rattle.format.specs.Outcome.{outcome, number_of, length_of, is_granted, OutcomesFit, reading, reading_number, reading_fields, no_fields, ReadingsFit, Test, test, first_failing}
+use Rattle.format.specs.declared.outcome.Refusal.{Refusal}
+use Rattle.format.specs.Outcome.{refused, unless, Outcome, outcome, number_of, length_of, is_granted, OutcomesFit, reading, reading_number, reading_fields, no_fields, Reading, ReadingsFit, Test, test, first_failing}
+
+-- a refusal is made of its number again, but for one with 0
+unless-number : {A : Type 0} (r : Refusal) → (◌≡◌ {A = Result A Refusal} (Err r) (Err (refused 0)) → ⊥) → (a : A) → unless r.0 a ≡ Err r
+unless-number {A = A} r other a = go r.0 refl
+  where
+    go : (n : ℕ) → r.0 ≡ n → unless n a ≡ Err r
+    go zero e = absurd (other (ap (λ (k : ℕ). Err (refused k)) e))
+    go (suc n) e = ap (λ (k : ℕ). Err (refused k)) (sym e)
 
 -- number 0 is the grant
-pub outcome-zero : (number length : ℕ) → number ≡ 0 → Granted length ≡ outcome number length
+pub outcome-zero : (number length : ℕ) → number ≡ 0 → Ok length ≡ outcome number length
 outcome-zero number length e = rw e
 
 -- any other number is the refusal with it
-pub outcome-other : (number length : ℕ) → (number ≡ 0 → ⊥) → OutcomeRefused number ≡ outcome number length
+pub outcome-other : (number length : ℕ) → (number ≡ 0 → ⊥) → Err (refused number) ≡ outcome number length
 outcome-other zero length e = absurd (e refl)
 outcome-other (suc n) length e = refl
 
@@ -49,30 +53,29 @@ is_granted-outcome zero length = refl
 is_granted-outcome (suc n) length = rw (ne_eqb (suc n) 0 (λ e. omega arith))
 
 -- every case is made of its number and its length, but for a refusal with 0, which no call answers
-pub outcome-number_of : (o : Outcome) → (o ≡ OutcomeRefused 0 → ⊥) → outcome (number_of o) (length_of o) ≡ o
+pub outcome-number_of : (o : Outcome) → (o ≡ Err (refused 0) → ⊥) → outcome (number_of o) (length_of o) ≡ o
 unfolding number_of length_of
-outcome-number_of (Granted length) other = refl
-outcome-number_of (OutcomeRefused zero) other = absurd (other refl)
-outcome-number_of (OutcomeRefused (suc n)) other = refl
+outcome-number_of (Ok length) other = refl
+outcome-number_of (Err refusal) other = unless-number refusal other _
 
 pub outcomes-fit : OutcomesFit
 outcomes-fit = record { number = number_of-outcome; length = length_of-outcome; granted = is_granted-outcome; again = outcome-number_of }
 
 -- what is granted has number 0
-pub granted-zero : (number length n : ℕ) → outcome number length ≡ Granted n → number ≡ 0
+pub granted-zero : (number length n : ℕ) → outcome number length ≡ Ok n → number ≡ 0
 granted-zero zero length n e = refl
 granted-zero (suc m) length n e = let z : ◌≡◌ {A = ℕ} 0 1 = cc in absurd (omega arith)
 
 -- and the length that it was made of
-pub granted-length : (number length n : ℕ) → outcome number length ≡ Granted n → length ≡ n
+pub granted-length : (number length n : ℕ) → outcome number length ≡ Ok n → length ≡ n
 granted-length zero length n e = cc
 granted-length (suc m) length n e = let z : ◌≡◌ {A = ℕ} 0 1 = cc in absurd (omega arith)
 
 -- the same for a reader
-pub reading-zero : (number : ℕ) (h : Header) → number ≡ 0 → Message h ≡ reading number h
+pub reading-zero : (number : ℕ) (h : Header) → number ≡ 0 → Ok h ≡ reading number h
 reading-zero number h e = rw e
 
-pub reading-other : (number : ℕ) (h : Header) → (number ≡ 0 → ⊥) → ReadingRefused number ≡ reading number h
+pub reading-other : (number : ℕ) (h : Header) → (number ≡ 0 → ⊥) → Err (refused number) ≡ reading number h
 reading-other zero h e = absurd (e refl)
 reading-other (suc n) h e = refl
 
@@ -89,20 +92,19 @@ reading_fields-reading zero h = refl
 reading_fields-reading (suc n) h = rw (ne_eqb (suc n) 0 (λ e. omega arith))
 
 -- every case is made of its number and its fields, but for a refusal with 0, which no reader finds
-pub reading-reading_number : (r : Reading) → (r ≡ ReadingRefused 0 → ⊥) → reading (reading_number r) (reading_fields r) ≡ r
+pub reading-reading_number : (r : Reading) → (r ≡ Err (refused 0) → ⊥) → reading (reading_number r) (reading_fields r) ≡ r
 unfolding reading_number reading_fields
-reading-reading_number (Message header) other = refl
-reading-reading_number (ReadingRefused zero) other = absurd (other refl)
-reading-reading_number (ReadingRefused (suc n)) other = refl
+reading-reading_number (Ok header) other = refl
+reading-reading_number (Err refusal) other = unless-number refusal other _
 
 pub readings-fit : ReadingsFit
 readings-fit = record { number = reading_number-reading; fields = reading_fields-reading; again = reading-reading_number }
 
-pub message-zero : (number : ℕ) (h k : Header) → reading number h ≡ Message k → number ≡ 0
+pub message-zero : (number : ℕ) (h k : Header) → reading number h ≡ Ok k → number ≡ 0
 message-zero zero h k e = refl
 message-zero (suc m) h k e = let z : ◌≡◌ {A = ℕ} 0 1 = cc in absurd (omega arith)
 
-pub message-header : (number : ℕ) (h k : Header) → reading number h ≡ Message k → h ≡ k
+pub message-header : (number : ℕ) (h k : Header) → reading number h ≡ Ok k → h ≡ k
 message-header zero h k e = cc
 message-header (suc m) h k e = let z : ◌≡◌ {A = ℕ} 0 1 = cc in absurd (omega arith)
 

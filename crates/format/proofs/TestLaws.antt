@@ -11,7 +11,7 @@ use Rattle.ops.specs.declared.table.ArgUse.TheVariants.{Size}
 use Rattle.ops.specs.declared.table.Carried.{Carried}
 use Rattle.ops.specs.declared.table.Carried.TheVariants.{Nothing, Counted, Vector}
 use Rattle.ops.specs.declared.table.Form.{Form}
-use Rattle.ops.specs.declared.table.Found.{Found}
+use Rattle.std.proofs.Common.{Option}
 use Rattle.ops.specs.Codes.{CREATE}
 use Rattle.ops.specs.Table.{sized, row_of, request_form}
 use Rattle.format.specs.Outcome.{first_failing}
@@ -26,13 +26,13 @@ carried_length-≤ Counted arg2 = omega arith
 carried_length-≤ Vector arg2 = omega arith
 
 -- none of the tests 3 to 6 fails
-pub record Passed (fixed : Bool) (found : Found) (h : Header) (length : ℕ) : Type 0 where
+pub record Passed (fixed : Bool) (found : Option Form) (h : Header) (length : ℕ) : Type 0 where
   pub sized : wrong_length length ≡ false
   pub headed : wrong_header fixed h.host ≡ false
   pub known : unknown found ≡ false
   pub formed : malformed found h length ≡ false
 
-module _ (fixed : Bool) (found : Found) (h : Header) (length : ℕ) where
+module _ (fixed : Bool) (found : Option Form) (h : Header) (length : ℕ) where
   -- number 0 says that none fails
   pub zero-passed : first_failing (layout_tests fixed found h length) ≡ 0 → Passed fixed found h length
   zero-passed e =

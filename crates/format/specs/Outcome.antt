@@ -1,53 +1,65 @@
 -- What a call answers, and the ordered tests that decide it.
-use Rattle.std.specs.Prelude.{◌≡◌, Bool, true, false, cond, List, [], ◌∷◌, ℕ, zero, suc, eqb}
+use Rattle.std.specs.Prelude.{Result, Ok, Err, ◌≡◌, Bool, true, false, cond, List, [], ◌∷◌, ℕ, zero, suc, eqb}
 use Rattle.format.specs.declared.header.Header.{Header}
-use Rattle.format.specs.declared.outcome.Outcome.{Outcome}
-use Rattle.format.specs.declared.outcome.Outcome.TheVariants.{Granted}
-use Rattle.format.specs.declared.outcome.Outcome.TheVariants.{Refused as OutcomeRefused}
-use Rattle.format.specs.declared.outcome.Reading.{Reading}
-use Rattle.format.specs.declared.outcome.Reading.TheVariants.{Message}
-use Rattle.format.specs.declared.outcome.Reading.TheVariants.{Refused as ReadingRefused}
+use Rattle.format.specs.declared.outcome.Refusal.{Refusal}
+
+-- ---- granted or refused
+
+-- the refusal with this number
+abbrev pub refused : ℕ → Refusal
+refused n = record { 0 = n }
+
+-- what is granted where the number is 0, else the refusal with it
+abbrev pub unless : {A : Type 0} → ℕ → A → Result A Refusal
+unless zero a = Ok a
+unless (suc n) a = Err (refused (suc n))
 
 -- ---- the outcome of a call
 
+-- what a call answers: a length, or a refusal
+abbrev pub Outcome : Type 0
+Outcome = Result ℕ Refusal
+
 -- 'The answer is granted with a length, refused with a number. 0 is granted.': the case that a number and a length stand for
 abbrev pub outcome : ℕ → ℕ → Outcome
-outcome zero length = Granted length
-outcome (suc n) length = OutcomeRefused (suc n)
+outcome n length = unless n length
 
 -- the number of each case
 unfoldable pub number_of : Outcome → ℕ
-number_of (Granted length) = 0
-number_of (OutcomeRefused number) = number
+number_of (Ok length) = 0
+number_of (Err refusal) = refusal.0
 
 -- the length of each case; what is refused has none
 unfoldable pub length_of : Outcome → ℕ
-length_of (Granted length) = length
-length_of (OutcomeRefused number) = 0
+length_of (Ok length) = length
+length_of (Err refusal) = 0
 
 -- whether each case is the grant
 unfoldable pub is_granted : Outcome → Bool
-is_granted (Granted length) = true
-is_granted (OutcomeRefused number) = false
+is_granted (Ok length) = true
+is_granted (Err refusal) = false
 
 -- number and length are those that a case was made of, and make it again; no call is refused with 0
 pub record OutcomesFit : Type 0 where
   pub number : (n l : ℕ) → number_of (outcome n l) ≡ n
   pub length : (n l : ℕ) → length_of (outcome n l) ≡ cond (eqb n 0) l 0
   pub granted : (n l : ℕ) → is_granted (outcome n l) ≡ eqb n 0
-  pub again : (o : Outcome) → (o ≡ OutcomeRefused 0 → ⊥) → outcome (number_of o) (length_of o) ≡ o
+  pub again : (o : Outcome) → (o ≡ Err (refused 0) → ⊥) → outcome (number_of o) (length_of o) ≡ o
 
 -- ---- what a reader finds
 
+-- what a reader finds: the fields of a message, or a refusal
+abbrev pub Reading : Type 0
+Reading = Result Header Refusal
+
 -- the case that a number and a message's fields stand for: the fields where no test fails, else the number
 abbrev pub reading : ℕ → Header → Reading
-reading zero header = Message header
-reading (suc n) header = ReadingRefused (suc n)
+reading n header = unless n header
 
 -- the number of each case; 0 is a message
 unfoldable pub reading_number : Reading → ℕ
-reading_number (Message header) = 0
-reading_number (ReadingRefused number) = number
+reading_number (Ok header) = 0
+reading_number (Err refusal) = refusal.0
 
 -- no fields: each of them 0
 abbrev pub no_fields : Header
@@ -55,14 +67,14 @@ no_fields = record { host = 0; cmd = 0; pid = 0; arg1 = 0; arg2 = 0 }
 
 -- the fields of each case; what is refused has none
 unfoldable pub reading_fields : Reading → Header
-reading_fields (Message header) = header
-reading_fields (ReadingRefused number) = no_fields
+reading_fields (Ok header) = header
+reading_fields (Err refusal) = no_fields
 
 -- number and fields are those that a case was made of, and make it again; no reader refuses with 0
 pub record ReadingsFit : Type 0 where
   pub number : (n : ℕ) (h : Header) → reading_number (reading n h) ≡ n
   pub fields : (n : ℕ) (h : Header) → reading_fields (reading n h) ≡ cond (eqb n 0) h no_fields
-  pub again : (r : Reading) → (r ≡ ReadingRefused 0 → ⊥) → reading (reading_number r) (reading_fields r) ≡ r
+  pub again : (r : Reading) → (r ≡ Err (refused 0) → ⊥) → reading (reading_number r) (reading_fields r) ≡ r
 
 -- ---- the tests
 

@@ -1,13 +1,11 @@
 -- The tests of a message's layout, 3 to 6, which every reader and writer uses.
-use Rattle.std.specs.Prelude.{Bool, true, false, not, ◌&&◌, ◌||◌, List, [], ◌∷◌, ℕ, ◌+◌, ◌%◌, ltb, leb, eqb}
+use Rattle.std.specs.Prelude.{Option, Some, None, Bool, true, false, not, ◌&&◌, ◌||◌, List, [], ◌∷◌, ℕ, ◌+◌, ◌%◌, ltb, leb, eqb}
 use Rattle.format.specs.declared.header.Header.{Header}
 use Rattle.ops.specs.declared.table.ArgUse.{ArgUse}
 use Rattle.ops.specs.declared.table.ArgUse.TheVariants.{Unused, Any, Size}
 use Rattle.ops.specs.declared.table.Carried.{Carried}
 use Rattle.ops.specs.declared.table.Carried.TheVariants.{Nothing, Counted, Vector}
 use Rattle.ops.specs.declared.table.Form.{Form}
-use Rattle.ops.specs.declared.table.Found.{Found}
-use Rattle.ops.specs.declared.table.Found.TheVariants.{Known, Unknown}
 use Rattle.format.specs.Outcome.{Test, test}
 use Rattle.format.specs.Sizes.{header_bytes, message_bytes, largest_size}
 
@@ -44,21 +42,21 @@ unfoldable pub wrong_header : Bool → ℕ → Bool
 wrong_header fixed host = not fixed || eqb host 0
 
 -- test 5: 'CMD not a known op code'
-abbrev pub unknown : Found → Bool
-unknown (Known f) = false
-unknown Unknown = true
+abbrev pub unknown : Option Form → Bool
+unknown (Some f) = false
+unknown None = true
 
 -- a message with these fields and this length does not have the form
 unfoldable pub misfits : Form → Header → ℕ → Bool
 misfits f h length = not (fields_right f h) || not (eqb length (header_bytes + carried_length f.carried h.arg2))
 
 -- test 6: 'unused field not zero, or string of wrong length', 'an odd or greater size'
-abbrev pub malformed : Found → Header → ℕ → Bool
-malformed (Known f) h length = misfits f h length
-malformed Unknown h length = false
+abbrev pub malformed : Option Form → Header → ℕ → Bool
+malformed (Some f) h length = misfits f h length
+malformed None h length = false
 
 -- tests 3 to 6 of a message with these fields and this length; fixed says that TYPE, LINK and STYPE are right
-abbrev pub layout_tests : Bool → Found → Header → ℕ → List Test
+abbrev pub layout_tests : Bool → Option Form → Header → ℕ → List Test
 layout_tests fixed found h length =
     test 3 (wrong_length length)
     ∷ test 4 (wrong_header fixed h.host)

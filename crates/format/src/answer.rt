@@ -15,13 +15,7 @@ impl Header {
         } else {
             255
         };
-        Header {
-            host: self.host,
-            cmd: cmd,
-            pid: self.pid,
-            arg1: self.arg1,
-            arg2: self.arg2,
-        }
+        Header { cmd, ..self }
     }
 
     // The header of CREATED with this process number.
@@ -29,21 +23,16 @@ impl Header {
         ensures { result ≡ created_of self number }
     {
         Header {
-            host: self.host,
-            cmd: self.cmd,
             pid: number,
-            arg1: self.arg1,
-            arg2: self.arg2,
+            ..self
         }
     }
 
     // The same header with these numbers in ARG1 and ARG2.
-    pub fn with_args(mut self, arg1: u16, arg2: u16) -> Header
+    pub fn with_args(self, arg1: u16, arg2: u16) -> Header
         ensures { result ≡ with_args arg1 arg2 self }
     {
-        self.arg1 = arg1;
-        self.arg2 = arg2;
-        self
+        Header { arg1, arg2, ..self }
     }
 
     // The header of a notice: kind 0 TRAP, 1 HALT, 2 BPT, 3 TTRAP.
@@ -52,9 +41,9 @@ impl Header {
     {
         let cmd = if kind < 4 { kind + NOTICE } else { 255 };
         Header {
-            host: host,
-            cmd: cmd,
-            pid: pid,
+            host,
+            cmd,
+            pid,
             arg1: reason,
             arg2: 0,
         }

@@ -64,13 +64,7 @@ pub fn fixed_right(message: &[u8]) -> bool
     requires { header_bytes ≤ length message.now }
     ensures { result ≡ fixed_right message.now }
 {
-    if message[0] != 0 {
-        return false;
-    }
-    if message[2] != 255 {
-        return false;
-    }
-    message[3] == 0
+    message[0] == 0 && message[2] == 255 && message[3] == 0
 }
 
 // The string of a message: the part after the tenth byte, or nothing where there is none.

@@ -15,6 +15,6 @@ mod sizes;
 pub mod theorems;
 
 pub use header::{Header, fixed_right, put_string, string};
-pub use outcome::{Outcome, Reading};
-pub use refusal::layout_number;
+pub use outcome::{Refusal, number_of};
+pub use refusal::check_layout;
 pub use sizes::{HEADER_BYTES, MESSAGE_BYTES, STRING_BYTES};

@@ -1,31 +1,41 @@
-// What a call answers.
+// What a call answers: `Ok` with what it grants, or the refusal by the first test that failed.
 ghost use Rattle.std.specs.Prelude.{◌≡◌};
 ghost use Rattle.format.specs.Outcome.{number_of};
 
-use crate::header::Header;
-
-// Granted with the length written, or refused with the number of the first test that failed.
+// A refusal, which has the number of the test that failed: one of a fixed list, in the order of the tests, and never 0. That every number makes
+// a refusal and is that refusal's own (`outcomes_fit`, `readings_fit`) is why it is a number with a type, and no enum.
 #[derive(Clone, Copy)]
-pub enum Outcome {
-    Granted(usize),
-    Refused(u8),
+pub struct Refusal(pub u8);
+
+impl Refusal {
+    // What is lent is too short, or has not the length that it must have.
+    pub const LENT: Refusal = Refusal(1);
+
+    // The bytes are not those of a sound state; of a fresh start, a size is wrong.
+    pub const STATE: Refusal = Refusal(2);
+
+    // The length of what was sent.
+    pub const LENGTH: Refusal = Refusal(3);
+
+    // The fixed fields of its header.
+    pub const HEADER: Refusal = Refusal(4);
+
+    // Its op code, or its kind.
+    pub const CODE: Refusal = Refusal(5);
+
+    // A field that is not used, a size, or the length of the string.
+    pub const FORM: Refusal = Refusal(6);
+
+    // There is no such process.
+    pub const PROCESS: Refusal = Refusal(7);
 }
 
-// What reading finds: a message's fields, or the number of the first test that failed.
-#[derive(Clone, Copy)]
-pub enum Reading {
-    Message(Header),
-    Refused(u8),
-}
-
-impl Outcome {
-    // The number returned; 0 is granted.
-    pub fn number(self) -> u8
-        ensures { result ≡ number_of self }
-    {
-        match self {
-            Outcome::Granted(_) => 0,
-            Outcome::Refused(n) => n,
-        }
+// The number that a call returns; 0 is granted.
+pub fn number_of(outcome: Result<usize, Refusal>) -> u8
+    ensures { result ≡ number_of outcome }
+{
+    match outcome {
+        Ok(_) => 0,
+        Err(refusal) => refusal.0,
     }
 }

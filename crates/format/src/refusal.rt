@@ -1,17 +1,18 @@
 // The tests of a message's layout, 3 to 6, in their order.
 ghost use Rattle.std.specs.Prelude.{◌≡◌};
-ghost use Rattle.format.specs.Outcome.{first_failing};
+ghost use Rattle.format.specs.Outcome.{first_failing, unless};
 ghost use Rattle.format.specs.Refusal.{used_or_zero, size_fits, arg_fits, fields_right, carried_length, wrong_length, wrong_header, misfits, layout_tests};
 
 use crate::header::Header;
+use crate::outcome::Refusal;
 use crate::sizes::{HEADER_BYTES, LARGEST_SIZE, MESSAGE_BYTES};
-use ops::{ArgUse, Carried, Form, Found};
+use ops::{ArgUse, Carried, Form};
 
 // The field is used, or it is zero.
 fn used_or_zero(used: bool, value: u16) -> bool
     ensures { result ≡ used_or_zero used value }
 {
-    if used { true } else { value == 0 }
+    used || value == 0
 }
 
 // The size is even, and at most 4,096; 0 stands for 4,096.
@@ -36,14 +37,7 @@ fn arg_fits(used: ArgUse, value: u16) -> bool
 fn fields_right(f: Form, h: Header) -> bool
     ensures { result ≡ fields_right f h }
 {
-    if !used_or_zero(f.pid, h.pid as u16) {
-        return false;
-    }
-    let arg1 = f.arg1;
-    if !arg_fits(arg1, h.arg1) {
-        return false;
-    }
-    used_or_zero(f.arg2, h.arg2)
+    used_or_zero(f.pid, h.pid as u16) && arg_fits(f.arg1, h.arg1) && used_or_zero(f.arg2, h.arg2)
 }
 
 // How many bytes a message with this ARG2 carries.
@@ -61,45 +55,43 @@ fn carried_length(carried: Carried, arg2: u16) -> usize
 fn wrong_length(length: usize) -> bool
     ensures { result ≡ wrong_length length }
 {
-    if length < HEADER_BYTES {
-        return true;
-    }
-    MESSAGE_BYTES < length
+    length < HEADER_BYTES || MESSAGE_BYTES < length
 }
 
 // Test 4: TYPE, LINK or STYPE is wrong, or HOST is 0. `fixed` says that the first three are right.
 fn wrong_header(fixed: bool, host: u8) -> bool
     ensures { result ≡ wrong_header fixed host }
 {
-    if fixed {
-        return host == 0;
-    }
-    true
+    !fixed || host == 0
 }
 
 // Test 6: an unused field is not zero, a size is odd or over 4,096, or the string has the wrong length.
 fn misfits(f: Form, h: Header, length: usize) -> bool
     ensures { result ≡ misfits f h length }
 {
-    if !fields_right(f, h) {
-        return true;
-    }
-    let carried = f.carried;
-    length != HEADER_BYTES + carried_length(carried, h.arg2)
+    !fields_right(f, h) || length != HEADER_BYTES + carried_length(f.carried, h.arg2)
 }
 
-// The number of the first test that fails, or 0.
-pub fn layout_number(fixed: bool, found: Found, h: Header, length: usize) -> u8
-    ensures { result ≡ first_failing (layout_tests fixed found h length) }
+// The tests 3 to 6 of a message with these fields and this length, whose op code has the form that was found, or none.
+pub fn check_layout(
+    fixed: bool,
+    found: Option<Form>,
+    h: Header,
+    length: usize,
+) -> Result<(), Refusal>
+    ensures { result ≡ unless (first_failing (layout_tests fixed found h length)) tt }
 {
     if wrong_length(length) {
-        return 3;
+        return Err(Refusal::LENGTH);
     }
     if wrong_header(fixed, h.host) {
-        return 4;
+        return Err(Refusal::HEADER);
     }
-    let Found::Known(form) = found else {
-        return 5;
+    let Some(form) = found else {
+        return Err(Refusal::CODE);
     };
-    if misfits(form, h, length) { 6 } else { 0 }
+    if misfits(form, h, length) {
+        return Err(Refusal::FORM);
+    }
+    Ok(())
 }

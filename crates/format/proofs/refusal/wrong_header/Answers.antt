@@ -1,11 +1,11 @@
--- `format::refusal::wrong_header` meets its contract, by the two cases. Assumes nothing.
+use Rattle.std.proofs.Common.{rules}
 use Rattle.format.specs.Refusal.{wrong_header}
 use Rattle.format.proofs.refusal.wrong_header.Goals as goal
 
-pub returns-then-fixed : goal.returns-then-fixed
+pub returns-then-not-fixed : goal.returns-then-not-fixed
 unfolding wrong_header
-returns-then-fixed c = rw c.if-fixed.true
+returns-then-not-fixed c = search rules
 
-pub returns : goal.returns
+pub returns-else-not-fixed : goal.returns-else-not-fixed
 unfolding wrong_header
-returns c = rw c.if-fixed.false
+returns-else-not-fixed c = search rules
