@@ -12,12 +12,39 @@ use Rattle.format.specs.declared.outcome.Refusal.{Refusal}
 use Rattle.format.specs.Outcome.{refused, unless, Outcome, outcome, number_of, length_of, is_granted, OutcomesFit, reading, reading_number, reading_fields, no_fields, Reading, ReadingsFit, Test, test, first_failing}
 
 -- a refusal is made of its number again, but for one with 0
-unless-number : {A : Type 0} (r : Refusal) → (◌≡◌ {A = Result A Refusal} (Err r) (Err (refused 0)) → ⊥) → (a : A) → unless r.0 a ≡ Err r
+pub unless-number : {A : Type 0} (r : Refusal) → (◌≡◌ {A = Result A Refusal} (Err r) (Err (refused 0)) → ⊥) → (a : A) → unless r.0 a ≡ Err r
 unless-number {A = A} r other a = go r.0 refl
   where
     go : (n : ℕ) → r.0 ≡ n → unless n a ≡ Err r
     go zero e = absurd (other (ap (λ (k : ℕ). Err (refused k)) e))
     go (suc n) e = ap (λ (k : ℕ). Err (refused k)) (sym e)
+
+-- what is granted has number 0
+pub unless-ok : {A : Type 0} (n : ℕ) (a b : A) → unless n a ≡ Ok b → n ≡ 0
+unless-ok zero a b e = refl
+unless-ok (suc n) a b e = let z : ◌≡◌ {A = ℕ} 0 1 = cc in absurd (omega arith)
+
+-- and is what it was made of
+pub unless-same : {A : Type 0} (n : ℕ) (a b : A) → unless n a ≡ Ok b → a ≡ b
+unless-same zero a b e = cc
+unless-same (suc n) a b e = let z : ◌≡◌ {A = ℕ} 0 1 = cc in absurd (omega arith)
+
+-- what is refused has its number, which is not 0
+pub unless-err : {A : Type 0} (n : ℕ) (a : A) (r : Refusal) → unless n a ≡ Err r → (n ≡ r.0) × (n ≡ 0 → ⊥)
+unless-err zero a r e = let z : ◌≡◌ {A = ℕ} 0 1 = cc in absurd (omega arith)
+unless-err (suc n) a r e = (ap number e, λ z. omega arith)
+  where
+    number : {A : Type 0} → Result A Refusal → ℕ
+    number (Ok b) = 0
+    number (Err t) = t.0
+
+-- a refusal is the same whatever would have been granted
+pub unless-else : {A B : Type 0} (n : ℕ) (a : A) (b : B) (r : Refusal) → unless n a ≡ Err r → Err r ≡ unless n b
+unless-else {A = A} {B = B} n a b r e = go n (unless-err n a r e).0 (unless-err n a r e).1
+  where
+    go : (k : ℕ) → k ≡ r.0 → (k ≡ 0 → ⊥) → ◌≡◌ {A = Result B Refusal} (Err r) (unless k b)
+    go zero i z = absurd (z refl)
+    go (suc k) i z = ap (λ (j : ℕ). Err (refused j)) (sym i)
 
 -- number 0 is the grant
 pub outcome-zero : (number length : ℕ) → number ≡ 0 → Ok length ≡ outcome number length

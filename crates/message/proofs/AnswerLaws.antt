@@ -14,14 +14,12 @@ use Rattle.lists.proofs.Bool.{&&-left, &&-right, &&-both, ||-left, ||-right}
 use Rattle.lists.proofs.Every.{every-getD}
 use Rattle.lists.proofs.Word.{length-low_first}
 use Rattle.format.specs.declared.header.Header.{Header}
-use Rattle.format.specs.declared.outcome.Reading.TheVariants.{Message}
 use Rattle.ops.specs.declared.table.ArgUse.{ArgUse}
 use Rattle.ops.specs.declared.table.ArgUse.TheVariants.{Unused, Any, Size}
 use Rattle.ops.specs.declared.table.Carried.TheVariants.{Nothing, Counted, Vector}
 use Rattle.ops.specs.declared.table.Form.{Form}
-use Rattle.ops.specs.declared.table.Found.TheVariants.{Known}
+use Rattle.std.proofs.Common.{Some, None, Ok}
 use Rattle.ops.specs.declared.table.Op.{Op}
-use Rattle.ops.specs.declared.table.Row.TheVariants.{Listed, Unlisted}
 use Rattle.format.specs.Outcome.{first_failing}
 use Rattle.ops.specs.Table.{bare, stopped, reason as reasoned, row, ops, op, asks, replies, row_of, form_of, without_string, request_form, reply_form, cant_form, notice_form, answer_form}
 use Rattle.format.specs.Layout.{header_of, fixed_right}
@@ -40,7 +38,7 @@ pub record Fits (f : Form) (h : Header) (carried : ℕ) : Type 0 where
   pub short : carried ≤ 256
 
 -- a message that fits a known form passes every test of its writer
-pub fits-number : (f : Form) (h : Header) (carried : ℕ) (buffer : List ℕ) → 266 ≤ length buffer → Fits f h carried → write_number (Known f) h carried buffer ≡ 0
+pub fits-number : (f : Form) (h : Header) (carried : ℕ) (buffer : List ℕ) → 266 ≤ length buffer → Fits f h carried → write_number (Some f) h carried buffer ≡ 0
 unfolding write_number first_failing wrong_length wrong_header misfits
 fits-number f h carried buffer room p =
     let enough : 10 ≤ 10 + carried = omega arith in
@@ -62,11 +60,11 @@ known-form : (cmd : ℕ) → unknown (request_form cmd) ≡ false → cmd < leng
 unfolding request_form row_of
 known-form cmd e = go (ltb cmd (length ops)) refl e
   where
-    go : (t : Bool) → ltb cmd (length ops) ≡ t → unknown (form_of asks (cond t (Listed (op cmd)) Unlisted)) ≡ false → cmd < length ops
+    go : (t : Bool) → ltb cmd (length ops) ≡ t → unknown (form_of asks (cond t (Some (op cmd)) None)) ≡ false → cmd < length ops
     go true p q = ltb-true cmd (length ops) p
     go false p q = absurd (false≢true (sym q))
 
-pub request_form-known : (cmd : ℕ) → cmd < length ops → request_form cmd ≡ Known (asks (op cmd))
+pub request_form-known : (cmd : ℕ) → cmd < length ops → request_form cmd ≡ Some (asks (op cmd))
 unfolding request_form row_of
 request_form-known cmd h = rw (lt-ltb cmd (length ops) h)
 
@@ -81,7 +79,7 @@ asked-passed fixed h n p =
       fields = not-false (fields_right (asks (op h.cmd)) h) (||-left _ _ formed);
     }
 
-pub asked-read : (m : List ℕ) (h : Header) → reads request_form m ≡ Message h → Asked h
+pub asked-read : (m : List ℕ) (h : Header) → reads request_form m ≡ Ok h → Asked h
 unfolding reads read_number
 asked-read m h e =
     let number = read_number (request_form (header_of m).cmd) m in
@@ -148,14 +146,14 @@ covers-fields f g h c z =
     (implied-zero f.arg2 g.arg2 h.arg2 (&&-right (cp && ca) cb c) (&&-right (p && a) b z))
 
 -- the form of the reply to a known request
-answer_form-reply : (cmd : ℕ) → cmd < length ops → answer_form cmd ≡ Known (replies (op cmd))
+answer_form-reply : (cmd : ℕ) → cmd < length ops → answer_form cmd ≡ Some (replies (op cmd))
 unfolding answer_form reply_form row_of
 answer_form-reply cmd h =
     let low : cmd < 64 = omega arith in
     rw (lt-ltb cmd 64 low, lt-ltb cmd (length ops) h)
 
 -- and of its CAN'T, unless it is NOP
-answer_form-cant : (cmd : ℕ) → (cmd ≡ 0 → ⊥) → cmd < length ops → answer_form (cmd + 128) ≡ Known (without_string (asks (op cmd)))
+answer_form-cant : (cmd : ℕ) → (cmd ≡ 0 → ⊥) → cmd < length ops → answer_form (cmd + 128) ≡ Some (without_string (asks (op cmd)))
 unfolding answer_form cant_form
 answer_form-cant cmd other h =
     let no-reply : 64 ≤ cmd + 128 = omega arith in
@@ -210,7 +208,7 @@ module _ (h : Header) (buffer : List ℕ) (a : Asked h) (room : 266 ≤ length b
       let low : h.cmd < 128 = omega (arith, a.known) in
       let p : Fits f (cant_of h) 0 =
       record { hosted = a.hosted; fields = a.fields; size = refl; short = omega arith } in
-      let known : answer_form (cant_of h).cmd ≡ Known f = rw (lt-ltb h.cmd 128 low) (answer_form-cant h.cmd other a.known) in
+      let known : answer_form (cant_of h).cmd ≡ Some f = rw (lt-ltb h.cmd 128 low) (answer_form-cant h.cmd other a.known) in
       writes-sends (cant_of h) [] buffer (rw known (fits-number f (cant_of h) 0 buffer room p))
 
   answers : Answers h buffer
@@ -218,7 +216,7 @@ module _ (h : Header) (buffer : List ℕ) (a : Asked h) (room : 266 ≤ length b
 
 module _ (host pid reason : ℕ) (buffer : List ℕ) (hosted : host ≡ 0 → ⊥) (room : 266 ≤ length buffer) where
   -- a notice whose form is that of its kind
-  noticed : (kind : ℕ) (f : Form) → answer_form (cmd_over 64 4 kind) ≡ Known f → fields_right f (notice_of host kind pid reason) ≡ true → f.carried ≡ Vector
+  noticed : (kind : ℕ) (f : Form) → answer_form (cmd_over 64 4 kind) ≡ Some f → fields_right f (notice_of host kind pid reason) ≡ true → f.carried ≡ Vector
       → write_number (answer_form (cmd_over 64 4 kind)) (notice_of host kind pid reason) 18 buffer ≡ 0
   unfolding notice_of carried_length
   noticed kind f known fields carried =

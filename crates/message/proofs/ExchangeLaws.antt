@@ -7,11 +7,10 @@ use borrow.Author.Tests.{ltb-false, lt-ltb, eq-eqb, ne_eqb}
 use lib.ListN.{length}
 use Rattle.lists.specs.Buffer.{overlay}
 use Rattle.format.specs.declared.header.Header.{Header}
-use Rattle.format.specs.declared.outcome.Outcome.TheVariants.{Granted, Refused}
-use Rattle.format.specs.declared.outcome.Reading.TheVariants.{Refused as ReadingRefused}
-use Rattle.ops.specs.declared.table.Found.{Found}
+use Rattle.std.proofs.Common.{Option, Ok, Err}
+use Rattle.ops.specs.declared.table.Form.{Form}
 use Rattle.message.specs.Exchange.{Forms, write_number, answered, read_number, reads}
-use Rattle.format.specs.Outcome.{first_failing}
+use Rattle.format.specs.Outcome.{refused, first_failing}
 use Rattle.format.specs.Refusal.{wrong_length}
 use Rattle.format.proofs.OutcomeLaws.{outcome-zero, outcome-other, first_passes, rest-passes}
 use Rattle.format.proofs.TestLaws.{zero-passed, sized-between}
@@ -21,7 +20,7 @@ pub record Room (carried : ℕ) (buffer : List ℕ) : Type 0 where
   pub buffer-long : 266 ≤ length buffer
   pub string-short : carried ≤ 256
 
-pub write_number-room : (found : Found) (h : Header) (carried : ℕ) (buffer : List ℕ) → write_number found h carried buffer ≡ 0 → Room carried buffer
+pub write_number-room : (found : Option Form) (h : Header) (carried : ℕ) (buffer : List ℕ) → write_number found h carried buffer ≡ 0 → Room carried buffer
 unfolding write_number
 write_number-room found h carried buffer e =
     let p = zero-passed _ found h (10 + carried) (rest-passes 0 _ _ e) in
@@ -33,16 +32,16 @@ write_number-room found h carried buffer e =
 
 module _ (number carried : ℕ) (bytes buffer : List ℕ) where
   -- a refusal writes nothing
-  pub answered-refused : (number ≡ 0 → ⊥) → (Refused number ≡ (answered number carried bytes buffer).outcome) × (buffer ≡ (answered number carried bytes buffer).buffer)
+  pub answered-refused : (number ≡ 0 → ⊥) → (Err (refused number) ≡ (answered number carried bytes buffer).outcome) × (buffer ≡ (answered number carried bytes buffer).buffer)
   unfolding answered
   answered-refused e = (outcome-other number (10 + carried) e, rw (ne_eqb number 0 e))
 
   -- a grant lays the bytes over the buffer's start
-  pub answered-granted : number ≡ 0 → (Granted (10 + carried) ≡ (answered number carried bytes buffer).outcome) × (overlay bytes buffer ≡ (answered number carried bytes buffer).buffer)
+  pub answered-granted : number ≡ 0 → (Ok (10 + carried) ≡ (answered number carried bytes buffer).outcome) × (overlay bytes buffer ≡ (answered number carried bytes buffer).buffer)
   unfolding answered
   answered-granted e = (outcome-zero number (10 + carried) e, rw (eq-eqb number 0 e))
 
 -- under ten bytes there is no message
-pub reads_short : (forms : Forms) (m : List ℕ) → length m < 10 → ReadingRefused 3 ≡ reads forms m
+pub reads_short : (forms : Forms) (m : List ℕ) → length m < 10 → Err (refused 3) ≡ reads forms m
 unfolding reads read_number first_failing wrong_length
 reads_short forms m h = rw (lt-ltb (length m) 10 h)

@@ -10,8 +10,7 @@ use lib.ListN.{length, take}
 use Rattle.lists.specs.Buffer.{Bytes}
 use Rattle.lists.proofs.Buffer.{take-overlay}
 use Rattle.format.specs.declared.header.Header.{Header}
-use Rattle.format.specs.declared.outcome.Outcome.TheVariants.{Granted}
-use Rattle.format.specs.declared.outcome.Reading.TheVariants.{Message}
+use Rattle.std.proofs.Common.{Ok}
 use Rattle.format.specs.Outcome.{first_failing}
 use Rattle.format.specs.Layout.{written, header_of, string_of, fixed_right}
 use Rattle.format.specs.Refusal.{layout_tests}
@@ -35,7 +34,7 @@ module _ (forms : Forms) where
         behind = string_of-written h string;
       }
 
-  written-is-read : (h : Header) (string buffer : List ℕ) (n : ℕ) → (writes forms h string buffer).outcome ≡ Granted n
+  written-is-read : (h : Header) (string buffer : List ℕ) (n : ℕ) → (writes forms h string buffer).outcome ≡ Ok n
       → ReadAs forms (take n (writes forms h string buffer).buffer) h string
   unfolding writes write_number answered
   written-is-read h string buffer n e =
@@ -60,11 +59,11 @@ module _ (forms : Forms) where
       rw (le-ltb (length buffer) 266 room, size, ← fixed) e in
       let given = answered-granted _ (length (string_of m)) (written (header_of m) (string_of m)) buffer zero in
       record {
-        granted = sym given.0 ∙ ap Granted size;
+        granted = sym given.0 ∙ ap Ok size;
         bytes = rw (← given.1, whole) (take-overlay m buffer);
       }
 
-  read-is-written : (m : List ℕ) (h : Header) (buffer : List ℕ) → Bytes m → 266 ≤ length buffer → reads forms m ≡ Message h
+  read-is-written : (m : List ℕ) (h : Header) (buffer : List ℕ) → Bytes m → 266 ≤ length buffer → reads forms m ≡ Ok h
       → WrittenAs forms h (string_of m) buffer m
   unfolding reads
   read-is-written m h buffer bytes room e =

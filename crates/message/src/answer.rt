@@ -8,28 +8,26 @@ ghost use Rattle.format.specs.Answer.{notice_of};
 ghost use Rattle.format.specs.Sizes.{header_bytes};
 
 use crate::exchange::read;
-use format::{HEADER_BYTES, Header, Outcome, Reading, put_string};
+use format::{HEADER_BYTES, Header, Refusal, put_string};
 use ops::answer_form;
 use words::vector_bytes;
 
 // Writes an answer that carries no string.
-pub fn write_reply(answer: Header, buffer: &mut [u8]) -> Outcome
+pub fn write_reply(answer: Header, buffer: &mut [u8]) -> Result<usize, Refusal>
     requires { header_bytes ≤ length buffer.old }
     ensures { wrote result buffer.new ≡ sends answer [] buffer.old }
 {
     answer.put(buffer);
-    Outcome::Granted(HEADER_BYTES)
+    Ok(HEADER_BYTES)
 }
 
 // Writes the header of CONTENTS, whose ARG2 bytes stand after the tenth byte of the buffer already.
-pub fn write_contents(answer: Header, buffer: &mut [u8]) -> Outcome
+pub fn write_contents(answer: Header, buffer: &mut [u8]) -> Result<usize, Refusal>
     requires { header_bytes ≤ length buffer.old }
     ensures { wrote result buffer.new ≡ sends_head answer answer.arg2 buffer.old }
 {
     answer.put(buffer);
-    let carried = answer.arg2 as usize;
-    let length = HEADER_BYTES + carried;
-    Outcome::Granted(length)
+    Ok(HEADER_BYTES + answer.arg2 as usize)
 }
 
 // Writes the notice to a host that a process has stopped: kind 0 TRAP, 1 HALT, 2 BPT, 3 TTRAP.
@@ -40,7 +38,7 @@ pub fn write_notice(
     reason: u16,
     vector: [u16; 9],
     buffer: &mut [u8],
-) -> Outcome
+) -> Result<usize, Refusal>
     requires { 28 ≤ length buffer.old }
     ensures { wrote result buffer.new ≡ sends (notice_of host kind pid reason) (low_first vector) buffer.old }
 {
@@ -48,15 +46,15 @@ pub fn write_notice(
     let bytes = vector_bytes(vector);
     h.put(buffer);
     put_string(&bytes, buffer);
-    Outcome::Granted(28)
+    Ok(28)
 }
 
 // The desk reads any bytes as an answer, by the tests 3 to 6.
-pub fn read_answer(message: &[u8]) -> Reading
+pub fn read_answer(message: &[u8]) -> Result<Header, Refusal>
     ensures { result ≡ reads answer_form message.now }
 {
     if message.len() < HEADER_BYTES {
-        return Reading::Refused(3);
+        return Err(Refusal::LENGTH);
     }
     let h = Header::of(message);
     read(answer_form(h.cmd), h, message)

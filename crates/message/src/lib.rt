@@ -7,4 +7,4 @@ mod request;
 pub mod theorems;
 
 pub use answer::{read_answer, write_contents, write_notice, write_reply};
-pub use request::{Incoming, read_request, write_request};
+pub use request::{read_request, write_request};

@@ -1,16 +1,20 @@
--- `message::exchange::read` meets its contract: number 0 gives the fields, any other number is the refusal. Assumes nothing.
+-- `message::exchange::read` meets its contract: where the tests pass the fields, else their refusal. Assumes nothing.
+use mathlib.Core.Path.{sym, ◌∙◌}
+use Rattle.std.proofs.Common.{rules}
 use Rattle.message.specs.Exchange.{read_number}
-use Rattle.format.proofs.OutcomeLaws.{reading-zero, reading-other}
+use Rattle.format.proofs.OutcomeLaws.{unless-ok, unless-else}
 use Rattle.message.proofs.exchange.read.Goals as goal
 
-pub returns-then-number-ne0 : goal.returns-then-number-ne0
+pub returns-in_err-check_layout : goal.returns-in_err-check_layout
 unfolding read_number
-returns-then-number-ne0 c =
-    let e = rw (c.fixed_right.ensures, c.requires.h_value) at c.layout_number-number.ensures in
-    rw (← e) (reading-other _ _ c.if-number-ne0.true)
+returns-in_err-check_layout c =
+    let refused = unless-else _ _ c.args.h _ (sym c.check_layout.ensures ∙ c.in_err-check_layout.was) in
+    let returned = c.from_residual.ensures in
+    let same = c.requires.h_value in
+    search rules
 
 pub returns : goal.returns
 unfolding read_number
 returns c =
-    let e = rw (c.fixed_right.ensures, c.requires.h_value) at c.layout_number-number.ensures in
-    rw (← e, ← c.requires.h_value) (reading-zero _ _ c.if-number-ne0.false)
+    let zero = unless-ok _ _ _ (sym c.check_layout.ensures ∙ c.in_ok-check_layout.was) in
+    rw (← c.requires.h_value, ← c.fixed_right.ensures, zero)

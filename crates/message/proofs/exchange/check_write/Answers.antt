@@ -1,4 +1,4 @@
--- `message::exchange::write_number` meets its contract: at each `return` the tests before it did not fail. Assumes nothing.
+-- `message::exchange::check_write` meets its contract: at each `return` the tests before it did not fail. Assumes nothing.
 use Prim.Native.Nat.{◌<◌, ◌≤◌, ◌+◌}
 use native.Mathlib.Omega.{arith}
 use borrow.Author.Tests.{lt-ltb, le-ltb}
@@ -6,7 +6,7 @@ use lib.ListN.{length}
 use Rattle.format.specs.Refusal.{wrong_length}
 use Rattle.format.specs.Outcome.{first_failing}
 use Rattle.message.specs.Exchange.{write_number}
-use Rattle.message.proofs.exchange.write_number.Goals as goal
+use Rattle.message.proofs.exchange.check_write.Goals as goal
 
 pub returns-then-buffer-lt-MESSAGE_BYTES : goal.returns-then-buffer-lt-MESSAGE_BYTES
 unfolding write_number first_failing
@@ -25,4 +25,4 @@ pub returns : goal.returns
 unfolding write_number first_failing
 returns c =
     let room : 266 ≤ length c.args.buffer.now = omega arith in
-    rw (le-ltb _ _ room) c.layout_number.ensures
+    rw (le-ltb _ _ room) c.check_layout.ensures
