@@ -9,7 +9,7 @@ use lib.IntN.{ℤ, pos, negsuc, +ℤ_idl}
 use lib.ListN.{length, take}
 use lib.Dec.{eqb}
 use Rattle.lists.specs.Word.{vector_of}
-use Rattle.format.specs.declared.outcome.Outcome.{Outcome}
+use Rattle.format.specs.Outcome.{Outcome}
 use Rattle.format.specs.declared.outcome.Outcome.TheVariants.{Granted, Refused}
 use Rattle.format.specs.Outcome.{outcome, number_of, length_of}
 use Rattle.format.specs.Layout.{header_of}

@@ -11,7 +11,7 @@ use Rattle.lists.specs.Buffer.{overlay}
 use Rattle.lists.specs.Word.{vector_of}
 use Rattle.lists.proofs.Bool.{&&-left}
 use Rattle.lists.proofs.Word.{length-low_first}
-use Rattle.format.specs.declared.outcome.Outcome.{Outcome}
+use Rattle.format.specs.Outcome.{Outcome}
 use Rattle.format.specs.declared.outcome.Outcome.TheVariants.{Granted, Refused}
 use Rattle.format.specs.Outcome.{outcome, length_of, is_granted, first_failing}
 use Rattle.format.proofs.OutcomeLaws.{length_of-none, first_passes, rest-passes}

@@ -1,7 +1,7 @@
 -- What the exported functions return and leave.
 use Rattle.std.specs.Prelude.{◌≡◌, Bool, not, cond, List, [], ◌∷◌, ℕ, ◌+◌, ◌*◌, ◌<◌, ◌/◌, ◌%◌, ℤ, pos, ◌-ℤ◌, length, eqb, ltb}
 use Rattle.lists.specs.Word.{vector_of}
-use Rattle.format.specs.declared.outcome.Outcome.{Outcome}
+use Rattle.format.specs.Outcome.{Outcome}
 use Rattle.format.specs.declared.outcome.Outcome.TheVariants.{Granted, Refused}
 use Rattle.format.specs.Outcome.{outcome, number_of, length_of, is_granted, test, first_failing}
 use Rattle.state.specs.Fresh.{fresh_start, sizes_right}

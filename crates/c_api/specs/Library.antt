@@ -1,7 +1,7 @@
 -- Calls of the library, one after another on the bytes of a state, as the contracts of the exported functions promise them.
 use Rattle.std.specs.Prelude.{◌≡◌, List, [], ◌∷◌, ◌++◌, map, ℕ, suc, ◌<◌, ◌/◌, ◌%◌, ℤ, pos, negsuc, length, take}
 use Rattle.lists.specs.Word.{vector_of}
-use Rattle.format.specs.declared.outcome.Outcome.{Outcome}
+use Rattle.format.specs.Outcome.{Outcome}
 use Rattle.format.specs.Outcome.{outcome, number_of}
 use Rattle.reasons.specs.Reason.{fact_count}
 use Rattle.state.specs.Layout.{capacity, extent_at}

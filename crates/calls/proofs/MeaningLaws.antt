@@ -11,7 +11,7 @@ use lib.Seq.{take_all}
 use lib.Dec.{leb}
 use Rattle.lists.specs.Buffer.{overlay}
 use Rattle.lists.proofs.Buffer.{take-overlay, overlay-snoc, overlay-all}
-use Rattle.format.specs.declared.outcome.Outcome.{Outcome}
+use Rattle.format.specs.Outcome.{Outcome}
 use Rattle.format.specs.Outcome.{outcome, number_of, first_failing}
 use Rattle.format.specs.Refusal.{wrong_length}
 use Rattle.state.specs.Layout.{slot}

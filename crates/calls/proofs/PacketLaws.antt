@@ -7,7 +7,7 @@ use native.Mathlib.Numerals.{add-one}
 use native.Mathlib.Omega.{arith}
 use lib.ListN.{length, take, set}
 use lib.Seq.{take-suc-set}
-use Rattle.format.specs.declared.outcome.Outcome.{Outcome}
+use Rattle.format.specs.Outcome.{Outcome}
 use Rattle.format.specs.Outcome.{number_of, length_of}
 use Rattle.decimal.specs.declared.number.Number.{Number}
 use Rattle.decimal.specs.Read.{behind, ends_line}

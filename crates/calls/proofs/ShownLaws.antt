@@ -6,7 +6,7 @@ use native.Mathlib.Omega.{arith}
 use lib.ListN.{length, take, length-append}
 use lib.Seq.{set-set}
 use Rattle.lists.specs.Buffer.{overlay}
-use Rattle.format.specs.declared.outcome.Outcome.{Outcome}
+use Rattle.format.specs.Outcome.{Outcome}
 use Rattle.format.specs.Outcome.{number_of}
 use Rattle.lines.specs.Hex.{spaced_or_dash}
 use Rattle.lines.specs.Scan.{Put, kept}

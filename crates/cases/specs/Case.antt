@@ -1,7 +1,7 @@
 -- A case: a fresh start, calls, and what each call answers and leaves in its buffer, in memory and in the records.
 use Rattle.std.specs.Prelude.{Bool, cond, List, [], ◌∷◌, map, ℕ, length, get_or, replicate}
 use Rattle.lists.specs.Buffer.{overlay}
-use Rattle.format.specs.declared.outcome.Outcome.{Outcome}
+use Rattle.format.specs.Outcome.{Outcome}
 use Rattle.format.specs.Outcome.{outcome}
 use Rattle.format.specs.Layout.{written}
 use Rattle.breakpoints.specs.declared.entry.Breakpoint.{Breakpoint}

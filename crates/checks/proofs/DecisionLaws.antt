@@ -8,8 +8,8 @@ use borrow.Author.Tests.{ltb-false, not-false}
 use lib.ListN.{length, get_or-eq_default}
 use lib.Dec.{eqb, ltb}
 use Rattle.format.specs.declared.header.Header.{Header}
-use Rattle.ops.specs.declared.table.Found.{Found}
-use Rattle.ops.specs.declared.table.Found.TheVariants.{Known, Unknown}
+use Rattle.std.proofs.Common.{Option, Some, None, Ok, Err}
+use Rattle.ops.specs.declared.table.Form.{Form}
 use Rattle.format.specs.Outcome.{test, first_failing}
 use Rattle.ops.specs.Table.{bare, row, ops, row_of, request_form}
 use Rattle.format.proofs.OutcomeLaws.{first_passes, rest-passes}
@@ -20,15 +20,14 @@ use Rattle.process.specs.Find.{find}
 use Rattle.process.specs.Request.{has_break, has_room, has_room_for, may_have_more, is_his, entry_for}
 use Rattle.rules.specs.Rule.{rule_of, names}
 use Rattle.rules.specs.Tests.{rule_tests}
-use Rattle.checks.specs.declared.decision.Decision.{Decision}
-use Rattle.checks.specs.declared.decision.Decision.TheVariants.{Allow, Refuse}
-use Rattle.checks.specs.Decision.{decision_by, entry_of, own_decision, new_decision, break_decision, unbreak_decision, entry_decision, process_tests, decision_of}
+use Rattle.format.specs.Outcome.{refused}
+use Rattle.checks.specs.Decision.{Decision, decision_by, entry_of, own_decision, new_decision, break_decision, unbreak_decision, entry_decision, process_tests, decision_of}
 
 -- ---- which op codes name a process
 
-abbrev pub pid_in : Found → Bool
-pid_in (Known f) = f.pid
-pid_in Unknown = false
+abbrev pub pid_in : Option Form → Bool
+pid_in (Some f) = f.pid
+pid_in None = false
 
 named_by : (cmd : ℕ) → pid_in (request_form cmd) ≡ names cmd
 unfolding request_form row_of names
@@ -38,13 +37,13 @@ named_by cmd = go (ltb cmd (length ops)) refl
     go true e = rw e
     go false e = rw (e, get_or-eq_default ops (row bare bare) {n = cmd} (ltb-false cmd (length ops) e))
 
-pub names-known : (cmd : ℕ) (found : Found) → found ≡ request_form cmd → pid_in found ≡ names cmd
+pub names-known : (cmd : ℕ) (found : Option Form) → found ≡ request_form cmd → pid_in found ≡ names cmd
 names-known cmd found e = rw e (named_by cmd)
 
 -- ---- the decision of a BREAK and of an UNBREAK
 
 breaks-by : (there his room : Bool) (k j : ℕ)
-    → cond there (cond his (Allow k) (Refuse 16)) (cond room (Allow j) (Refuse 11))
+    → cond there (cond his (Ok k) (Err (refused 16))) (cond room (Ok j) (Err (refused 11)))
     ≡ decision_by (first_failing (test 11 (not (there || room)) ∷ test 12 false ∷ test 16 (not (not there || his)) ∷ [])) (cond there k j)
 unfolding decision_by first_failing
 breaks-by true true room k j = refl
@@ -53,7 +52,7 @@ breaks-by false his true k j = refl
 breaks-by false his false k j = refl
 
 unbreaks-by : (there his : Bool) (k : ℕ)
-    → cond there (cond his (Allow k) (Refuse 16)) (Refuse 12)
+    → cond there (cond his (Ok k) (Err (refused 16))) (Err (refused 12))
     ≡ decision_by (first_failing (test 11 false ∷ test 12 (not there) ∷ test 16 (not (not there || his)) ∷ [])) k
 unfolding decision_by first_failing
 unbreaks-by true true k = refl
@@ -61,11 +60,11 @@ unbreaks-by true false k = refl
 unbreaks-by false his k = refl
 
 -- 11, where the host may set no more, room or not
-pub no_more : (host : ℕ) (p : Process) → may_have_more host p ≡ false → new_decision host p ≡ Refuse 11
+pub no_more : (host : ℕ) (p : Process) → may_have_more host p ≡ false → new_decision host p ≡ Err (refused 11)
 unfolding new_decision
 no_more host p e = rw e (go (has_room p))
   where
-    go : (room : Bool) → cond (room && false) (Allow (find Free p)) (Refuse 11) ≡ Refuse 11
+    go : (room : Bool) → cond (room && false) (Ok (find Free p)) (Err (refused 11)) ≡ Err (refused 11)
     go true = refl
     go false = refl
 
@@ -84,7 +83,7 @@ module _ (h : Header) (p : Process) where
 
 -- ---- a decision by its number
 
-by_number : (F : Decision → Type 0) (n k : ℕ) → (n ≡ 0 → F (Allow k)) → ((n ≡ 0 → ⊥) → F (Refuse n)) → F (decision_by n k)
+by_number : (F : Decision → Type 0) (n k : ℕ) → (n ≡ 0 → F (Ok k)) → ((n ≡ 0 → ⊥) → F (Err (refused n))) → F (decision_by n k)
 unfolding decision_by
 by_number F zero k f g = f refl
 by_number F (suc n) k f g = g (λ e. omega (arith, e))
@@ -98,8 +97,8 @@ pub record Changes (h : Header) (p : Process) (k : ℕ) : Type 0 where
   pub entry : k ≡ entry_of h.cmd h.arg1 p
 
 abbrev pub Says : Header → Process → Decision → Type 0
-Says h p (Allow k) = Changes h p k
-Says h p (Refuse n) = (n ≡ first_failing (process_tests h p)) × (n ≡ 0 → ⊥)
+Says h p (Ok k) = Changes h p k
+Says h p (Err r) = (r.0 ≡ first_failing (process_tests h p)) × (r.0 ≡ 0 → ⊥)
 
 decision-says : (h : Header) (p : Process) → Says h p (decision_of h p)
 unfolding decision_of

@@ -4,23 +4,15 @@ ghost use Rattle.std.specs.Prelude.{◌≡◌};
 ghost use Rattle.checks.specs.Decision.{decision_of};
 
 use crate::rule::rule_decision;
-use format::Header;
+use format::{Header, Refusal};
 use process::Process;
 
-#[derive(Clone, Copy)]
-pub enum Decision {
-    // The process changes; for BREAK and UNBREAK, in this entry.
-    Allow(usize),
-    // The test with this number failed.
-    Refuse(u8),
-}
-
-// A request to this process.
-pub fn decide(h: Header, process: Process) -> Decision
+// A request to this process: it changes, for BREAK and UNBREAK in this entry, or the request is refused.
+pub fn decide(h: Header, process: Process) -> Result<usize, Refusal>
     ensures { result ≡ decision_of h process }
 {
     if !process.there {
-        return Decision::Refuse(7);
+        return Err(Refusal::PROCESS);
     }
     rule_decision(h, process)
 }

@@ -5,5 +5,5 @@ mod decision;
 mod rights;
 mod rule;
 
-pub use decision::{Decision, decide};
+pub use decision::decide;
 pub use rights::{debugs, may_look};

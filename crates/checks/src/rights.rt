@@ -15,34 +15,26 @@ pub fn debugs(process: Process, host: u8) -> bool
 pub fn may_look(process: Process, host: u8) -> bool
     ensures { result ≡ insider (public «process») host }
 {
-    if host == 0 {
-        return false;
-    }
-    debugs(process, host) || watches(process, host)
+    host != 0 && (debugs(process, host) || watches(process, host))
 }
 
 // Whether this host watches the process.
 pub(crate) fn watches(process: Process, host: u8) -> bool
     ensures { result ≡ watches (public «process») host }
 {
-    let session = process.session;
-    session.watcher == host
+    process.session.watcher == host
 }
 
 // Whether another host than this one debugs the process.
 pub(crate) fn another_debugs(process: Process, host: u8) -> bool
     ensures { result ≡ another_debugs (public «process») host }
 {
-    if process.host == 0 {
-        return false;
-    }
-    process.host != host
+    process.host != 0 && process.host != host
 }
 
 // Whether no other host than this one watches the process.
 pub(crate) fn no_other_watches(process: Process, host: u8) -> bool
     ensures { result ≡ no_other_watches (public «process») host }
 {
-    let session = process.session;
-    session.watcher == 0 || session.watcher == host
+    process.session.watcher == 0 || process.session.watcher == host
 }

@@ -5,10 +5,9 @@ ghost use Rattle.checks.specs.Decision.{own_decision, new_decision, break_decisi
 ghost use Rattle.process.specs.Sizes.{entry_count};
 ghost use Rattle.format.specs.Sizes.{string_bytes};
 
-use crate::decision::Decision;
 use crate::rights::{another_debugs, debugs, may_look, no_other_watches, watches};
 use breakpoints::{EntryQuery, valid_break_address};
-use format::Header;
+use format::{Header, Refusal};
 use ops::{
     BREAK, DEBUG, DEPOSIT, DEPOSIT_VECTOR, END_WATCH, EXAMINE, PROCEED, RESUME, SINGLE_STEP,
     STATUS, UNBREAK, WATCH,
@@ -23,10 +22,7 @@ fn right(cmd: u8, process: Process, asker: u8) -> bool
 {
     match cmd {
         DEBUG => process.host == 0 || process.host == asker,
-        EXAMINE => may_look(process, asker),
-        BREAK => may_look(process, asker),
-        UNBREAK => may_look(process, asker),
-        STATUS => may_look(process, asker),
+        EXAMINE | BREAK | UNBREAK | STATUS => may_look(process, asker),
         WATCH => another_debugs(process, asker),
         END_WATCH => watches(process, asker),
         _ => debugs(process, asker),
@@ -37,26 +33,18 @@ fn right(cmd: u8, process: Process, asker: u8) -> bool
 fn unwatched(cmd: u8, process: Process, asker: u8) -> bool
     ensures { result ≡ (rule_of cmd).unwatched (public process) asker }
 {
-    if cmd != WATCH {
-        return true;
-    }
-    no_other_watches(process, asker)
+    cmd != WATCH || no_other_watches(process, asker)
 }
 
 // 9: the run state is one that the op code works in.
 fn runs(cmd: u8, run: Run) -> bool
     ensures { result ≡ (rule_of cmd).runs run }
 {
-    if cmd == RESUME {
-        return run.stopped_or_at_break();
+    match cmd {
+        RESUME | SINGLE_STEP => run.stopped_or_at_break(),
+        PROCEED => run.at_break(),
+        _ => true,
     }
-    if cmd == SINGLE_STEP {
-        return run.stopped_or_at_break();
-    }
-    if cmd == PROCEED {
-        return run.at_break();
-    }
-    true
 }
 
 // The address after so many bytes from this one on.
@@ -77,52 +65,44 @@ fn readable(end: usize, count: u16, size: u16) -> bool
 fn range(h: Header, size: u16) -> bool
     ensures { result ≡ (rule_of h.cmd).range h size }
 {
-    let arg1 = h.arg1;
-    let arg2 = h.arg2;
-    let end = end_of(arg1, arg2);
-    if h.cmd == DEPOSIT {
-        return end <= size as usize;
+    let end = end_of(h.arg1, h.arg2);
+    match h.cmd {
+        DEPOSIT => end <= size as usize,
+        EXAMINE => readable(end, h.arg2, size),
+        DEPOSIT_VECTOR => end <= VECTOR_BYTES,
+        BREAK => valid_break_address(size, h.arg1),
+        _ => true,
     }
-    if h.cmd == EXAMINE {
-        return readable(end, arg2, size);
-    }
-    if h.cmd == DEPOSIT_VECTOR {
-        return end <= VECTOR_BYTES;
-    }
-    if h.cmd == BREAK {
-        return valid_break_address(size, arg1);
-    }
-    true
 }
 
 // 16: the breakpoint in entry k is the asker's.
-fn own_decision(k: usize, asker: u8, process: Process) -> Decision
+fn own_decision(k: usize, asker: u8, process: Process) -> Result<usize, Refusal>
     requires { k < entry_count }
     ensures { result ≡ own_decision k asker process }
 {
-    let b = process.breaks[k];
-    if b.setter == asker {
-        return Decision::Allow(k);
+    if process.breaks[k].setter == asker {
+        Ok(k)
+    } else {
+        Err(Refusal::SETTER)
     }
-    Decision::Refuse(16)
 }
 
 // 11: there is a free entry for a breakpoint more of the asker, and he may set one.
-fn new_decision(asker: u8, process: Process) -> Decision
+fn new_decision(asker: u8, process: Process) -> Result<usize, Refusal>
     ensures { result ≡ new_decision asker process }
 {
     if !process.may_have_more(asker) {
-        return Decision::Refuse(11);
+        return Err(Refusal::ENTRY);
     }
     let found = process.find(EntryQuery::Free);
     match found {
-        FoundEntry::Index(k) => Decision::Allow(k),
-        FoundEntry::Nowhere => Decision::Refuse(11),
+        FoundEntry::Index(k) => Ok(k),
+        FoundEntry::Nowhere => Err(Refusal::ENTRY),
     }
 }
 
 // 11 and 16: a BREAK at this address has an entry to go to.
-fn break_decision(asker: u8, a: u16, process: Process) -> Decision
+fn break_decision(asker: u8, a: u16, process: Process) -> Result<usize, Refusal>
     ensures { result ≡ break_decision asker a process }
 {
     let found = process.find(EntryQuery::At(a));
@@ -133,50 +113,42 @@ fn break_decision(asker: u8, a: u16, process: Process) -> Decision
 }
 
 // 12 and 16: there is a breakpoint to remove.
-fn unbreak_decision(asker: u8, a: u16, process: Process) -> Decision
+fn unbreak_decision(asker: u8, a: u16, process: Process) -> Result<usize, Refusal>
     ensures { result ≡ unbreak_decision asker a process }
 {
     let found = process.find(EntryQuery::At(a));
     match found {
         FoundEntry::Index(k) => own_decision(k, asker, process),
-        FoundEntry::Nowhere => Decision::Refuse(12),
+        FoundEntry::Nowhere => Err(Refusal::BREAKPOINT),
     }
 }
 
 // 11, 12 and 16.
-fn entry_decision(h: Header, process: Process) -> Decision
+fn entry_decision(h: Header, process: Process) -> Result<usize, Refusal>
     ensures { result ≡ entry_decision h process }
 {
-    let cmd = h.cmd;
-    let host = h.host;
-    let arg1 = h.arg1;
-    if cmd == BREAK {
-        return break_decision(host, arg1, process);
+    match h.cmd {
+        BREAK => break_decision(h.host, h.arg1, process),
+        UNBREAK => unbreak_decision(h.host, h.arg1, process),
+        _ => Ok(0),
     }
-    if cmd == UNBREAK {
-        return unbreak_decision(host, arg1, process);
-    }
-    Decision::Allow(0)
 }
 
 // The first of these tests that fails, or the entry that the request goes to.
-pub(crate) fn rule_decision(h: Header, process: Process) -> Decision
+pub(crate) fn rule_decision(h: Header, process: Process) -> Result<usize, Refusal>
     ensures { result ≡ rule_decision h process }
 {
-    let cmd = h.cmd;
-    let host = h.host;
-    let run = process.run;
-    if !right(cmd, process, host) {
-        return Decision::Refuse(8);
+    if !right(h.cmd, process, h.host) {
+        return Err(Refusal::RIGHT);
     }
-    if !unwatched(cmd, process, host) {
-        return Decision::Refuse(15);
+    if !unwatched(h.cmd, process, h.host) {
+        return Err(Refusal::WATCHER);
     }
-    if !runs(cmd, run) {
-        return Decision::Refuse(9);
+    if !runs(h.cmd, process.run) {
+        return Err(Refusal::RUN_STATE);
     }
     if !range(h, process.size) {
-        return Decision::Refuse(10);
+        return Err(Refusal::RANGE);
     }
     entry_decision(h, process)
 }

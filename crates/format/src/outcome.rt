@@ -28,6 +28,33 @@ impl Refusal {
 
     // There is no such process.
     pub const PROCESS: Refusal = Refusal(7);
+
+    // The asker has not the right.
+    pub const RIGHT: Refusal = Refusal(8);
+
+    // The run state of the process.
+    pub const RUN_STATE: Refusal = Refusal(9);
+
+    // What is asked for lies outside the process or its vector.
+    pub const RANGE: Refusal = Refusal(10);
+
+    // There is no free entry for a breakpoint.
+    pub const ENTRY: Refusal = Refusal(11);
+
+    // There is no breakpoint.
+    pub const BREAKPOINT: Refusal = Refusal(12);
+
+    // There is no place for a new process.
+    pub const PLACE: Refusal = Refusal(13);
+
+    // There is no such report.
+    pub const REPORT: Refusal = Refusal(14);
+
+    // Another host watches.
+    pub const WATCHER: Refusal = Refusal(15);
+
+    // Another host set the breakpoint.
+    pub const SETTER: Refusal = Refusal(16);
 }
 
 // The number that a call returns; 0 is granted.

@@ -5,7 +5,7 @@ use mathlib.Core.List.{List, [], ◌∷◌}
 use mathlib.Core.Logic.{◌⊎◌, inl, inr}
 use Prim.Native.Nat.{ℕ, ◌<◌}
 use lib.ListN.{get_or}
-use Rattle.format.specs.declared.outcome.Outcome.{Outcome}
+use Rattle.format.specs.Outcome.{Outcome}
 use Rattle.format.specs.declared.outcome.Outcome.TheVariants.{Granted, Refused}
 use Rattle.format.specs.Outcome.{number_of}
 use Rattle.format.proofs.OutcomeLaws.{number_of-outcome, outcome-other}

@@ -11,7 +11,7 @@ use Rattle.lists.specs.Buffer.{overlay}
 use Rattle.lists.specs.Word.{low_first}
 use Rattle.lists.proofs.Buffer.{take-overlay, drop-overlay}
 use Rattle.format.specs.declared.header.Header.{Header}
-use Rattle.format.specs.declared.outcome.Outcome.{Outcome}
+use Rattle.format.specs.Outcome.{Outcome}
 use Rattle.format.specs.declared.outcome.Outcome.TheVariants.{Granted, Refused}
 use Rattle.format.specs.Outcome.{outcome, first_failing, number_of, length_of, is_granted}
 use Rattle.format.specs.Layout.{written, header_of, string_of}

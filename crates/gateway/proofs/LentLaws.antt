@@ -8,7 +8,7 @@ use borrow.Author.Tests.{eqb-true, ltb-false, not-false}
 use lib.ListN.{length}
 use lib.Dec.{eqb, ltb}
 use Rattle.lists.proofs.Bool.{||-left, ||-right}
-use Rattle.format.specs.declared.outcome.Outcome.{Outcome}
+use Rattle.format.specs.Outcome.{Outcome}
 use Rattle.format.specs.declared.outcome.Outcome.TheVariants.{Refused}
 use Rattle.format.specs.Outcome.{first_failing}
 use Rattle.format.specs.Sizes.{message_bytes}

@@ -1,6 +1,6 @@
 -- A call on a state that is kept as bytes: what it answers, and state, memory and output buffer after it.
 use Rattle.std.specs.Prelude.{◌≡◌, Bool, false, cond, List, [], ℕ, ◌+◌, ◌<◌, length, set, eqb}
-use Rattle.format.specs.declared.outcome.Outcome.{Outcome}
+use Rattle.format.specs.Outcome.{Outcome}
 use Rattle.format.specs.Outcome.{outcome}
 use Rattle.state.specs.Records.{start_of}
 use Rattle.state.specs.Layout.{extent_at}

@@ -1,7 +1,7 @@
 -- How much of its output buffer a call wrote.
 use Rattle.std.specs.Prelude.{◌≡◌, cond, List, ℕ, ◌+◌, length, take, drop, ltb, eqb}
 use Rattle.lists.specs.First.{first}
-use Rattle.format.specs.declared.outcome.Outcome.{Outcome}
+use Rattle.format.specs.Outcome.{Outcome}
 use Rattle.format.specs.Outcome.{number_of, length_of}
 use Rattle.rules.specs.Tests.{State}
 use Rattle.rules.specs.Step.{Answer, request_step, report_step, text_step}

@@ -1,7 +1,7 @@
 -- 'What an outsider's answers may rest on', and 'The lists of demand 3'.
 use Rattle.std.specs.Prelude.{◌≡◌, Bool, true, false, not, cond, ◌&&◌, ◌||◌, List, [], ◌∷◌, ◌++◌, ℕ, ◌<◌, length, take, get_or, set, leb, ltb, eqb}
 use Rattle.format.specs.declared.header.Header.{Header}
-use Rattle.format.specs.declared.outcome.Outcome.{Outcome}
+use Rattle.format.specs.Outcome.{Outcome}
 use Rattle.format.specs.Outcome.{length_of}
 unfoldable pub use Rattle.format.specs.Outcome.{is_granted}
 use Rattle.format.specs.Layout.{header_of}

@@ -3,7 +3,7 @@ use Rattle.std.specs.Prelude.{Bool, not, cond, List, [], ℕ, ◌+◌, length, s
 use Rattle.lists.specs.Buffer.{overlay}
 use Rattle.lists.specs.Word.{low_first}
 use Rattle.format.specs.declared.header.Header.{Header}
-use Rattle.format.specs.declared.outcome.Outcome.{Outcome}
+use Rattle.format.specs.Outcome.{Outcome}
 use Rattle.format.specs.Outcome.{outcome}
 use Rattle.format.specs.Layout.{written, header_of, string_of}
 use Rattle.format.specs.Answer.{cant_of, created_of, notice_of}

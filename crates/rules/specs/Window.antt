@@ -1,7 +1,7 @@
 -- The state seen one process at a time: a process with its bytes is taken out, and put back. Words in quotation marks are
 -- document 01's and those of change requests (K9, K7).
 use Rattle.std.specs.Prelude.{cond, List, [], ℕ}
-use Rattle.format.specs.declared.outcome.Outcome.{Outcome}
+use Rattle.format.specs.Outcome.{Outcome}
 use Rattle.process.specs.Local.{Local, local}
 use Rattle.state.specs.Records.{start_of, with_process, with_start}
 use Rattle.state.specs.Layout.{extent_at, used, slot, with_slot, closed, starts_without}

@@ -2,7 +2,7 @@
 use Rattle.std.specs.Prelude.{Bool, not, cond, ◌||◌, List, [], ◌∷◌, ℕ, zero, suc, eqb, ltb}
 use Rattle.lists.specs.Buffer.{overlay}
 use Rattle.format.specs.declared.header.Header.{Header}
-use Rattle.format.specs.declared.outcome.Outcome.{Outcome}
+use Rattle.format.specs.Outcome.{Outcome}
 use Rattle.format.specs.Outcome.{outcome, test, first_failing}
 use Rattle.format.specs.Layout.{written}
 use Rattle.format.specs.Answer.{cant_of, created_of}

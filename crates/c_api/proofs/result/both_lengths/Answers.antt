@@ -1,7 +1,7 @@
 -- `c_api::result::both_lengths` meets its contract, by the outcome. Assumes nothing.
 use mathlib.Core.Path.{refl, subst}
 use native.Mathlib.Omega.{arith}
-use Rattle.format.specs.declared.outcome.Outcome.{Outcome}
+use Rattle.format.specs.Outcome.{Outcome}
 use Rattle.format.specs.Outcome.{length_of}
 use Rattle.c_api.specs.Called.{Short, both_lengths}
 use Rattle.c_api.proofs.result.both_lengths.Goals as goal

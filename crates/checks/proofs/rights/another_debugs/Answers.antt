@@ -1,12 +1,12 @@
--- `checks::rights::another_debugs` meets its contract, by the two tests. Assumes nothing.
-use borrow.Author.Tests.{eq-eqb, ne_eqb}
+-- `checks::rights::another_debugs` meets its contract. Assumes nothing.
+use Rattle.std.proofs.Common.{rules}
 use Rattle.rules.specs.Rule.{public}
 use Rattle.checks.proofs.rights.another_debugs.Goals as goal
 
-pub returns-then-process-eq0 : goal.returns-then-process-eq0
+pub returns-then-process-ne0 : goal.returns-then-process-ne0
 unfolding public
-returns-then-process-eq0 c = rw (eq-eqb _ _ c.if-process-eq0.true)
+returns-then-process-ne0 c = search rules
 
-pub returns : goal.returns
+pub returns-else-process-ne0 : goal.returns-else-process-ne0
 unfolding public
-returns c = rw (ne_eqb _ _ c.if-process-eq0.false)
+returns-else-process-ne0 c = search rules

@@ -1,16 +1,16 @@
--- `checks::rights::may_look` meets its contract: nobody may look, and any other host where it debugs the process or watches it. Assumes nothing.
-use borrow.Author.Tests.{eq-eqb, ne_eqb}
-use Rattle.rules.specs.Rule.{insider}
+-- `checks::rights::may_look` meets its contract. Assumes nothing.
+use Rattle.std.proofs.Common.{rules}
+use Rattle.rules.specs.Rule.{public, insider}
 use Rattle.checks.proofs.rights.may_look.Goals as goal
 
-pub returns-then-host-eq0 : goal.returns-then-host-eq0
-unfolding insider
-returns-then-host-eq0 c = rw (eq-eqb _ _ c.if-host-eq0.true)
-
 pub returns-then-debugs : goal.returns-then-debugs
-unfolding insider
-returns-then-debugs c = rw (ne_eqb _ _ c.if-host-eq0.false, ← c.debugs.ensures, c.if-debugs.true)
+unfolding public insider
+returns-then-debugs c = search rules
 
 pub returns-else-debugs : goal.returns-else-debugs
-unfolding insider
-returns-else-debugs c = rw (ne_eqb _ _ c.if-host-eq0.false, ← c.debugs.ensures, c.if-debugs.false) c.watches.ensures
+unfolding public insider
+returns-else-debugs c = search rules
+
+pub returns-else-host-ne0 : goal.returns-else-host-ne0
+unfolding public insider
+returns-else-host-ne0 c = search rules

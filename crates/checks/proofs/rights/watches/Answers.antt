@@ -1,5 +1,5 @@
 -- `checks::rights::watches` meets its contract. Assumes nothing.
-use borrow.Author.Rules.{rules}
+use Rattle.std.proofs.Common.{rules}
 use Rattle.rules.specs.Rule.{public}
 use Rattle.checks.proofs.rights.watches.Goals as goal
 

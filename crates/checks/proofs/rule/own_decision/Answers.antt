@@ -3,10 +3,10 @@ use borrow.Author.Tests.{eq-eqb, ne_eqb}
 use Rattle.checks.specs.Decision.{own_decision}
 use Rattle.checks.proofs.rule.own_decision.Goals as goal
 
-pub returns-then-b-asker : goal.returns-then-b-asker
+pub returns-then-process-k : goal.returns-then-process-k
 unfolding own_decision
-returns-then-b-asker c = rw (eq-eqb _ _ c.if-b-asker.true)
+returns-then-process-k c = rw (eq-eqb _ _ c.if-process-k.true)
 
-pub returns : goal.returns
+pub returns-else-process-k : goal.returns-else-process-k
 unfolding own_decision
-returns c = rw (ne_eqb _ _ c.if-b-asker.false)
+returns-else-process-k c = rw (ne_eqb _ _ c.if-process-k.false)

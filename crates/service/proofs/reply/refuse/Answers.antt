@@ -1,6 +1,6 @@
 -- `service::reply::refuse` meets its contract: the CAN'T is sent, and the number returned. Assumes nothing.
 use mathlib.Core.Path.{ap₂}
-use Rattle.format.specs.declared.outcome.Outcome.{Outcome}
+use Rattle.format.specs.Outcome.{Outcome}
 use Rattle.format.proofs.OutcomeLaws.{outcome-other}
 use Rattle.message.specs.Exchange.{Written, sends}
 use Rattle.service.specs.At.{answer, cant_by}
