@@ -12,25 +12,25 @@ use format::{HEADER_BYTES, Header, Refusal, put_string};
 use ops::answer_form;
 use words::vector_bytes;
 
-// Writes an answer that carries no string.
-pub fn write_reply(answer: Header, buffer: &mut [u8]) -> Result<usize, Refusal>
+// Writes an answer that carries no string; its length.
+pub fn write_reply(answer: Header, buffer: &mut [u8]) -> usize
     requires { header_bytes ≤ length buffer.old }
-    ensures { wrote result buffer.new ≡ sends answer [] buffer.old }
+    ensures { wrote (Ok result) buffer.new ≡ sends answer [] buffer.old }
 {
     answer.put(buffer);
-    Ok(HEADER_BYTES)
+    HEADER_BYTES
 }
 
-// Writes the header of CONTENTS, whose ARG2 bytes stand after the tenth byte of the buffer already.
-pub fn write_contents(answer: Header, buffer: &mut [u8]) -> Result<usize, Refusal>
+// Writes the header of CONTENTS, whose ARG2 bytes stand after the tenth byte of the buffer already; the length of the whole.
+pub fn write_contents(answer: Header, buffer: &mut [u8]) -> usize
     requires { header_bytes ≤ length buffer.old }
-    ensures { wrote result buffer.new ≡ sends_head answer answer.arg2 buffer.old }
+    ensures { wrote (Ok result) buffer.new ≡ sends_head answer answer.arg2 buffer.old }
 {
     answer.put(buffer);
-    Ok(HEADER_BYTES + answer.arg2 as usize)
+    answer.arg2 as usize + HEADER_BYTES
 }
 
-// Writes the notice to a host that a process has stopped: kind 0 TRAP, 1 HALT, 2 BPT, 3 TTRAP.
+// Writes the notice to a host that a process has stopped: kind 0 TRAP, 1 HALT, 2 BPT, 3 TTRAP; its length.
 pub fn write_notice(
     host: u8,
     kind: u8,
@@ -38,15 +38,15 @@ pub fn write_notice(
     reason: u16,
     vector: [u16; 9],
     buffer: &mut [u8],
-) -> Result<usize, Refusal>
+) -> usize
     requires { 28 ≤ length buffer.old }
-    ensures { wrote result buffer.new ≡ sends (notice_of host kind pid reason) (low_first vector) buffer.old }
+    ensures { wrote (Ok result) buffer.new ≡ sends (notice_of host kind pid reason) (low_first vector) buffer.old }
 {
     let h = Header::notice(host, kind, pid, reason);
     let bytes = vector_bytes(vector);
     h.put(buffer);
     put_string(&bytes, buffer);
-    Ok(28)
+    28
 }
 
 // The desk reads any bytes as an answer, by the tests 3 to 6.

@@ -6,7 +6,7 @@ use lib.ListN.{length, take, drop}
 use Rattle.lists.proofs.Buffer.{overlay-before}
 use Rattle.lists.proofs.Part.{length_part}
 use Rattle.format.specs.declared.header.Header.{Header}
-use Rattle.format.specs.declared.outcome.Outcome.TheVariants.{Granted}
+use Rattle.std.proofs.Common.{Ok}
 use Rattle.format.specs.Layout.{header, written}
 use Rattle.message.specs.Exchange.{wrote, sends, sends_head}
 use Rattle.process.specs.Local.{Local}
@@ -24,4 +24,4 @@ pub contents-sent : (h : Header) (out shown buffer : List ℕ) (n : ℕ) → n �
     → sends_head h h.arg2 (take 10 buffer ++ (out ++ drop n (drop 10 buffer))) ≡ sends h shown buffer
 unfolding sends_head sends written
 contents-sent h out shown buffer n e same size long =
-    ap₂ (λ (k : ℕ) (b : List ℕ). wrote (Granted (10 + k)) b) (sym size) (rw same (overlay-before (header h) shown buffer n (e ∙ sym size) long))
+    ap₂ (λ (k : ℕ) (b : List ℕ). wrote (Ok (10 + k)) b) (sym size) (rw same (overlay-before (header h) shown buffer n (e ∙ sym size) long))

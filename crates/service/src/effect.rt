@@ -19,10 +19,7 @@ use process::Process;
 pub fn changes(cmd: u8) -> bool
     ensures { result ≡ changes cmd }
 {
-    if cmd == STATUS {
-        return false;
-    }
-    cmd != EXAMINE
+    cmd != STATUS && cmd != EXAMINE
 }
 
 // One method of the process for each op code; k is the entry that BREAK or UNBREAK goes to.

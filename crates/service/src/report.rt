@@ -7,11 +7,12 @@ ghost use Rattle.rules.specs.TextRule.{status_of, owed_line};
 ghost use Rattle.rules.specs.Step.{notice_to};
 ghost use Rattle.rules.specs.Tests.{bad_report};
 ghost use Rattle.service.specs.At.{answer, report_served, report_away, report_number_at, report_at};
+ghost use Rattle.format.specs.Outcome.{unless};
 ghost use Rattle.format.specs.Sizes.{message_bytes};
 
 use crate::served::ReportServed;
 use fields::{TextAnswer, write_answer};
-use format::Outcome;
+use format::Refusal;
 use message::write_notice;
 use process::Process;
 use run_state::{HALT, TRAP, TTRAP};
@@ -21,51 +22,51 @@ use session::Owed;
 fn bad_report(kind: u8, reason: u16) -> bool
     ensures { result ≡ bad_report kind reason }
 {
-    if TTRAP < kind {
-        return true;
-    }
-    if reason == 0 {
-        return false;
-    }
-    kind != TRAP
+    TTRAP < kind || reason != 0 && kind != TRAP
 }
 
-// 14, or 7 where there is no process of this number, or 0.
-pub fn check_report(pid: u8, kind: u8, reason: u16) -> u8
-    ensures { result ≡ report_away pid kind reason }
+// The tests that look at no process: 14, and 7 where there is no process of this number.
+pub fn check_report(pid: u8, kind: u8, reason: u16) -> Result<(), Refusal>
+    ensures { result ≡ unless (report_away pid kind reason) tt }
 {
     if bad_report(kind, reason) {
-        return 14;
+        return Err(Refusal::REPORT);
     }
     if 8 <= pid {
-        return 7;
+        return Err(Refusal::PROCESS);
     }
-    0
+    Ok(())
 }
 
-// 7 where the process is not there, 9 where it does not accept the report, or 0.
-fn report_number_at(process: Process, kind: u8) -> u8
-    ensures { result ≡ report_number_at kind «process» }
+// The tests at the process: 7 where it is not there, 9 where it does not accept the report.
+fn check_report_at(process: Process, kind: u8) -> Result<(), Refusal>
+    ensures { result ≡ unless (report_number_at kind «process») tt }
 {
     if !process.there {
-        return 7;
+        return Err(Refusal::PROCESS);
     }
-    let run = process.run;
-    if !run.accepts(kind) {
-        return 9;
+    if !process.run.accepts(kind) {
+        return Err(Refusal::RUN_STATE);
     }
-    0
+    Ok(())
 }
 
 // Writes the notice to this host, unless it is nobody.
-fn notify(host: u8, pid: u8, kind: u8, reason: u16, words: [u16; 9], notice: &mut [u8]) -> Outcome
+fn notify(
+    host: u8,
+    pid: u8,
+    kind: u8,
+    reason: u16,
+    words: [u16; 9],
+    notice: &mut [u8],
+) -> Result<usize, Refusal>
     requires { message_bytes ≤ length notice.old }
     ensures { answer result notice.new ≡ notice_to host pid kind reason words notice.old }
 {
     if host == 0 {
-        return Outcome::Granted(0);
+        return Ok(0);
     }
-    write_notice(host, kind, pid, reason, words, notice)
+    Ok(write_notice(host, kind, pid, reason, words, notice))
 }
 
 // The status of a process that has ended.
@@ -81,13 +82,11 @@ const BREAK_STATUS: u32 = 1407;
 fn status(kind: u8) -> u32
     ensures { result ≡ status_of kind }
 {
-    if kind == HALT {
-        return ENDED_STATUS;
+    match kind {
+        HALT => ENDED_STATUS,
+        TRAP => TRAP_STATUS,
+        _ => BREAK_STATUS,
     }
-    if kind == TRAP {
-        return TRAP_STATUS;
-    }
-    BREAK_STATUS
 }
 
 // Writes the line of an owed answer, if one is owed; its length.
@@ -124,22 +123,19 @@ pub fn report_for_process(
     requires line_bytes_in_bounds { line_bytes ≤ length line.old }
     ensures { report_served result.outcome result.line result.process bytes.new notice.new line.new ≡ report_at pid kind reason words notice.old line.old (local «process» bytes.old) }
 {
-    let number = report_number_at(process, kind);
-    if number != 0 {
+    if let Err(refusal) = check_report_at(process, kind) {
         return ReportServed {
-            outcome: Outcome::Refused(number),
+            outcome: Err(refusal),
             line: 0,
-            process: process,
+            process,
         };
     }
     let done = process.report(bytes, kind, words);
-    let next = done.process;
-    let owed = done.answered;
-    let length = answer_owed(owed, pid, kind, line);
+    let length = answer_owed(done.answered, pid, kind, line);
     let outcome = notify(done.told, pid, kind, reason, words, notice);
     ReportServed {
-        outcome: outcome,
+        outcome,
         line: length,
-        process: next,
+        process: done.process,
     }
 }

@@ -12,7 +12,7 @@ ghost use Rattle.process.specs.Sizes.{memory_bytes};
 use crate::effect::perform;
 use crate::reply::{refuse, reply_plain, reply_to};
 use crate::served::ServiceResult;
-use checks::{Decision, decide};
+use checks::decide;
 use format::Header;
 use process::Process;
 
@@ -35,7 +35,7 @@ fn grant(
     let outcome = reply_to(h, process, bytes, reply);
     let next = perform(h, k, process, bytes, string);
     ServiceResult {
-        outcome: outcome,
+        outcome,
         process: next,
     }
 }
@@ -53,12 +53,11 @@ pub fn answer_for_process(
     requires message_bytes_in_bounds { message_bytes ≤ length reply.old }
     ensures { served result.outcome result.process bytes.new reply.new ≡ named_at h string.now reply.old (local process bytes.old) }
 {
-    let decision = decide(h, process);
-    match decision {
-        Decision::Allow(k) => grant(h, k, process, bytes, string, reply),
-        Decision::Refuse(number) => ServiceResult {
-            outcome: refuse(h, number, reply),
-            process: process,
+    match decide(h, process) {
+        Ok(k) => grant(h, k, process, bytes, string, reply),
+        Err(refusal) => ServiceResult {
+            outcome: refuse(h, refusal, reply),
+            process,
         },
     }
 }
@@ -67,10 +66,7 @@ pub fn answer_for_process(
 pub fn size_asked(h: Header) -> u16
     ensures { result ≡ size_asked h }
 {
-    if h.arg1 == 0 {
-        return 4096;
-    }
-    h.arg1
+    if h.arg1 == 0 { 4096 } else { h.arg1 }
 }
 
 // CREATE, of the process with this number, with these bytes: as many as it asks for.
@@ -88,10 +84,9 @@ pub fn answer_create(
     ensures { served result.outcome result.process bytes.new reply.new ≡ created_at pid h reply.old }
 {
     let created = process.create(h.host, size, bytes);
-    let number = pid as u8;
-    let outcome = reply_plain(h.created(number), reply);
+    let outcome = reply_plain(h.created(pid as u8), reply);
     ServiceResult {
-        outcome: outcome,
+        outcome,
         process: created,
     }
 }

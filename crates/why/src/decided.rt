@@ -5,8 +5,8 @@ ghost use Rattle.checks.specs.Decision.{process_tests};
 ghost use Rattle.why.specs.ForProcess.{why_for_process};
 
 use crate::facts::reason_for;
-use checks::{Decision, decide};
-use format::Header;
+use checks::decide;
+use format::{Header, number_of};
 use process::Process;
 use reasons::Reason;
 
@@ -14,11 +14,7 @@ use reasons::Reason;
 fn number_for_process(h: Header, process: Process) -> u8
     ensures { result ≡ first_failing (process_tests h «process») }
 {
-    let decision = decide(h, process);
-    match decision {
-        Decision::Allow(_) => 0,
-        Decision::Refuse(n) => n,
-    }
+    number_of(decide(h, process))
 }
 
 // Why a request with this header, in a message of so many bytes, is refused by this process, or that it is granted.

@@ -14,10 +14,7 @@ use reasons::{Limit, Reason};
 fn over(n: u32, limit: u32) -> u32
     ensures { result ≡ n - limit }
 {
-    if n <= limit {
-        return 0;
-    }
-    n - limit
+    n.saturating_sub(limit)
 }
 
 // The address after the bytes that are asked for.
@@ -32,9 +29,10 @@ fn limit_end(h: Header, size: u16) -> u32
     ensures { result ≡ end_for h size }
 {
     if h.cmd == DEPOSIT_VECTOR {
-        return VECTOR_BYTES as u32;
+        VECTOR_BYTES as u32
+    } else {
+        size as u32
     }
-    size as u32
 }
 
 // The first limit that is passed, where one is.
@@ -85,8 +83,7 @@ fn setter_in(k: usize, process: Process) -> u8
     requires { k < entry_count }
     ensures { result ≡ (entry «process» k).setter }
 {
-    let b = process.breaks[k];
-    b.setter
+    process.breaks[k].setter
 }
 
 // 16: who set the breakpoint at the address that is asked for; 0 where there is none.
@@ -105,25 +102,24 @@ pub fn reason_without_process(number: u8, count: usize) -> Reason
     ensures { result ≡ reason_without_process number count }
 {
     if number == 3 {
-        return Reason::Length(count);
+        Reason::Length(count)
+    } else {
+        Reason::Other(number)
     }
-    Reason::Other(number)
 }
 
 // The reason of the test with this number.
 pub(crate) fn reason_for(number: u8, h: Header, count: usize, process: Process) -> Reason
     ensures { result ≡ reason_for number h count «process» }
 {
-    let session = process.session;
-    let run = process.run;
     match number {
         0 => Reason::Granted,
         3 => Reason::Length(count),
         8 => Reason::Debugger(process.host),
-        9 => Reason::RunState(run.number()),
+        9 => Reason::RunState(process.run.number()),
         10 => past(h, process.size),
         11 => Reason::Full(full_of(process)),
-        15 => Reason::Watcher(session.watcher),
+        15 => Reason::Watcher(process.session.watcher),
         16 => Reason::Setter(who_set(h, process)),
         _ => Reason::Other(number),
     }

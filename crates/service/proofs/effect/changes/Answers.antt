@@ -1,12 +1,12 @@
--- `service::effect::changes` meets its contract, by whether it is STATUS. Assumes nothing.
-use borrow.Author.Tests.{eq-eqb, ne_eqb}
+-- `service::effect::changes` meets its contract, by the op code. Assumes nothing.
+use Rattle.std.proofs.Common.{rules}
 use Rattle.service.specs.At.{changes}
 use Rattle.service.proofs.effect.changes.Goals as goal
 
-pub returns-then-cmd-eq-STATUS : goal.returns-then-cmd-eq-STATUS
+pub returns-then-cmd-ne-STATUS : goal.returns-then-cmd-ne-STATUS
 unfolding changes
-returns-then-cmd-eq-STATUS c = rw (eq-eqb _ _ c.if-cmd-eq-STATUS.true)
+returns-then-cmd-ne-STATUS c = search rules
 
-pub returns : goal.returns
+pub returns-else-cmd-ne-STATUS : goal.returns-else-cmd-ne-STATUS
 unfolding changes
-returns c = rw (ne_eqb _ _ c.if-cmd-eq-STATUS.false)
+returns-else-cmd-ne-STATUS c = search rules

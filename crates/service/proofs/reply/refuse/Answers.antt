@@ -9,4 +9,4 @@ use Rattle.service.proofs.reply.refuse.Goals as goal
 pub returns : goal.returns
 unfolding sends cant_by
 returns c =
-    rw (← c.cant.ensures) (ap₂ (λ (o : Outcome) (w : Written). answer o w.buffer) (outcome-other c.args.number 0 c.requires.fact) c.write_reply.ensures)
+    rw (← c.cant.ensures) (ap₂ (λ (o : Outcome) (w : Written). answer o w.buffer) (outcome-other c.args.refusal.0 0 c.requires.fact) c.write_reply.ensures)

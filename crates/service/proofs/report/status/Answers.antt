@@ -1,17 +1,16 @@
 -- `service::report::status` meets its contract, by the kind. Assumes nothing.
-use mathlib.Core.Path.{refl}
-use borrow.Author.Tests.{eq-eqb, ne_eqb}
+use Rattle.std.proofs.Common.{rules}
 use Rattle.rules.specs.TextRule.{status_of}
 use Rattle.service.proofs.report.status.Goals as goal
 
-pub returns-then-kind-eq-HALT : goal.returns-then-kind-eq-HALT
+pub returns-in-1 : goal.returns-in-1
 unfolding status_of
-returns-then-kind-eq-HALT c = rw (eq-eqb _ _ c.if-kind-eq-HALT.true) refl
+returns-in-1 c = search rules
 
-pub returns-then-kind-eq-TRAP : goal.returns-then-kind-eq-TRAP
+pub returns-in-0 : goal.returns-in-0
 unfolding status_of
-returns-then-kind-eq-TRAP c = rw (ne_eqb _ _ c.if-kind-eq-HALT.false, eq-eqb _ _ c.if-kind-eq-TRAP.true) refl
+returns-in-0 c = search rules
 
-pub returns : goal.returns
+pub returns-in_default : goal.returns-in_default
 unfolding status_of
-returns c = rw (ne_eqb _ _ c.if-kind-eq-HALT.false, ne_eqb _ _ c.if-kind-eq-TRAP.false) refl
+returns-in_default c = search rules

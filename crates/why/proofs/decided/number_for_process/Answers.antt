@@ -1,10 +1,10 @@
 -- `why::decided::number_for_process` meets its contract: that of `decide`. Assumes nothing.
-use mathlib.Core.Path.{sym, ◌∙◌}
-use Rattle.checks.proofs.DecisionLaws.{says}
+use mathlib.Core.Path.{ap, ◌∙◌}
+use Rattle.format.specs.Outcome.{number_of}
+use Rattle.format.proofs.OutcomeLaws.{number_of-outcome}
+use Rattle.checks.specs.Decision.{decision_by, decision_of}
 use Rattle.why.proofs.decided.number_for_process.Goals as goal
 
-pub returns-in-Allow : goal.returns-in-Allow
-returns-in-Allow c = sym (says _ _ _ (sym c.in-Allow.is ∙ c.decide-decision.ensures)).passed
-
-pub returns-in-Refuse : goal.returns-in-Refuse
-returns-in-Refuse c = (says _ _ _ (sym c.in-Refuse.is ∙ c.decide-decision.ensures)).0
+pub returns : goal.returns
+unfolding decision_of decision_by
+returns c = c.number_of.ensures ∙ ap number_of c.decide.ensures ∙ number_of-outcome _ _

@@ -7,6 +7,6 @@ pub returns-then-h-eq-DEPOSIT_VECTOR : goal.returns-then-h-eq-DEPOSIT_VECTOR
 unfolding end_for
 returns-then-h-eq-DEPOSIT_VECTOR c = rw (eq-eqb _ _ c.if-h-eq-DEPOSIT_VECTOR.true)
 
-pub returns : goal.returns
+pub returns-else-h-eq-DEPOSIT_VECTOR : goal.returns-else-h-eq-DEPOSIT_VECTOR
 unfolding end_for
-returns c = rw (ne_eqb _ _ c.if-h-eq-DEPOSIT_VECTOR.false)
+returns-else-h-eq-DEPOSIT_VECTOR c = rw (ne_eqb _ _ c.if-h-eq-DEPOSIT_VECTOR.false)

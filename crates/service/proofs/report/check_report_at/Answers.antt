@@ -1,7 +1,7 @@
--- `service::report::report_number_at` meets its contract: at each `return` the tests before it have passed. Assumes nothing.
+-- `service::report::check_report_at` meets its contract: at each `return` the tests before it have passed. Assumes nothing.
 use Rattle.format.specs.Outcome.{first_failing}
 use Rattle.service.specs.At.{report_number_at}
-use Rattle.service.proofs.report.report_number_at.Goals as goal
+use Rattle.service.proofs.report.check_report_at.Goals as goal
 
 pub returns-then-not-process : goal.returns-then-not-process
 unfolding report_number_at first_failing
