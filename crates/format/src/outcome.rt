@@ -55,6 +55,21 @@ impl Refusal {
 
     // Another host set the breakpoint.
     pub const SETTER: Refusal = Refusal(16);
+
+    // Of a text line 100 and the error number of its answer: the asker has not the right.
+    pub const TEXT_RIGHT: Refusal = Refusal(101);
+
+    // There is no such process.
+    pub const TEXT_PROCESS: Refusal = Refusal(103);
+
+    // What is asked for lies outside the process, or there is no such register.
+    pub const TEXT_RANGE: Refusal = Refusal(114);
+
+    // An answer is owed.
+    pub const TEXT_OWED: Refusal = Refusal(116);
+
+    // The line is not whole, or it asks for what cannot be.
+    pub const TEXT_LINE: Refusal = Refusal(122);
 }
 
 // The number that a call returns; 0 is granted.

@@ -20,12 +20,9 @@ fn write_words(bytes: &[u8; BLOCK_BYTES], count: WordCount, out: &mut [u16])
     requires { (count.0 ≤ 32) × (count.0 ≤ length out.old) }
     ensures { out.new ≡ overlay (words_of count.0 bytes.now) out.old }
 {
-    let n = count.0 as usize;
-    let mut i = 0;
-    while i < n {
+    for i in 0..count.0 as usize {
         let first = i + i;
         out[i] = word_of(bytes[first + 1], bytes[first]);
-        i += 1;
     }
 }
 
@@ -36,10 +33,8 @@ fn write_seen(at: WordAddress, count: WordCount, process: Process, bytes: &[u8],
     ensures { out.new ≡ overlay (words_seen at count (local process bytes.now)) out.old }
 {
     let mut block = [0u8; BLOCK_BYTES];
-    let first = at.first_byte();
-    let length = count.in_bytes();
-    let end = length.0;
-    process.examine(bytes, first.0, &mut block[..end]);
+    let end = count.in_bytes().0;
+    process.examine(bytes, at.first_byte().0, &mut block[..end]);
     write_words(&block, count, out);
 }
 
@@ -49,8 +44,7 @@ fn word_at(at: WordAddress, process: Process, bytes: &[u8]) -> u16
     ensures { result ≡ word_seen at (local process bytes.now) }
 {
     let mut pair = [0u8; 2];
-    let first = at.first_byte();
-    process.examine(bytes, first.0, &mut pair);
+    process.examine(bytes, at.first_byte().0, &mut pair);
     word_of(pair[1], pair[0])
 }
 

@@ -1,6 +1,5 @@
 // The words that answer a packet.
 ghost use Rattle.std.specs.Prelude.{◌≡◌, false, ◌≤◌, length};
-ghost use Rattle.format.specs.declared.outcome.Outcome.TheVariants.{Refused};
 ghost use Rattle.packets.specs.Types.{too_few};
 ghost use Rattle.packets.specs.Ack.{ack_words};
 ghost use Rattle.process.specs.Local.{local, Tested, Present};
@@ -10,8 +9,8 @@ ghost use Rattle.packet_door.specs.At.{row_of, Passed, replied, granted_by, pack
 use crate::ack::write_ack;
 use crate::effect::perform;
 use crate::request::{PacketRequest, request_of};
-use crate::rule::packet_number;
-use format::Outcome;
+use crate::rule::check_packet;
+use format::Refusal;
 use packets::{FETCH, STORE};
 use process::Process;
 use service::ServiceResult;
@@ -23,17 +22,17 @@ fn reply_to(
     process: Process,
     bytes: &[u8],
     out: &mut [u16],
-) -> Outcome
+) -> Result<usize, Refusal>
     requires bytes_len { length bytes.now ≡ process.size }
     requires passed { Passed request words.now process }
     requires ack_words_in_bounds { ack_words ≤ length out.old }
     ensures { answer result out.new ≡ replied ((row_of request).ack words.now (local process bytes.now)) out.old }
 {
     match request {
-        PacketRequest::Store => Outcome::Granted(write_ack(STORE, words, process, bytes, out)),
-        PacketRequest::Fetch => Outcome::Granted(write_ack(FETCH, words, process, bytes, out)),
-        PacketRequest::Go => Outcome::Granted(0),
-        PacketRequest::GoReply => Outcome::Granted(0),
+        PacketRequest::Store => Ok(write_ack(STORE, words, process, bytes, out)),
+        PacketRequest::Fetch => Ok(write_ack(FETCH, words, process, bytes, out)),
+        PacketRequest::Go => Ok(0),
+        PacketRequest::GoReply => Ok(0),
     }
 }
 
@@ -54,18 +53,18 @@ fn grant(
     let next = perform(request, id, words, process, bytes);
     let outcome = reply_to(request, words, next, bytes, out);
     ServiceResult {
-        outcome: outcome,
+        outcome,
         process: next,
     }
 }
 
-// Refused with this number: the process stays as it is, and a Go that waits goes on waiting.
-fn refuse(number: u8, process: Process) -> ServiceResult
-    ensures { (result.outcome ≡ Refused number) × (result.process ≡ process) }
+// Refused so: the process stays as it is, and a Go that waits goes on waiting.
+fn refuse(refusal: Refusal, process: Process) -> ServiceResult
+    ensures { (result.outcome ≡ Err refusal) × (result.process ≡ process) }
 {
     ServiceResult {
-        outcome: Outcome::Refused(number),
-        process: process,
+        outcome: Err(refusal),
+        process,
     }
 }
 
@@ -84,9 +83,8 @@ pub fn packet_for_process(
     ensures { served result.outcome result.process bytes.new out.new ≡ packet_at kind id words.now out.old (local process bytes.old) }
 {
     let request = request_of(kind);
-    let number = packet_number(request, words, process);
-    if number != 0 {
-        return refuse(number, process);
+    match check_packet(request, words, process) {
+        Ok(_) => grant(request, id, words, process, bytes, out),
+        Err(refusal) => refuse(refusal, process),
     }
-    grant(request, id, words, process, bytes, out)
 }

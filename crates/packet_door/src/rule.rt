@@ -2,10 +2,12 @@
 ghost use Rattle.std.specs.Prelude.{◌≡◌, ◌≤◌, length};
 ghost use Rattle.rules.specs.Rule.{public};
 ghost use Rattle.rules.specs.PacketRule.{word_inside};
+ghost use Rattle.format.specs.Outcome.{unless};
 ghost use Rattle.packet_door.specs.At.{row_of, fewest_of, number_of};
 
 use crate::request::PacketRequest;
 use checks::{debugs, may_look};
+use format::Refusal;
 use packets::{ByteCount, WordCount, address_of};
 use process::Process;
 use run_state::Run;
@@ -57,23 +59,26 @@ fn range(request: PacketRequest, words: &[u16], size: u16) -> bool
     }
 }
 
-// The number of the first test that fails, or 0.
-pub(crate) fn packet_number(request: PacketRequest, words: &[u16], process: Process) -> u8
+// The tests 7 to 10.
+pub(crate) fn check_packet(
+    request: PacketRequest,
+    words: &[u16],
+    process: Process,
+) -> Result<(), Refusal>
     requires { fewest_of request ≤ length words.now }
-    ensures { result ≡ number_of request words.now process }
+    ensures { result ≡ unless (number_of request words.now process) tt }
 {
     if !process.there {
-        return 7;
+        return Err(Refusal::PROCESS);
     }
     if !right(request, process) {
-        return 8;
+        return Err(Refusal::RIGHT);
     }
-    let run = process.run;
-    if !runs(request, run) {
-        return 9;
+    if !runs(request, process.run) {
+        return Err(Refusal::RUN_STATE);
     }
     if !range(request, words, process.size) {
-        return 10;
+        return Err(Refusal::RANGE);
     }
-    0
+    Ok(())
 }

@@ -9,19 +9,19 @@ ghost use Rattle.text_door.specs.At.{row_of, Passed, replied, granted_by, text_a
 
 use crate::effect::{perform, read_register, read_word};
 use crate::request::{TextRequest, request_of};
-use crate::rule::text_number;
+use crate::rule::check_line;
 use fields::{Line, TextAnswer, write_answer};
-use format::Outcome;
+use format::Refusal;
 use process::Process;
 use service::ServiceResult;
 
-// Refuses with this number, 100 or more: the line with the flag and the errno is written.
-pub fn fail(number: u8, line: Line, out: &mut [u8]) -> Outcome
-    requires le_number { 100 ≤ number }
+// Refuses so, by a number of 100 or more: the line with the flag and the errno is written.
+pub fn fail(refusal: Refusal, line: Line, out: &mut [u8]) -> Result<usize, Refusal>
+    requires le_number { 100 ≤ refusal.0 }
     requires line_bytes_in_bounds { line_bytes ≤ length out.old }
-    ensures { answer result out.new ≡ text_refusal number line out.old }
+    ensures { answer result out.new ≡ text_refusal refusal.0 line out.old }
 {
-    let errno = number as u32 - 100;
+    let errno = refusal.0 as u32 - 100;
     let failure = TextAnswer {
         pid: line.pid,
         letter: line.letter,
@@ -29,11 +29,11 @@ pub fn fail(number: u8, line: Line, out: &mut [u8]) -> Outcome
         value: errno,
     };
     write_answer(failure, out);
-    Outcome::Refused(number)
+    Err(refusal)
 }
 
 // Answers with this value.
-fn respond(line: Line, value: u32, out: &mut [u8]) -> Outcome
+fn respond(line: Line, value: u32, out: &mut [u8]) -> Result<usize, Refusal>
     requires { line_bytes ≤ length out.old }
     ensures { answer result out.new ≡ replied (response line value) out.old }
 {
@@ -41,10 +41,9 @@ fn respond(line: Line, value: u32, out: &mut [u8]) -> Outcome
         pid: line.pid,
         letter: line.letter,
         failed: false,
-        value: value,
+        value,
     };
-    let length = write_answer(response, out);
-    Outcome::Granted(length)
+    Ok(write_answer(response, out))
 }
 
 // Answers at once, with the word or the register as it is before; what lets the process go on is answered later.
@@ -54,7 +53,7 @@ fn reply_to(
     process: Process,
     bytes: &[u8],
     out: &mut [u8],
-) -> Outcome
+) -> Result<usize, Refusal>
     requires present { Present process bytes.now }
     requires passed { Passed request line process }
     requires line_bytes_in_bounds { line_bytes ≤ length out.old }
@@ -65,8 +64,8 @@ fn reply_to(
         TextRequest::WriteWord => respond(line, read_word(line, process, bytes), out),
         TextRequest::ReadRegister => respond(line, read_register(line, process), out),
         TextRequest::WriteRegister => respond(line, read_register(line, process), out),
-        TextRequest::Continue => Outcome::Granted(0),
-        TextRequest::Step => Outcome::Granted(0),
+        TextRequest::Continue => Ok(0),
+        TextRequest::Step => Ok(0),
     }
 }
 
@@ -86,7 +85,7 @@ fn grant(
     let outcome = reply_to(request, line, process, bytes, out);
     let next = perform(request, line, process, bytes);
     ServiceResult {
-        outcome: outcome,
+        outcome,
         process: next,
     }
 }
@@ -103,12 +102,11 @@ pub fn line_for_process(
     ensures { served result.outcome result.process bytes.new out.new ≡ text_at line out.old (local process bytes.old) }
 {
     let request = request_of(line.letter);
-    let number = text_number(request, line, process);
-    if number != 0 {
-        return ServiceResult {
-            outcome: fail(number, line, out),
-            process: process,
-        };
+    match check_line(request, line, process) {
+        Ok(_) => grant(request, line, process, bytes, out),
+        Err(failed) => ServiceResult {
+            outcome: fail(failed, line, out),
+            process,
+        },
     }
-    grant(request, line, process, bytes, out)
 }

@@ -26,9 +26,7 @@ pub(crate) fn read_register(line: Line, process: Process) -> u32
     requires { line.third < 9 }
     ensures { result ≡ get_or process.vector line.third 0 }
 {
-    let vector = process.vector;
-    let n = line.third as usize;
-    vector[n] as u32
+    process.vector[line.third as usize] as u32
 }
 
 // Makes another word what is seen at this address.

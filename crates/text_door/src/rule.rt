@@ -2,12 +2,14 @@
 ghost use Rattle.std.specs.Prelude.{◌≡◌};
 ghost use Rattle.rules.specs.Rule.{public};
 ghost use Rattle.rules.specs.TextRule.{word_range, register_range, pc_range};
+ghost use Rattle.format.specs.Outcome.{unless};
 ghost use Rattle.text_door.specs.At.{request_of, row_of, text_number_at};
 
 use crate::request::TextRequest;
 use breakpoints::valid_break_address;
 use checks::{debugs, may_look};
 use fields::Line;
+use format::Refusal;
 use process::Process;
 use session::TEXT_HOST;
 
@@ -29,14 +31,13 @@ fn right(request: TextRequest, process: Process) -> bool
 fn state_fits(request: TextRequest, line: Line, process: Process) -> bool
     ensures { result ≡ (row_of request).state line process }
 {
-    let run = process.run;
     match request {
         TextRequest::ReadWord => true,
         TextRequest::WriteWord => true,
         TextRequest::ReadRegister => true,
         TextRequest::WriteRegister => line.fourth <= 65535,
-        TextRequest::Continue => run.stopped_or_at_break(),
-        TextRequest::Step => run.stopped_or_at_break(),
+        TextRequest::Continue => process.run.stopped_or_at_break(),
+        TextRequest::Step => process.run.stopped_or_at_break(),
     }
 }
 
@@ -90,27 +91,25 @@ fn range(request: TextRequest, line: Line, size: u16) -> bool
     }
 }
 
-// The number of the first test that fails, or 0.
-pub(crate) fn text_number(request: TextRequest, line: Line, process: Process) -> u8
+// The tests 103, 101, 116, 122 and 114, in this order.
+pub(crate) fn check_line(request: TextRequest, line: Line, process: Process) -> Result<(), Refusal>
     requires { request ≡ request_of line.letter }
-    ensures { result ≡ text_number_at line process }
+    ensures { result ≡ unless (text_number_at line process) tt }
 {
     if !process.there {
-        return 103;
+        return Err(Refusal::TEXT_PROCESS);
     }
     if !right(request, process) {
-        return 101;
+        return Err(Refusal::TEXT_RIGHT);
     }
-    let session = process.session;
-    let owed = session.owed;
-    if owed.owes() {
-        return 116;
+    if process.session.owed.owes() {
+        return Err(Refusal::TEXT_OWED);
     }
     if !state_fits(request, line, process) {
-        return 122;
+        return Err(Refusal::TEXT_LINE);
     }
     if !range(request, line, process.size) {
-        return 114;
+        return Err(Refusal::TEXT_RANGE);
     }
-    0
+    Ok(())
 }

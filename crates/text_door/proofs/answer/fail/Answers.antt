@@ -9,4 +9,4 @@ use Rattle.text_door.proofs.answer.fail.Goals as goal
 pub returns : goal.returns
 unfolding answer_fields failure
 returns c =
-    rw (le-ltb c.args.number 100 c.requires.le_number, ← outcome-other c.args.number 0 (λ e. omega (arith, e, c.requires.le_number)), c.write_answer.ensures.out_after)
+    rw (le-ltb c.args.refusal.0 100 c.requires.le_number, ← outcome-other c.args.refusal.0 0 (λ e. omega (arith, e, c.requires.le_number)), c.write_answer.ensures.out_after)

@@ -4,4 +4,4 @@ use Rattle.text_door.proofs.answer.respond.Goals as goal
 
 pub returns : goal.returns
 unfolding answer_fields
-returns c = rw (c.write_answer-length.ensures.value, c.write_answer-length.ensures.out_after)
+returns c = rw (c.write_answer.ensures.value, c.write_answer.ensures.out_after)

@@ -1,8 +1,8 @@
--- `text_door::rule::text_number` meets its contract: at each `return` the tests before it have passed. Assumes nothing.
+-- `text_door::rule::check_line` meets its contract: at each `return` the tests before it have passed. Assumes nothing.
 use Rattle.format.specs.Outcome.{first_failing}
 use Rattle.text_door.specs.At.{text_number_at}
 use Rattle.text_door.proofs.RowLaws.{row-of}
-use Rattle.text_door.proofs.rule.text_number.Goals as goal
+use Rattle.text_door.proofs.rule.check_line.Goals as goal
 
 pub returns-then-not-process : goal.returns-then-not-process
 unfolding text_number_at first_failing

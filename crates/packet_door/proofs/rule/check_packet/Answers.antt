@@ -1,7 +1,7 @@
--- `packet_door::rule::packet_number` meets its contract: at each `return` the tests before it have passed. Assumes nothing.
+-- `packet_door::rule::check_packet` meets its contract: at each `return` the tests before it have passed. Assumes nothing.
 use Rattle.format.specs.Outcome.{first_failing}
 use Rattle.packet_door.specs.At.{number_of}
-use Rattle.packet_door.proofs.rule.packet_number.Goals as goal
+use Rattle.packet_door.proofs.rule.check_packet.Goals as goal
 
 pub returns-then-not-process : goal.returns-then-not-process
 unfolding number_of first_failing
