@@ -20,7 +20,7 @@ use Rattle.process.specs.Find.{find}
 use Rattle.process.specs.Request.{has_break, has_room, has_room_for, may_have_more, is_his, entry_for}
 use Rattle.rules.specs.Rule.{rule_of, names}
 use Rattle.rules.specs.Tests.{rule_tests}
-use Rattle.format.specs.Outcome.{refused}
+use Rattle.format.specs.Outcome.{refusal_by}
 use Rattle.checks.specs.Decision.{Decision, decision_by, entry_of, own_decision, new_decision, break_decision, unbreak_decision, entry_decision, process_tests, decision_of}
 
 -- ---- which op codes name a process
@@ -43,7 +43,7 @@ names-known cmd found e = rw e (named_by cmd)
 -- ---- the decision of a BREAK and of an UNBREAK
 
 breaks-by : (there his room : Bool) (k j : ℕ)
-    → cond there (cond his (Ok k) (Err (refused 16))) (cond room (Ok j) (Err (refused 11)))
+    → cond there (cond his (Ok k) (Err (refusal_by 16))) (cond room (Ok j) (Err (refusal_by 11)))
     ≡ decision_by (first_failing (test 11 (not (there || room)) ∷ test 12 false ∷ test 16 (not (not there || his)) ∷ [])) (cond there k j)
 unfolding decision_by first_failing
 breaks-by true true room k j = refl
@@ -52,7 +52,7 @@ breaks-by false his true k j = refl
 breaks-by false his false k j = refl
 
 unbreaks-by : (there his : Bool) (k : ℕ)
-    → cond there (cond his (Ok k) (Err (refused 16))) (Err (refused 12))
+    → cond there (cond his (Ok k) (Err (refusal_by 16))) (Err (refusal_by 12))
     ≡ decision_by (first_failing (test 11 false ∷ test 12 (not there) ∷ test 16 (not (not there || his)) ∷ [])) k
 unfolding decision_by first_failing
 unbreaks-by true true k = refl
@@ -60,11 +60,11 @@ unbreaks-by true false k = refl
 unbreaks-by false his k = refl
 
 -- 11, where the host may set no more, room or not
-pub no_more : (host : ℕ) (p : Process) → may_have_more host p ≡ false → new_decision host p ≡ Err (refused 11)
+pub no_more : (host : ℕ) (p : Process) → may_have_more host p ≡ false → new_decision host p ≡ Err (refusal_by 11)
 unfolding new_decision
 no_more host p e = rw e (go (has_room p))
   where
-    go : (room : Bool) → cond (room && false) (Ok (find Free p)) (Err (refused 11)) ≡ Err (refused 11)
+    go : (room : Bool) → cond (room && false) (Ok (find Free p)) (Err (refusal_by 11)) ≡ Err (refusal_by 11)
     go true = refl
     go false = refl
 
@@ -83,7 +83,7 @@ module _ (h : Header) (p : Process) where
 
 -- ---- a decision by its number
 
-by_number : (F : Decision → Type 0) (n k : ℕ) → (n ≡ 0 → F (Ok k)) → ((n ≡ 0 → ⊥) → F (Err (refused n))) → F (decision_by n k)
+by_number : (F : Decision → Type 0) (n k : ℕ) → (n ≡ 0 → F (Ok k)) → ((n ≡ 0 → ⊥) → F (Err (refusal_by n))) → F (decision_by n k)
 unfolding decision_by
 by_number F zero k f g = f refl
 by_number F (suc n) k f g = g (λ e. omega (arith, e))

@@ -3,7 +3,7 @@ use Rattle.std.specs.Prelude.{Result, Ok, Err, not, cond, ◌&&◌, List, [], �
 use Rattle.ops.specs.Codes.{BREAK, UNBREAK}
 use Rattle.format.specs.declared.header.Header.{Header}
 use Rattle.format.specs.declared.outcome.Refusal.{Refusal}
-use Rattle.format.specs.Outcome.{refused, unless, Test, test, first_failing}
+use Rattle.format.specs.Outcome.{refusal_by, unless, Test, test, first_failing}
 use Rattle.process.specs.declared.record.Process.{Process}
 use Rattle.breakpoints.specs.declared.entry_query.EntryQuery.TheVariants.{Free, At}
 use Rattle.process.specs.Record.{entry}
@@ -26,11 +26,11 @@ entry_of cmd a p = cond (eqb cmd BREAK) (entry_for a p) (cond (eqb cmd UNBREAK) 
 
 -- by the test 16, of the breakpoint in this entry
 unfoldable pub own_decision : ℕ → ℕ → Process → Decision
-own_decision k host p = cond (eqb (entry p k).setter host) (Ok k) (Err (refused 16))
+own_decision k host p = cond (eqb (entry p k).setter host) (Ok k) (Err (refusal_by 16))
 
 -- by the test 11, of one that this host is to set anew
 unfoldable pub new_decision : ℕ → Process → Decision
-new_decision host p = cond (has_room p && may_have_more host p) (Ok (find Free p)) (Err (refused 11))
+new_decision host p = cond (has_room p && may_have_more host p) (Ok (find Free p)) (Err (refusal_by 11))
 
 -- of a BREAK by this host at this address, by the tests 11 and 16
 unfoldable pub break_decision : ℕ → ℕ → Process → Decision
@@ -38,7 +38,7 @@ break_decision host a p = cond (has_break a p) (own_decision (find (At a) p) hos
 
 -- of an UNBREAK, by the tests 12 and 16
 unfoldable pub unbreak_decision : ℕ → ℕ → Process → Decision
-unbreak_decision host a p = cond (has_break a p) (own_decision (find (At a) p) host p) (Err (refused 12))
+unbreak_decision host a p = cond (has_break a p) (own_decision (find (At a) p) host p) (Err (refusal_by 12))
 
 -- by the tests 11, 12 and 16
 unfoldable pub entry_decision : Header → Process → Decision

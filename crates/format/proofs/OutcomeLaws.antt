@@ -9,15 +9,15 @@ use lib.Dec.{eqb}
 use Rattle.std.proofs.Common.{Result, Ok, Err}
 use Rattle.format.specs.declared.header.Header.{Header}
 use Rattle.format.specs.declared.outcome.Refusal.{Refusal}
-use Rattle.format.specs.Outcome.{refused, unless, Outcome, outcome, number_of, length_of, is_granted, OutcomesFit, reading, reading_number, reading_fields, no_fields, Reading, ReadingsFit, Test, test, first_failing}
+use Rattle.format.specs.Outcome.{refusal_by, unless, Outcome, outcome, number_of, length_of, is_granted, OutcomesFit, reading, reading_number, reading_fields, no_fields, Reading, ReadingsFit, Test, test, first_failing}
 
 -- a refusal is made of its number again, but for one with 0
-pub unless-number : {A : Type 0} (r : Refusal) → (◌≡◌ {A = Result A Refusal} (Err r) (Err (refused 0)) → ⊥) → (a : A) → unless r.0 a ≡ Err r
+pub unless-number : {A : Type 0} (r : Refusal) → (◌≡◌ {A = Result A Refusal} (Err r) (Err (refusal_by 0)) → ⊥) → (a : A) → unless r.0 a ≡ Err r
 unless-number {A = A} r other a = go r.0 refl
   where
     go : (n : ℕ) → r.0 ≡ n → unless n a ≡ Err r
-    go zero e = absurd (other (ap (λ (k : ℕ). Err (refused k)) e))
-    go (suc n) e = ap (λ (k : ℕ). Err (refused k)) (sym e)
+    go zero e = absurd (other (ap (λ (k : ℕ). Err (refusal_by k)) e))
+    go (suc n) e = ap (λ (k : ℕ). Err (refusal_by k)) (sym e)
 
 -- what is granted has number 0
 pub unless-ok : {A : Type 0} (n : ℕ) (a b : A) → unless n a ≡ Ok b → n ≡ 0
@@ -44,14 +44,14 @@ unless-else {A = A} {B = B} n a b r e = go n (unless-err n a r e).0 (unless-err 
   where
     go : (k : ℕ) → k ≡ r.0 → (k ≡ 0 → ⊥) → ◌≡◌ {A = Result B Refusal} (Err r) (unless k b)
     go zero i z = absurd (z refl)
-    go (suc k) i z = ap (λ (j : ℕ). Err (refused j)) (sym i)
+    go (suc k) i z = ap (λ (j : ℕ). Err (refusal_by j)) (sym i)
 
 -- number 0 is the grant
 pub outcome-zero : (number length : ℕ) → number ≡ 0 → Ok length ≡ outcome number length
 outcome-zero number length e = rw e
 
 -- any other number is the refusal with it
-pub outcome-other : (number length : ℕ) → (number ≡ 0 → ⊥) → Err (refused number) ≡ outcome number length
+pub outcome-other : (number length : ℕ) → (number ≡ 0 → ⊥) → Err (refusal_by number) ≡ outcome number length
 outcome-other zero length e = absurd (e refl)
 outcome-other (suc n) length e = refl
 
@@ -80,7 +80,7 @@ is_granted-outcome zero length = refl
 is_granted-outcome (suc n) length = rw (ne_eqb (suc n) 0 (λ e. omega arith))
 
 -- every case is made of its number and its length, but for a refusal with 0, which no call answers
-pub outcome-number_of : (o : Outcome) → (o ≡ Err (refused 0) → ⊥) → outcome (number_of o) (length_of o) ≡ o
+pub outcome-number_of : (o : Outcome) → (o ≡ Err (refusal_by 0) → ⊥) → outcome (number_of o) (length_of o) ≡ o
 unfolding number_of length_of
 outcome-number_of (Ok length) other = refl
 outcome-number_of (Err refusal) other = unless-number refusal other _
@@ -102,7 +102,7 @@ granted-length (suc m) length n e = let z : ◌≡◌ {A = ℕ} 0 1 = cc in absu
 pub reading-zero : (number : ℕ) (h : Header) → number ≡ 0 → Ok h ≡ reading number h
 reading-zero number h e = rw e
 
-pub reading-other : (number : ℕ) (h : Header) → (number ≡ 0 → ⊥) → Err (refused number) ≡ reading number h
+pub reading-other : (number : ℕ) (h : Header) → (number ≡ 0 → ⊥) → Err (refusal_by number) ≡ reading number h
 reading-other zero h e = absurd (e refl)
 reading-other (suc n) h e = refl
 
@@ -119,7 +119,7 @@ reading_fields-reading zero h = refl
 reading_fields-reading (suc n) h = rw (ne_eqb (suc n) 0 (λ e. omega arith))
 
 -- every case is made of its number and its fields, but for a refusal with 0, which no reader finds
-pub reading-reading_number : (r : Reading) → (r ≡ Err (refused 0) → ⊥) → reading (reading_number r) (reading_fields r) ≡ r
+pub reading-reading_number : (r : Reading) → (r ≡ Err (refusal_by 0) → ⊥) → reading (reading_number r) (reading_fields r) ≡ r
 unfolding reading_number reading_fields
 reading-reading_number (Ok header) other = refl
 reading-reading_number (Err refusal) other = unless-number refusal other _

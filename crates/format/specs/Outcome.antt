@@ -6,13 +6,13 @@ use Rattle.format.specs.declared.outcome.Refusal.{Refusal}
 -- ---- granted or refused
 
 -- the refusal with this number
-abbrev pub refused : ℕ → Refusal
-refused n = record { 0 = n }
+abbrev pub refusal_by : ℕ → Refusal
+refusal_by n = record { 0 = n }
 
 -- what is granted where the number is 0, else the refusal with it
 abbrev pub unless : {A : Type 0} → ℕ → A → Result A Refusal
 unless zero a = Ok a
-unless (suc n) a = Err (refused (suc n))
+unless (suc n) a = Err (refusal_by (suc n))
 
 -- ---- the outcome of a call
 
@@ -44,7 +44,7 @@ pub record OutcomesFit : Type 0 where
   pub number : (n l : ℕ) → number_of (outcome n l) ≡ n
   pub length : (n l : ℕ) → length_of (outcome n l) ≡ cond (eqb n 0) l 0
   pub granted : (n l : ℕ) → is_granted (outcome n l) ≡ eqb n 0
-  pub again : (o : Outcome) → (o ≡ Err (refused 0) → ⊥) → outcome (number_of o) (length_of o) ≡ o
+  pub again : (o : Outcome) → (o ≡ Err (refusal_by 0) → ⊥) → outcome (number_of o) (length_of o) ≡ o
 
 -- ---- what a reader finds
 
@@ -74,7 +74,7 @@ reading_fields (Err refusal) = no_fields
 pub record ReadingsFit : Type 0 where
   pub number : (n : ℕ) (h : Header) → reading_number (reading n h) ≡ n
   pub fields : (n : ℕ) (h : Header) → reading_fields (reading n h) ≡ cond (eqb n 0) h no_fields
-  pub again : (r : Reading) → (r ≡ Err (refused 0) → ⊥) → reading (reading_number r) (reading_fields r) ≡ r
+  pub again : (r : Reading) → (r ≡ Err (refusal_by 0) → ⊥) → reading (reading_number r) (reading_fields r) ≡ r
 
 -- ---- the tests
 

@@ -1,4 +1,5 @@
 -- A request that was read, at the process that it goes to. Assumes nothing.
+use Rattle.std.proofs.Common.{Ok, Err}
 use mathlib.Core.Path.{◌≡◌, refl, sym, ap, ◌∙◌, subst}
 use mathlib.Core.Bool.{Bool, true, false, not, cond}
 use mathlib.Core.List.{List, [], ◌∷◌}
@@ -11,16 +12,13 @@ use Rattle.lists.specs.Every.{every}
 use Rattle.lists.proofs.Bool.{&&-left, &&-right}
 use Rattle.lists.proofs.First.{first_passes as first-is}
 use Rattle.format.specs.declared.header.Header.{Header}
-use Rattle.format.specs.declared.outcome.Reading.{Reading}
-use Rattle.format.specs.declared.outcome.Reading.TheVariants.{Message, Refused as ReadingRefused}
-use Rattle.format.specs.Outcome.{reading, Test, first_failing}
+use Rattle.format.specs.declared.outcome.Refusal.{Refusal}
+use Rattle.format.specs.Outcome.{Reading, reading, Test, first_failing}
 use Rattle.ops.specs.declared.table.Form.{Form}
 use Rattle.ops.specs.Table.{op, asks, request_form}
 use Rattle.format.specs.Layout.{header_of, string_of}
 use Rattle.message.specs.Exchange.{read_number, reads}
-use Rattle.message.specs.Incoming.{incoming, received}
-use Rattle.message.specs.declared.request.Incoming.{Incoming}
-use Rattle.message.specs.declared.request.Incoming.TheVariants.{Request, Refused as IncomingRefused}
+use Rattle.message.specs.Incoming.{Incoming, incoming, received}
 use Rattle.format.proofs.OutcomeLaws.{message-zero, message-header, first_passes}
 use Rattle.ops.specs.Codes.{CREATE}
 use Rattle.process.specs.declared.record.Process.{Process}
@@ -43,8 +41,8 @@ use Rattle.gateway.specs.Stage.{asked}
 
 -- what the gateway finds is a reading, with the form of its op code
 Found : Reading → Incoming → Type 0
-Found r (Request h form) = (r ≡ Message h) × (form ≡ asks (op h.cmd))
-Found r (IncomingRefused n) = r ≡ ReadingRefused n
+Found r (Ok request) = (r ≡ Ok request.0) × (request.1 ≡ asks (op request.0.cmd))
+Found r (Err refusal) = r ≡ Err refusal
 
 found-by : (n : ℕ) (h : Header) → Found (reading n h) (incoming n h (asks (op h.cmd)))
 unfolding Found
@@ -56,16 +54,16 @@ unfolding reads received
 found m = found-by (read_number (request_form (header_of m).cmd) m) (header_of m)
 
 -- a request that is found was read, and has the form of its op code
-pub request-found : (m : List ℕ) (h : Header) (form : Form) → Request h form ≡ received m → (reads request_form m ≡ Message h) × (form ≡ asks (op h.cmd))
+pub request-found : (m : List ℕ) (h : Header) (form : Form) → Ok (h, form) ≡ received m → (reads request_form m ≡ Ok h) × (form ≡ asks (op h.cmd))
 unfolding Found
 request-found m h form e = subst (Found (reads request_form m)) (sym e) (found m)
 
 -- and what is refused was refused when it was read
-pub refused-found : (m : List ℕ) (n : ℕ) → IncomingRefused n ≡ received m → reads request_form m ≡ ReadingRefused n
+pub refused-found : (m : List ℕ) (r : Refusal) → Err r ≡ received m → reads request_form m ≡ Err r
 unfolding Found
-refused-found m n e = subst (Found (reads request_form m)) (sym e) (found m)
+refused-found m r e = subst (Found (reads request_form m)) (sym e) (found m)
 
-module _ (m : List ℕ) (h : Header) (e : reads request_form m ≡ Message h) where
+module _ (m : List ℕ) (h : Header) (e : reads request_form m ≡ Ok h) where
   sent : Sent m
   unfolding reads read_number
   sent = layout-sent m (message-zero (read_number (request_form (header_of m).cmd) m) (header_of m) h e)

@@ -1,4 +1,5 @@
 -- The demands hold of calls on bytes, since these are a run of the rules. Assumes nothing.
+use Rattle.std.proofs.Common.{Ok, Err}
 use mathlib.Core.Path.{◌≡◌, refl, sym, ap, ◌∙◌}
 use mathlib.Core.Bool.{Bool, true, false, cond}
 use mathlib.Core.List.{List, [], ◌∷◌}
@@ -6,8 +7,7 @@ use mathlib.Core.Logic.{◌⊎◌, inl, inr}
 use Prim.Native.Nat.{ℕ, ◌<◌}
 use lib.ListN.{get_or}
 use Rattle.format.specs.Outcome.{Outcome}
-use Rattle.format.specs.declared.outcome.Outcome.TheVariants.{Granted, Refused}
-use Rattle.format.specs.Outcome.{number_of}
+use Rattle.format.specs.Outcome.{refusal_by, number_of}
 use Rattle.format.proofs.OutcomeLaws.{number_of-outcome, outcome-other}
 use Rattle.rules.specs.Tests.{State, no_room, no_report_room, no_line_room, no_ack_room}
 use Rattle.rules.specs.Window.{Buffers}
@@ -39,7 +39,7 @@ use Rattle.state_bytes.specs.State.{state_formed, state_sound}
 use Rattle.gateway.specs.Called.{Called, report_called, finished, badly_lent, lent_on, refused_by, call_on, machine_stored, why_on, why_called, Did}
 use Rattle.gateway.specs.Sequence.{Begins, Made, read_from}
 use Rattle.gateway.specs.Demands.{TotalOnBytes, SameNumber, TellsRight, ListsOnBytes, Demands}
-use Rattle.gateway.proofs.LentLaws.{request-unfit, report-unfit, line-unfit, packet-unfit, tick-unfit}
+use Rattle.gateway.proofs.LentLaws.{failed-by, request-unfit, report-unfit, line-unfit, packet-unfit, tick-unfit}
 use Rattle.state_bytes.proofs.StartLaws.{eight-starts}
 use Rattle.state_bytes.proofs.StateLaws.{eight-at}
 use Rattle.gateway.proofs.ReadyLaws.{read-eight}
@@ -73,8 +73,8 @@ module _ (state memory : List ℕ) (c : Call) where
   stays n = go (step s c).answer.outcome n (total.granted s c)
     where
       go : (o : Outcome) → (number_of o ≡ 0 → ⊥) → (number_of o ≡ 0 → is_granted o ≡ true) → is_granted o ≡ false
-      go (Granted k) z g = absurd (z refl)
-      go (Refused k) z g = refl
+      go (Ok k) z g = absurd (z refl)
+      go (Err r) z g = refl
 
   formed : Answered state memory (numbers_of c) (finished state (step s c))
   unfolding finished
@@ -122,7 +122,7 @@ answered state memory (packet door kind id words buffer) x d = call-answered sta
 answered state memory (tick door) x d = tick-answered state memory door x d.1
 answered state memory (query m) x d = query-answered state memory m x d
 
-refused-by : (state memory : List ℕ) (b : Buffers) (n : ℕ) → (n ≡ 0 → ⊥) → report_called (Refused n) 0 state memory b.own b.line ≡ refused_by n state memory b
+refused-by : (state memory : List ℕ) (b : Buffers) (n : ℕ) → (n ≡ 0 → ⊥) → report_called (Err (refusal_by n)) 0 state memory b.own b.line ≡ refused_by n state memory b
 refused-by state memory b n z = ap (λ (o : Outcome). report_called o 0 state memory b.own b.line) (outcome-other n 0 z)
 
 -- what is lent to a tick is never too short
@@ -149,19 +149,19 @@ total-on-bytes = record {
   refused = λ state memory c x d. (answered state memory c x d).refused;
   unfit-request = λ state memory m buffer x d n.
       let k = lent_on state (no_room memory buffer) in
-      d ∙ sym (request-unfit state memory m buffer k refl n) ∙ refused-by state memory (single buffer) k n;
+      d ∙ sym (request-unfit state memory m buffer (refusal_by k) (failed-by k n)) ∙ refused-by state memory (single buffer) k n;
   unfit-report = λ state memory p kind reason words buffer line x d n.
       let k = lent_on state (no_report_room memory buffer line) in
-      d ∙ sym (report-unfit state memory p kind reason words buffer line k refl n) ∙ refused-by state memory (both buffer line) k n;
+      d ∙ sym (report-unfit state memory p kind reason words buffer line (refusal_by k) (failed-by k n)) ∙ refused-by state memory (both buffer line) k n;
   unfit-line = λ state memory text buffer x d n.
       let k = lent_on state (no_line_room memory buffer) in
-      d ∙ sym (line-unfit state memory text buffer k refl n) ∙ refused-by state memory (single buffer) k n;
+      d ∙ sym (line-unfit state memory text buffer (refusal_by k) (failed-by k n)) ∙ refused-by state memory (single buffer) k n;
   unfit-packet = λ state memory door kind id words buffer x d n.
       let k = lent_on state (no_ack_room memory buffer) in
-      d.1 ∙ sym (packet-unfit state memory door kind id words buffer k refl n) ∙ refused-by state memory (single buffer) k n;
+      d.1 ∙ sym (packet-unfit state memory door kind id words buffer (refusal_by k) (failed-by k n)) ∙ refused-by state memory (single buffer) k n;
   unfit-tick = λ state memory door x d n.
       let k = lent_on state false in
-      d.1 ∙ sym (tick-unfit state memory door k refl n) ∙ refused-by state memory (single []) k n
+      d.1 ∙ sym (tick-unfit state memory door (refusal_by k) (failed-by k n)) ∙ refused-by state memory (single []) k n
       ∙ ap (λ (number : ℕ). refused_by number state memory (single [])) (tick-number state n);
   unfit-query = λ state memory m x d n. d ∙ ap (λ (r : Reason). why_called r state memory) (why-unsound state m (unsound-by state n));
 }

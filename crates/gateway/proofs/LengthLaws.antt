@@ -1,4 +1,5 @@
 -- The lengths of an outcome count what a call wrote. Assumes nothing.
+use Rattle.std.proofs.Common.{Ok, Err}
 use mathlib.Core.Path.{◌≡◌, refl, sym, ap, ◌∙◌}
 use mathlib.Core.Bool.{Bool, true, false, not, cond, true≢false}
 use mathlib.Core.List.{List, []}
@@ -12,8 +13,7 @@ use Rattle.lists.specs.Word.{low_first}
 use Rattle.lists.proofs.Buffer.{take-overlay, drop-overlay}
 use Rattle.format.specs.declared.header.Header.{Header}
 use Rattle.format.specs.Outcome.{Outcome}
-use Rattle.format.specs.declared.outcome.Outcome.TheVariants.{Granted, Refused}
-use Rattle.format.specs.Outcome.{outcome, first_failing, number_of, length_of, is_granted}
+use Rattle.format.specs.Outcome.{refusal_by, outcome, first_failing, number_of, length_of, is_granted}
 use Rattle.format.specs.Layout.{written, header_of, string_of}
 use Rattle.format.specs.Answer.{cant_of, created_of, notice_of}
 use Rattle.format.proofs.LayoutLaws.{length-written}
@@ -37,7 +37,7 @@ use Rattle.gateway.proofs.NewlineLaws.{after-written}
 -- ---- after what was written
 
 -- no call is refused with 0
-never-zero : (s : State) (c : Call) → (step s c).answer.outcome ≡ Refused 0 → ⊥
+never-zero : (s : State) (c : Call) → (step s c).answer.outcome ≡ Err (refusal_by 0) → ⊥
 unfolding number_of is_granted
 never-zero s c e = true≢false (sym (total.granted s c (ap number_of e)) ∙ ap is_granted e)
 
@@ -51,17 +51,23 @@ module _ (s : State) (m buffer : List ℕ) where
 
   request-behind : (o : Outcome) → (request_step m buffer s).answer.outcome ≡ o → drop (reply_length o) (request_step m buffer s).answer.buffer ≡ drop (reply_length o) buffer
   unfolding reply_length number_of length_of step
-  request-behind (Granted n) e = total.request-past s m buffer n e
-  request-behind (Refused zero) e = absurd (never-zero s (request m buffer) e)
-  request-behind (Refused (suc n)) e = rw (total.request-silent s m buffer n e) (refusal-behind (ltb (suc n) 7))
+  request-behind (Ok n) e = total.request-past s m buffer n e
+  request-behind (Err r) e = go r.0 refl
+    where
+      go : (n : ℕ) → r.0 ≡ n → drop (reply_length (Err r)) (request_step m buffer s).answer.buffer ≡ drop (reply_length (Err r)) buffer
+      go zero i = absurd (never-zero s (request m buffer) (e ∙ ap (λ (k : ℕ). Err (refusal_by k)) i))
+      go (suc n) i = rw (total.request-silent s m buffer n (e ∙ ap (λ (k : ℕ). Err (refusal_by k)) i), i) (refusal-behind (ltb (suc n) 7))
 
 module _ (s : State) (p kind reason : ℕ) (words buffer line : List ℕ) where
   report-behind : (o : Outcome) → (report_step p kind reason words buffer line s).answer.outcome ≡ o
       → drop (notice_length o) (report_step p kind reason words buffer line s).answer.buffer ≡ drop (notice_length o) buffer
   unfolding notice_length length_of step
-  report-behind (Granted n) e = total.report-past s p kind reason words buffer line n e
-  report-behind (Refused zero) e = absurd (never-zero s (report p kind reason words buffer line) e)
-  report-behind (Refused (suc n)) e = rw (total.report-silent s p kind reason words buffer line n e)
+  report-behind (Ok n) e = total.report-past s p kind reason words buffer line n e
+  report-behind (Err r) e = go r.0 refl
+    where
+      go : (n : ℕ) → r.0 ≡ n → drop (notice_length (Err r)) (report_step p kind reason words buffer line s).answer.buffer ≡ drop (notice_length (Err r)) buffer
+      go zero i = absurd (never-zero s (report p kind reason words buffer line) (e ∙ ap (λ (k : ℕ). Err (refusal_by k)) i))
+      go (suc n) i = rw (total.report-silent s p kind reason words buffer line n (e ∙ ap (λ (k : ℕ). Err (refusal_by k)) i))
 
   report-line-behind : drop (report_step p kind reason words buffer line s).answer.line_length (report_step p kind reason words buffer line s).answer.line
       ≡ drop (report_step p kind reason words buffer line s).answer.line_length line

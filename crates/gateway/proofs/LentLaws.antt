@@ -1,18 +1,19 @@
 -- The tests 1 and 2 on the bytes of a state, and what they say of its record. Assumes nothing.
+use Rattle.std.proofs.Common.{Result, Err}
 use mathlib.Core.Path.{◌≡◌, refl, sym, ap, ◌∙◌}
 use mathlib.Core.Bool.{Bool, true, false, not, cond}
 use mathlib.Core.List.{List, []}
-use Prim.Native.Nat.{ℕ, ◌≤◌}
+use Prim.Native.Nat.{ℕ, zero, suc, ◌≤◌}
 use native.Mathlib.Omega.{arith}
 use borrow.Author.Tests.{eqb-true, ltb-false, not-false}
 use lib.ListN.{length}
 use lib.Dec.{eqb, ltb}
 use Rattle.lists.proofs.Bool.{||-left, ||-right}
 use Rattle.format.specs.Outcome.{Outcome}
-use Rattle.format.specs.declared.outcome.Outcome.TheVariants.{Refused}
-use Rattle.format.specs.Outcome.{first_failing}
+use Rattle.format.specs.declared.outcome.Refusal.{Refusal}
+use Rattle.format.specs.Outcome.{refusal_by, unless, first_failing}
 use Rattle.format.specs.Sizes.{message_bytes}
-use Rattle.format.proofs.OutcomeLaws.{outcome-other}
+use Rattle.format.proofs.OutcomeLaws.{outcome-other, unless-err}
 use Rattle.fields.specs.Written.{line_bytes}
 use Rattle.packets.specs.Ack.{ack_words}
 use Rattle.state.specs.Layout.{capacity}
@@ -33,6 +34,14 @@ use Rattle.gateway.proofs.ReportLaws.{report-lent}
 use Rattle.gateway.proofs.TextLaws.{line-lent}
 use Rattle.gateway.proofs.PacketLaws.{packet-lent}
 use Rattle.gateway.proofs.TickLaws.{tick-lent}
+
+-- tests with this number refuse so
+abbrev pub Failed : ℕ → Refusal → Type 0
+Failed n r = ◌≡◌ {A = Result Unit Refusal} (unless n tt) (Err r)
+
+pub failed-by : (n : ℕ) → (n ≡ 0 → ⊥) → Failed n (refusal_by n)
+failed-by zero z = absurd (z refl)
+failed-by (suc n) z = refl
 
 -- ---- what is lent, where the tests 1 and 2 pass
 
@@ -113,7 +122,7 @@ ack-fits state memory buffer e =
 
 -- a refused step leaves the bytes
 pub finished-refused : (state memory : List ℕ) (b : Buffers) (n : ℕ)
-    → finished state (silent n b (lent (state_of state) memory)) ≡ report_called (Refused n) 0 state memory b.own b.line
+    → finished state (silent n b (lent (state_of state) memory)) ≡ report_called (Err (refusal_by n)) 0 state memory b.own b.line
 unfolding finished is_granted
 finished-refused state memory b n = refl
 
@@ -122,41 +131,50 @@ module _ (state memory : List ℕ) where
   s = lent (state_of state) memory
 
   -- a call that the tests 1 and 2 refuse
-  unfit : (c : Call) (n : ℕ) → n ≡ lent_on state (badly_lent memory c) → (n ≡ 0 → ⊥)
-      → (n ≡ lent_number s (badly_lent memory c) → step s c ≡ silent n (buffers_of c) s)
-      → report_called (Refused n) 0 state memory (buffers_of c).own (buffers_of c).line ≡ call_on state memory c
+  unfit : (c : Call) (r : Refusal) → Failed (lent_on state (badly_lent memory c)) r
+      → ((n : ℕ) → n ≡ lent_number s (badly_lent memory c) → (n ≡ 0 → ⊥) → step s c ≡ silent n (buffers_of c) s)
+      → report_called (Err r) 0 state memory (buffers_of c).own (buffers_of c).line ≡ call_on state memory c
   unfolding call_on
-  unfit c n e z steps = go (state_formed state) refl
+  unfit c r failed steps = go (state_formed state) refl
     where
-      go : (t : Bool) → state_formed state ≡ t → report_called (Refused n) 0 state memory (buffers_of c).own (buffers_of c).line ≡ call_on state memory c
-      go true f = rw (f, steps (e ∙ lent-number state (badly_lent memory c) memory f)) (sym (finished-refused state memory (buffers_of c) n))
+      n : ℕ
+      n = r.0
+
+      e : n ≡ lent_on state (badly_lent memory c)
+      e = sym (unless-err _ _ _ failed).0
+
+      z : n ≡ 0 → ⊥
+      z i = (unless-err _ _ _ failed).1 (sym e ∙ i)
+
+      go : (t : Bool) → state_formed state ≡ t → report_called (Err r) 0 state memory (buffers_of c).own (buffers_of c).line ≡ call_on state memory c
+      go true f = rw (f, steps n (e ∙ lent-number state (badly_lent memory c) memory f) z) (sym (finished-refused state memory (buffers_of c) n))
       go false f = rw (f, ← e) (ap (λ (o : Outcome). report_called o 0 state memory (buffers_of c).own (buffers_of c).line) (outcome-other n 0 z))
 
-  pub request-unfit : (m buffer : List ℕ) (n : ℕ) → n ≡ lent_on state (no_room memory buffer) → (n ≡ 0 → ⊥)
-      → called (Refused n) state memory buffer ≡ call_on state memory (request m buffer)
+  pub request-unfit : (m buffer : List ℕ) (r : Refusal) → Failed (lent_on state (no_room memory buffer)) r
+      → called (Err r) state memory buffer ≡ call_on state memory (request m buffer)
   unfolding badly_lent buffers_of step
-  request-unfit m buffer n e z = unfit (request m buffer) n e z (λ i. request-lent s m buffer n i z)
+  request-unfit m buffer r failed = unfit (request m buffer) r failed (λ n i z. request-lent s m buffer n i z)
 
-  pub report-unfit : (p kind reason : ℕ) (words buffer line : List ℕ) (n : ℕ) → n ≡ lent_on state (no_report_room memory buffer line) → (n ≡ 0 → ⊥)
-      → report_called (Refused n) 0 state memory buffer line ≡ call_on state memory (report p kind reason words buffer line)
+  pub report-unfit : (p kind reason : ℕ) (words buffer line : List ℕ) (r : Refusal) → Failed (lent_on state (no_report_room memory buffer line)) r
+      → report_called (Err r) 0 state memory buffer line ≡ call_on state memory (report p kind reason words buffer line)
   unfolding badly_lent buffers_of step
-  report-unfit p kind reason words buffer line n e z =
-      unfit (report p kind reason words buffer line) n e z (λ i. report-lent s p kind reason words buffer line n i z)
+  report-unfit p kind reason words buffer line r failed =
+      unfit (report p kind reason words buffer line) r failed (λ n i z. report-lent s p kind reason words buffer line n i z)
 
-  pub line-unfit : (text buffer : List ℕ) (n : ℕ) → n ≡ lent_on state (no_line_room memory buffer) → (n ≡ 0 → ⊥)
-      → called (Refused n) state memory buffer ≡ call_on state memory (text_line text buffer)
+  pub line-unfit : (text buffer : List ℕ) (r : Refusal) → Failed (lent_on state (no_line_room memory buffer)) r
+      → called (Err r) state memory buffer ≡ call_on state memory (text_line text buffer)
   unfolding badly_lent buffers_of step
-  line-unfit text buffer n e z = unfit (text_line text buffer) n e z (λ i. line-lent s text buffer n i z)
+  line-unfit text buffer r failed = unfit (text_line text buffer) r failed (λ n i z. line-lent s text buffer n i z)
 
-  pub packet-unfit : (door kind id : ℕ) (words buffer : List ℕ) (n : ℕ) → n ≡ lent_on state (no_ack_room memory buffer) → (n ≡ 0 → ⊥)
-      → called (Refused n) state memory buffer ≡ call_on state memory (packet door kind id words buffer)
+  pub packet-unfit : (door kind id : ℕ) (words buffer : List ℕ) (r : Refusal) → Failed (lent_on state (no_ack_room memory buffer)) r
+      → called (Err r) state memory buffer ≡ call_on state memory (packet door kind id words buffer)
   unfolding badly_lent buffers_of step
-  packet-unfit door kind id words buffer n e z =
-      unfit (packet door kind id words buffer) n e z (λ i. packet-lent s door kind id words buffer n i z)
+  packet-unfit door kind id words buffer r failed =
+      unfit (packet door kind id words buffer) r failed (λ n i z. packet-lent s door kind id words buffer n i z)
 
-  pub tick-unfit : (door n : ℕ) → n ≡ lent_on state false → (n ≡ 0 → ⊥) → called (Refused n) state memory [] ≡ call_on state memory (tick door)
+  pub tick-unfit : (door : ℕ) (r : Refusal) → Failed (lent_on state false) r → called (Err r) state memory [] ≡ call_on state memory (tick door)
   unfolding badly_lent buffers_of step
-  tick-unfit door n e z = unfit (tick door) n e z (λ i. tick-lent s door n i z)
+  tick-unfit door r failed = unfit (tick door) r failed (λ n i z. tick-lent s door n i z)
 
   -- a call that they let pass
   pub call-fit : state_formed state ≡ true → (c : Call) → call_on state memory c ≡ finished state (step (lent (state_of state) memory) c)

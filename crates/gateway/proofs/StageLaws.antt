@@ -1,4 +1,5 @@
 -- A request stage by stage: refused by what is lent, by its layout, or asked of the state. Assumes nothing.
+use Rattle.std.proofs.Common.{Ok, Err}
 use mathlib.Core.Path.{◌≡◌, refl, sym, ◌∙◌, subst}
 use mathlib.Core.Bool.{Bool, true, false, cond}
 use mathlib.Core.List.{List}
@@ -8,15 +9,11 @@ use borrow.Author.Tests.{ne_eqb}
 use lib.ListN.{length}
 use lib.Dec.{ltb}
 use Rattle.format.specs.declared.header.Header.{Header}
-use Rattle.format.specs.declared.outcome.Reading.{Reading}
-use Rattle.format.specs.declared.outcome.Reading.TheVariants.{Message}
-use Rattle.format.specs.Outcome.{first_failing, reading}
+use Rattle.format.specs.Outcome.{Reading, refusal_by, first_failing, reading}
 use Rattle.ops.specs.Table.{request_form}
 use Rattle.format.specs.Layout.{header_of, string_of, fixed_right}
 use Rattle.format.specs.Refusal.{wrong_length, wrong_header, unknown, malformed}
 use Rattle.message.specs.Exchange.{read_number, reads}
-use Rattle.format.specs.declared.outcome.Outcome.TheVariants.{Refused as OutcomeRefused}
-use Rattle.format.specs.declared.outcome.Reading.TheVariants.{Refused as ReadingRefused}
 use Rattle.format.proofs.OutcomeLaws.{outcome-other, message-header}
 use Rattle.rules.specs.Tests.{State, no_room, unsound, asked_tests, request_number}
 use Rattle.rules.specs.Window.{Buffers}
@@ -27,7 +24,7 @@ use Rattle.gateway.specs.Stage.{lent_number, asked}
 
 -- refused with this number, and nothing is written
 abbrev pub silent : ℕ → Buffers → State → StepResult
-silent n b s = record { answer = record { outcome = OutcomeRefused n; buffer = b.own; line_length = 0; line = b.line }; after = s }
+silent n b s = record { answer = record { outcome = Err (refusal_by n); buffer = b.own; line_length = 0; line = b.line }; after = s }
 
 -- ---- the number
 
@@ -77,8 +74,8 @@ module _ (s : State) (m buffer : List ℕ) where
 
   -- what a reading says of its number
   unfoldable pub Read : Reading → Type 0
-  Read (Message h) = layout ≡ 0
-  Read (ReadingRefused n) = (n ≡ layout) × (n ≡ 0 → ⊥)
+  Read (Ok h) = layout ≡ 0
+  Read (Err r) = (r.0 ≡ layout) × (r.0 ≡ 0 → ⊥)
 
   reading-says : (k : ℕ) → k ≡ layout → Read (reading k (header_of m))
   unfolding Read
@@ -89,19 +86,19 @@ module _ (s : State) (m buffer : List ℕ) where
   unfolding reads layout
   read-says r e = subst Read (sym e) (reading-says (read_number (request_form (header_of m).cmd) m) refl)
 
-  pub request-read : (n : ℕ) → lent_number s (no_room s.memory buffer) ≡ 0 → ReadingRefused n ≡ reads request_form m → request_step m buffer s ≡ silent n (single buffer) s
+  pub request-read : (n : ℕ) → lent_number s (no_room s.memory buffer) ≡ 0 → Err (refusal_by n) ≡ reads request_form m → request_step m buffer s ≡ silent n (single buffer) s
   unfolding Read layout read_number first_failing
   request-read n z e =
-      let r = read-says (ReadingRefused n) e in
+      let r = read-says (Err (refusal_by n)) e in
       refused-by n (number-stages ∙ rw (z, ← r.0, ne_eqb n 0 r.1)) r.1
       (rw r.0 (low-layout (wrong_length (length m)) (wrong_header (fixed_right m) (header_of m).host)
       (unknown (request_form (header_of m).cmd)) (malformed (request_form (header_of m).cmd) (header_of m) (length m))))
 
   -- ---- a request that was read
 
-  pub request-asked : (h : Header) → lent_number s (no_room s.memory buffer) ≡ 0 → Message h ≡ reads request_form m → request_step m buffer s ≡ asked h (string_of m) buffer s
+  pub request-asked : (h : Header) → lent_number s (no_room s.memory buffer) ≡ 0 → Ok h ≡ reads request_form m → request_step m buffer s ≡ asked h (string_of m) buffer s
   unfolding request_step asked Read layout reads
   request-asked h z e =
-      let r = read-says (Message h) e in
+      let r = read-says (Ok h) e in
       let number : request_number s m buffer ≡ first_failing (asked_tests (header_of m) s) = number-stages ∙ rw (z, r) in
       rw (number, message-header (read_number (request_form (header_of m).cmd) m) (header_of m) h (sym e))

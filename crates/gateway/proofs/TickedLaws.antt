@@ -1,11 +1,11 @@
 -- What a tick does to the bytes of a sound state: nothing where the Pup door is at no process, else it puts the process back a tick later. Assumes nothing.
+use Rattle.std.proofs.Common.{Ok}
 use mathlib.Core.Path.{◌≡◌, refl, sym, ◌∙◌}
 use mathlib.Core.Bool.{true, false}
 use mathlib.Core.List.{List, []}
 use Prim.Native.Nat.{ℕ, ◌≤◌, ◌<◌}
 use Rattle.lists.specs.Buffer.{Bytes}
 use Rattle.lists.proofs.Bool.{&&-right}
-use Rattle.format.specs.declared.outcome.Outcome.TheVariants.{Granted}
 use Rattle.format.specs.Outcome.{outcome, is_granted}
 use Rattle.process.specs.Packet.{go_of, ticked}
 use Rattle.process.proofs.KeptLaws.{same-there}
@@ -40,14 +40,14 @@ module _ (state : List ℕ) (bytes : Bytes state) (zero : lent_on state false �
   formed : state_formed state ≡ true
   formed = sound-formed state (passed state false zero).1
 
-  pub tick-idle : 8 ≤ door_of state → called (Granted 0) state memory [] ≡ call_on state memory (tick (door_of state))
+  pub tick-idle : 8 ≤ door_of state → called (Ok 0) state memory [] ≡ call_on state memory (tick (door_of state))
   unfolding step
   tick-idle h =
       finished-unmoved state memory bytes formed _ _ refl _ (tick-nowhere s door (lent-passes state false memory zero) h)
       ∙ sym (call-fit state memory formed (tick door))
 
   pub tick-acts : door_of state < 8
-      → called (Granted 0) (with_process_bytes (door_of state) (ticked (process_at (state_of state) (door_of state))) state) memory [] ≡ call_on state memory (tick (door_of state))
+      → called (Ok 0) (with_process_bytes (door_of state) (ticked (process_at (state_of state) (door_of state))) state) memory [] ≡ call_on state memory (tick (door_of state))
   unfolding step is_granted
   tick-acts h =
       rw (with_slot-slot (start_of (state_of state) door) (extent_at (state_of state) door) memory) at

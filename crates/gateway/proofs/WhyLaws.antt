@@ -1,4 +1,5 @@
 -- Why a request is refused, stage by stage: by the state, by its layout, or by what is asked of the state. Assumes nothing.
+use Rattle.std.proofs.Common.{Ok, Err}
 use mathlib.Core.Path.{◌≡◌, refl, sym, ◌∙◌}
 use mathlib.Core.Bool.{Bool, true, false, cond}
 use mathlib.Core.List.{List, []}
@@ -6,8 +7,7 @@ use Prim.Native.Nat.{ℕ}
 use borrow.Author.Tests.{ne_eqb, le-ltb}
 use lib.ListN.{length}
 use Rattle.format.specs.declared.header.Header.{Header}
-use Rattle.format.specs.declared.outcome.Reading.TheVariants.{Message, Refused as ReadingRefused}
-use Rattle.format.specs.Outcome.{first_failing}
+use Rattle.format.specs.Outcome.{refusal_by, first_failing}
 use Rattle.ops.specs.Table.{request_form}
 use Rattle.format.specs.Layout.{header_of, fixed_right}
 use Rattle.format.specs.Refusal.{wrong_length, wrong_header, unknown, malformed}
@@ -80,21 +80,21 @@ module _ (state m : List ℕ) where
         ∙ rw passes
 
     -- a message that is refused when it is read
-    pub why-refused : (n : ℕ) → ReadingRefused n ≡ reads request_form m → why_on state m ≡ reason_without_process n (length m)
+    pub why-refused : (n : ℕ) → Err (refusal_by n) ≡ reads request_form m → why_on state m ≡ reason_without_process n (length m)
     unfolding why_of Read layout read_number first_failing
     why-refused n e =
-        let r = read-says s m [] (ReadingRefused n) e in
+        let r = read-says s m [] (Err (refusal_by n)) e in
         let number : why_number s m ≡ n = number_is ∙ rw (← r.0, ne_eqb n 0 r.1) in
         formed ∙ rw number
         (away-by (wrong_length (length m)) (wrong_header (fixed_right m) (header_of m).host) (unknown (request_form (header_of m).cmd))
         (malformed (request_form (header_of m).cmd) (header_of m) (length m)) n (header_of m) (length m) (record_of s (header_of m).pid) r.0 r.1)
 
     -- a message that was read
-    module _ (h : Header) (e : Message h ≡ reads request_form m) where
+    module _ (h : Header) (e : Ok h ≡ reads request_form m) where
       asked : why_on state m ≡ reason_for (first_failing (asked_tests h s)) h (length m) (record_of s h.pid)
       unfolding why_of Read layout reads
       asked =
-          let r = read-says s m [] (Message h) e in
+          let r = read-says s m [] (Ok h) e in
           let number : why_number s m ≡ first_failing (asked_tests (header_of m) s) = number_is ∙ rw r in
           formed ∙ rw (number, message-header (read_number (request_form (header_of m).cmd) m) (header_of m) h (sym e))
 

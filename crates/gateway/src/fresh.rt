@@ -4,7 +4,7 @@ ghost use Rattle.process.specs.Sizes.{valid_size};
 ghost use Rattle.state.specs.Fresh.{needed, each_right, sizes_right};
 ghost use Rattle.gateway.specs.Called.{started, start_on};
 
-use format::Outcome;
+use format::Refusal;
 use process::valid_size;
 use state::{CAPACITY, size_of};
 use state_bytes::{STATE_BYTES, put_fresh_start};
@@ -20,12 +20,10 @@ fn size_right(there: bool, size: u16) -> bool
 fn each_right(there: [bool; 8], sizes: [u16; 8]) -> bool
     ensures { result ≡ each_right there sizes }
 {
-    let mut p = 0;
-    while p < 8 {
+    for p in 0..8 {
         if !size_right(there[p], size_of(sizes, p)) {
             return false;
         }
-        p += 1;
     }
     true
 }
@@ -42,10 +40,8 @@ fn needed(there: [bool; 8], sizes: [u16; 8]) -> usize
     ensures { result ≡ needed there sizes }
 {
     let mut sum = 0;
-    let mut p = 0;
-    while p < 8 {
+    for p in 0..8 {
         sum += size_needed(there[p], size_of(sizes, p));
-        p += 1;
     }
     sum
 }
@@ -54,24 +50,26 @@ fn needed(there: [bool; 8], sizes: [u16; 8]) -> usize
 pub fn sizes_right(there: [bool; 8], sizes: [u16; 8]) -> bool
     ensures { result ≡ sizes_right there sizes }
 {
-    if !each_right(there, sizes) {
-        return false;
-    }
-    needed(there, sizes) <= CAPACITY
+    each_right(there, sizes) && needed(there, sizes) <= CAPACITY
 }
 
 // Writes the state in which the given processes are there, each with its size, one after the other in memory; a buffer that is not of a
 // state's length is refused with 1, a bad size of a process then there, or more than the memory holds, with 2. The Pup door is at this process, or at
 // none where the number is over 7.
-pub fn fresh_start(there: [bool; 8], sizes: [u16; 8], door: u8, state: &mut [u8]) -> Outcome
+pub fn fresh_start(
+    there: [bool; 8],
+    sizes: [u16; 8],
+    door: u8,
+    state: &mut [u8],
+) -> Result<usize, Refusal>
     ensures { started result state.new ≡ start_on there sizes door state.old }
 {
     if state.len() != STATE_BYTES {
-        return Outcome::Refused(1);
+        return Err(Refusal::LENT);
     }
     if !sizes_right(there, sizes) {
-        return Outcome::Refused(2);
+        return Err(Refusal::STATE);
     }
     put_fresh_start(there, sizes, door, state);
-    Outcome::Granted(0)
+    Ok(0)
 }

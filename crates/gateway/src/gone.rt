@@ -8,7 +8,7 @@ ghost use Rattle.rules.specs.Window.{taken_out};
 ghost use Rattle.rules.specs.Isolation.{is_granted};
 ghost use Rattle.state_bytes.specs.State.{state_bytes, state_of, door_of, state_sound};
 
-use format::Outcome;
+use format::Refusal;
 use process::Process;
 use state::close;
 use state_bytes::{put_process_at, put_starts_without, used_bytes};
@@ -37,7 +37,7 @@ fn take_out(
 
 // Takes process pid out, if the call was granted.
 pub(crate) fn remove(
-    outcome: Outcome,
+    outcome: Result<usize, Refusal>,
     process: Process,
     pid: usize,
     start: usize,
@@ -51,8 +51,7 @@ pub(crate) fn remove(
     ensures state_after { state.new ≡ cond (is_granted outcome) (state_bytes (door_of state.old) (taken_out pid (local «process» []) (lent (state_of state.old) memory.old)).records) state.old }
     ensures memory_after { memory.new ≡ cond (is_granted outcome) (taken_out pid (local «process» []) (lent (state_of state.old) memory.old)).memory memory.old }
 {
-    match outcome {
-        Outcome::Granted(_) => take_out(process, pid, start, count, state, memory),
-        Outcome::Refused(_) => {}
+    if let Ok(_) = outcome {
+        take_out(process, pid, start, count, state, memory);
     }
 }

@@ -4,18 +4,17 @@ ghost use Rattle.rules.specs.Isolation.{is_granted};
 ghost use Rattle.state_bytes.specs.Widths.{state_width};
 ghost use Rattle.state_bytes.specs.State.{with_process_bytes};
 
-use format::Outcome;
+use format::Refusal;
 use process::Process;
 use state_bytes::put_process_at;
 
 // Puts the record of process pid into its bytes, if the call was granted.
-pub(crate) fn keep(outcome: Outcome, process: Process, pid: usize, state: &mut [u8])
+pub(crate) fn keep(outcome: Result<usize, Refusal>, process: Process, pid: usize, state: &mut [u8])
     requires pid_bound { pid < 8 }
     requires state_len { length state.old ≡ state_width }
     ensures { state.new ≡ cond (is_granted outcome) (with_process_bytes pid «process» state.old) state.old }
 {
-    match outcome {
-        Outcome::Granted(_) => put_process_at(process, pid, state),
-        Outcome::Refused(_) => {}
+    if let Ok(_) = outcome {
+        put_process_at(process, pid, state);
     }
 }

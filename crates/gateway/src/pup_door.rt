@@ -13,7 +13,7 @@ ghost use Rattle.gateway.specs.Called.{called, lent_on, finished, Did};
 use crate::kept::keep;
 use crate::lent::{check_ack_buffer_and_state, check_state_alone};
 use crate::part::start_of;
-use format::Outcome;
+use format::Refusal;
 use packet_door::packet_for_process;
 use packets::{is_known, too_few};
 use state_bytes::{put_process_at, read_door, read_process_at};
@@ -27,7 +27,7 @@ fn packet_known(
     state: &mut [u8],
     memory: &mut [u8],
     out: &mut [u16],
-) -> Outcome
+) -> Result<usize, Refusal>
     requires pid_bound { (pid < 8) × (too_few kind words.now ≡ false) }
     requires out_value { lent_on state.old (no_ack_room memory.old out.old) ≡ 0 }
     ensures { called result state.new memory.new out.new ≡ finished state.old (packet_step_at pid kind id words.now out.old (lent (state_of state.old) memory.old)) }
@@ -51,22 +51,19 @@ pub fn packet(
     id: u32,
     words: &[u16],
     out: &mut [u16],
-) -> Outcome
+) -> Result<usize, Refusal>
     ensures { Did state.old memory.old (packet (door_of state.old) kind id words.now out.old) (called result state.new memory.new out.new) }
 {
-    let number = check_ack_buffer_and_state(state, memory, out);
-    if number != 0 {
-        return Outcome::Refused(number);
-    }
+    check_ack_buffer_and_state(state, memory, out)?;
     if too_few(kind, words) {
-        return Outcome::Refused(3);
+        return Err(Refusal::LENGTH);
     }
     if !is_known(kind) {
-        return Outcome::Refused(5);
+        return Err(Refusal::CODE);
     }
     let door = read_door(state) as usize;
     if 8 <= door {
-        return Outcome::Refused(7);
+        return Err(Refusal::PROCESS);
     }
     packet_known(door, kind, id, words, state, memory, out)
 }
@@ -82,16 +79,13 @@ fn tick_at(pid: usize, state: &mut [u8])
 }
 
 // A tick: outcome and state are those of the rules, whatever the memory holds, which a tick does not look at.
-pub fn tick(state: &mut [u8]) -> Outcome
+pub fn tick(state: &mut [u8]) -> Result<usize, Refusal>
     ensures { (memory : List ℕ) → Did state.old memory (tick (door_of state.old)) (called result state.new memory []) }
 {
-    let number = check_state_alone(state);
-    if number != 0 {
-        return Outcome::Refused(number);
-    }
+    check_state_alone(state)?;
     let door = read_door(state) as usize;
     if door < 8 {
         tick_at(door, state);
     }
-    Outcome::Granted(0)
+    Ok(0)
 }

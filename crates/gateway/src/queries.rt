@@ -9,7 +9,7 @@ ghost use Rattle.gateway.specs.Called.{why_on};
 
 use crate::requests::no_place;
 use format::Header;
-use message::{Incoming, read_request};
+use message::read_request;
 use ops::Form;
 use reasons::Reason;
 use service::{Target, size_asked, target_of};
@@ -43,8 +43,7 @@ fn why_read(h: Header, form: Form, state: &[u8], message: &[u8]) -> Reason
     requires state_value { state_sound state.now ≡ true }
     ensures { result ≡ why_on state.now message.now }
 {
-    let target = target_of(form, h);
-    match target {
+    match target_of(form, h) {
         Target::Named(pid) => why_for_process(h, message.len(), read_process_at(state, pid)),
         Target::OutOfRange => Reason::Other(7),
         Target::New => why_new(h, state),
@@ -59,9 +58,8 @@ pub fn why(state: &[u8], message: &[u8]) -> Reason
     if !state_sound(state) {
         return Reason::Other(2);
     }
-    let incoming = read_request(message);
-    match incoming {
-        Incoming::Request(h, form) => why_read(h, form, state, message),
-        Incoming::Refused(n) => reason_without_process(n, message.len()),
+    match read_request(message) {
+        Ok((h, form)) => why_read(h, form, state, message),
+        Err(refusal) => reason_without_process(refusal.0, message.len()),
     }
 }

@@ -1,6 +1,5 @@
 // A machine report, with the buffer for its notice and the one for the line that it may answer.
 ghost use Rattle.std.specs.Prelude.{◌≡◌};
-ghost use Rattle.format.specs.declared.outcome.Outcome.TheVariants.{Refused};
 ghost use Rattle.rules.specs.Tests.{lent, no_report_room};
 ghost use Rattle.rules.specs.Step.{report, report_step};
 ghost use Rattle.service.specs.At.{report_away};
@@ -10,24 +9,24 @@ ghost use Rattle.gateway.specs.Called.{report_called, lent_on, finished, Did};
 use crate::kept::keep;
 use crate::lent::check_report_buffers_and_state;
 use crate::part::start_of;
-use format::Outcome;
+use format::Refusal;
 use service::{check_report, report_for_process};
 use state_bytes::read_process_at;
 
 // What a report returns: its outcome, with the length of the notice, and the length of the line that it answers beside it.
 #[derive(Clone, Copy)]
 pub struct Told {
-    pub outcome: Outcome,
+    pub outcome: Result<usize, Refusal>,
     pub line: usize,
 }
 
 impl Told {
-    // Refused with this number; nothing is written.
-    fn refused(number: u8) -> Told
-        ensures { (result.outcome ≡ Refused number) × (result.line ≡ 0) }
+    // Refused so; nothing is written.
+    fn refused(refusal: Refusal) -> Told
+        ensures { (result.outcome ≡ Err refusal) × (result.line ≡ 0) }
     {
         Told {
-            outcome: Outcome::Refused(number),
+            outcome: Err(refusal),
             line: 0,
         }
     }
@@ -66,7 +65,7 @@ fn report_known(
     let next = served.process;
     keep(outcome, next, index, state);
     Told {
-        outcome: outcome,
+        outcome,
         line: served.line,
     }
 }
@@ -84,12 +83,10 @@ pub fn report(
 ) -> Told
     ensures { Did state.old memory.old (report pid kind reason words notice.old line.old) (report_called result.outcome result.line state.new memory.new notice.new line.new) }
 {
-    let number = check_report_buffers_and_state(state, memory, notice, line);
-    if number != 0 {
-        return Told::refused(number);
+    if let Err(refusal) = check_report_buffers_and_state(state, memory, notice, line) {
+        return Told::refused(refusal);
     }
-    let bad = check_report(pid, kind, reason);
-    if bad != 0 {
+    if let Err(bad) = check_report(pid, kind, reason) {
         return Told::refused(bad);
     }
     report_known(state, memory, pid, kind, reason, words, notice, line)

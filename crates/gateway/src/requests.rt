@@ -16,8 +16,8 @@ use crate::gone::remove;
 use crate::kept::keep;
 use crate::lent::check_buffers_and_state;
 use crate::part::start_of;
-use format::{Header, Outcome, string};
-use message::{Incoming, read_request};
+use format::{Header, Refusal, string};
+use message::read_request;
 use ops::{DESTROY, Form};
 use service::{
     Target, answer_create, answer_for_process, changes, refuse, reply_plain, size_asked, target_of,
@@ -33,7 +33,7 @@ fn answer_named(
     memory: &mut [u8],
     string: &[u8],
     reply: &mut [u8],
-) -> Outcome
+) -> Result<usize, Refusal>
     requires cmd_value { (names h.cmd ≡ true) × (pid ≡ h.pid) × (pid < 8) }
     requires reply_value { lent_on state.old (no_room memory.old reply.old) ≡ 0 }
     requires string_len_bound { length string.now ≤ h.arg2 }
@@ -61,10 +61,7 @@ pub(crate) fn no_place(pid: usize, start: usize, size: u16) -> bool
     requires { start ≤ capacity }
     ensures { result ≡ not (ltb pid 8) || ltb (capacity - start) size }
 {
-    if 8 <= pid {
-        return true;
-    }
-    CAPACITY - start < size as usize
+    8 <= pid || CAPACITY - start < size as usize
 }
 
 // CREATE of process pid, which has this size and the free bytes from start on.
@@ -76,7 +73,7 @@ fn create_last(
     state: &mut [u8],
     memory: &mut [u8],
     reply: &mut [u8],
-) -> Outcome
+) -> Result<usize, Refusal>
     requires cmd_value { (names h.cmd ≡ false) × (creates h.cmd ≡ true) }
     requires reply_value { lent_on state.old (no_room memory.old reply.old) ≡ 0 }
     requires pid_value { (pid ≡ lowest_absent (state_of state.old)) × (size ≡ size_asked h) × (start ≡ used (state_of state.old)) }
@@ -94,7 +91,12 @@ fn create_last(
 }
 
 // CREATE: the lowest absent process comes, after the last one, or it is refused with 13. A CREATE carries no string.
-fn answer_new(h: Header, state: &mut [u8], memory: &mut [u8], reply: &mut [u8]) -> Outcome
+fn answer_new(
+    h: Header,
+    state: &mut [u8],
+    memory: &mut [u8],
+    reply: &mut [u8],
+) -> Result<usize, Refusal>
     requires cmd_value { (names h.cmd ≡ false) × (creates h.cmd ≡ true) × (size_asked h ≤ memory_bytes) }
     requires reply_value { lent_on state.old (no_room memory.old reply.old) ≡ 0 }
     ensures { (string : List ℕ) → called result state.new memory.new reply.new ≡ finished state.old (asked h string reply.old (lent (state_of state.old) memory.old)) }
@@ -103,7 +105,7 @@ fn answer_new(h: Header, state: &mut [u8], memory: &mut [u8], reply: &mut [u8]) 
     let start = used_bytes(state);
     let size = size_asked(h);
     if no_place(pid, start, size) {
-        return refuse(h, 13, reply);
+        return refuse(h, Refusal::PLACE, reply);
     }
     create_last(h, pid, size, start, state, memory, reply)
 }
@@ -116,31 +118,29 @@ fn answer(
     memory: &mut [u8],
     message: &[u8],
     reply: &mut [u8],
-) -> Outcome
+) -> Result<usize, Refusal>
     requires form_value { incoming 0 h form ≡ received message.now }
     requires reply_value { lent_on state.old (no_room memory.old reply.old) ≡ 0 }
     ensures { called result state.new memory.new reply.new ≡ finished state.old (asked h (string_of message.now) reply.old (lent (state_of state.old) memory.old)) }
 {
-    let target = target_of(form, h);
-    match target {
+    match target_of(form, h) {
         Target::Named(pid) => answer_named(h, pid, state, memory, string(message), reply),
-        Target::OutOfRange => refuse(h, 7, reply),
+        Target::OutOfRange => refuse(h, Refusal::PROCESS, reply),
         Target::New => answer_new(h, state, memory, reply),
         Target::Nowhere => reply_plain(h, reply),
     }
 }
 
 // Answers any bytes: outcome, state, memory and reply buffer are those of the rules.
-pub fn request(state: &mut [u8], memory: &mut [u8], message: &[u8], reply: &mut [u8]) -> Outcome
+pub fn request(
+    state: &mut [u8],
+    memory: &mut [u8],
+    message: &[u8],
+    reply: &mut [u8],
+) -> Result<usize, Refusal>
     ensures { Did state.old memory.old (request message.now reply.old) (called result state.new memory.new reply.new) }
 {
-    let number = check_buffers_and_state(state, memory, reply);
-    if number != 0 {
-        return Outcome::Refused(number);
-    }
-    let incoming = read_request(message);
-    match incoming {
-        Incoming::Request(h, form) => answer(h, form, state, memory, message, reply),
-        Incoming::Refused(n) => Outcome::Refused(n),
-    }
+    check_buffers_and_state(state, memory, reply)?;
+    let (h, form) = read_request(message)?;
+    answer(h, form, state, memory, message, reply)
 }

@@ -10,12 +10,17 @@ use crate::kept::keep;
 use crate::lent::check_line_buffer_and_state;
 use crate::part::start_of;
 use fields::{Line, read_line};
-use format::Outcome;
+use format::Refusal;
 use state_bytes::read_process_at;
 use text_door::{fail, line_for_process};
 
 // A line that can be read, to a process with a number under 8.
-fn line_known(line: Line, state: &mut [u8], memory: &mut [u8], out: &mut [u8]) -> Outcome
+fn line_known(
+    line: Line,
+    state: &mut [u8],
+    memory: &mut [u8],
+    out: &mut [u8],
+) -> Result<usize, Refusal>
     requires pid_bound { line.pid < 8 }
     requires out_value { lent_on state.old (no_line_room memory.old out.old) ≡ 0 }
     ensures { called result state.new memory.new out.new ≡ finished state.old (line_step line out.old (lent (state_of state.old) memory.old)) }
@@ -32,22 +37,24 @@ fn line_known(line: Line, state: &mut [u8], memory: &mut [u8], out: &mut [u8]) -
 }
 
 // Answers any bytes as a text line: outcome, state, memory and line buffer are those of the rules.
-pub fn text_line(state: &mut [u8], memory: &mut [u8], text: &[u8], out: &mut [u8]) -> Outcome
+pub fn text_line(
+    state: &mut [u8],
+    memory: &mut [u8],
+    text: &[u8],
+    out: &mut [u8],
+) -> Result<usize, Refusal>
     ensures { Did state.old memory.old (text_line text.now out.old) (called result state.new memory.new out.new) }
 {
-    let number = check_line_buffer_and_state(state, memory, out);
-    if number != 0 {
-        return Outcome::Refused(number);
-    }
+    check_line_buffer_and_state(state, memory, out)?;
     let line = read_line(text);
     if !line.headed {
-        return Outcome::Refused(6);
+        return Err(Refusal::FORM);
     }
     if !line.whole {
-        return fail(122, line, out);
+        return fail(Refusal::TEXT_LINE, line, out);
     }
     if 8 <= line.pid {
-        return fail(103, line, out);
+        return fail(Refusal::TEXT_PROCESS, line, out);
     }
     line_known(line, state, memory, out)
 }

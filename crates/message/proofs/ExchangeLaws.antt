@@ -10,7 +10,7 @@ use Rattle.format.specs.declared.header.Header.{Header}
 use Rattle.std.proofs.Common.{Option, Ok, Err}
 use Rattle.ops.specs.declared.table.Form.{Form}
 use Rattle.message.specs.Exchange.{Forms, write_number, answered, read_number, reads}
-use Rattle.format.specs.Outcome.{refused, first_failing}
+use Rattle.format.specs.Outcome.{refusal_by, first_failing}
 use Rattle.format.specs.Refusal.{wrong_length}
 use Rattle.format.proofs.OutcomeLaws.{outcome-zero, outcome-other, first_passes, rest-passes}
 use Rattle.format.proofs.TestLaws.{zero-passed, sized-between}
@@ -32,7 +32,7 @@ write_number-room found h carried buffer e =
 
 module _ (number carried : ℕ) (bytes buffer : List ℕ) where
   -- a refusal writes nothing
-  pub answered-refused : (number ≡ 0 → ⊥) → (Err (refused number) ≡ (answered number carried bytes buffer).outcome) × (buffer ≡ (answered number carried bytes buffer).buffer)
+  pub answered-refused : (number ≡ 0 → ⊥) → (Err (refusal_by number) ≡ (answered number carried bytes buffer).outcome) × (buffer ≡ (answered number carried bytes buffer).buffer)
   unfolding answered
   answered-refused e = (outcome-other number (10 + carried) e, rw (ne_eqb number 0 e))
 
@@ -42,6 +42,6 @@ module _ (number carried : ℕ) (bytes buffer : List ℕ) where
   answered-granted e = (outcome-zero number (10 + carried) e, rw (eq-eqb number 0 e))
 
 -- under ten bytes there is no message
-pub reads_short : (forms : Forms) (m : List ℕ) → length m < 10 → Err (refused 3) ≡ reads forms m
+pub reads_short : (forms : Forms) (m : List ℕ) → length m < 10 → Err (refusal_by 3) ≡ reads forms m
 unfolding reads read_number first_failing wrong_length
 reads_short forms m h = rw (lt-ltb (length m) 10 h)

@@ -9,7 +9,7 @@ use lib.ListN.{length}
 use lib.Dec.{ltb, eqb}
 use Rattle.format.specs.declared.header.Header.{Header}
 use Rattle.format.specs.Layout.{header_of, fixed_right}
-use Rattle.format.specs.Outcome.{refused, no_fields, first_failing}
+use Rattle.format.specs.Outcome.{refusal_by, no_fields, first_failing}
 use Rattle.format.proofs.OutcomeLaws.{unless-number}
 use Rattle.format.specs.Refusal.{wrong_length}
 use Rattle.format.proofs.TestLaws.{zero-passed}
@@ -53,7 +53,7 @@ unfolding incoming_form
 incoming-form zero h f = refl
 incoming-form (suc n) h f = rw (ne_eqb (suc n) 0 (λ e. omega arith))
 
-incoming-again : (i : Incoming) → (i ≡ Err (refused 0) → ⊥) → incoming (incoming_number i) (incoming_fields i) (incoming_form i) ≡ i
+incoming-again : (i : Incoming) → (i ≡ Err (refusal_by 0) → ⊥) → incoming (incoming_number i) (incoming_fields i) (incoming_form i) ≡ i
 unfolding incoming_number incoming_fields incoming_form
 incoming-again (Ok request) other = refl
 incoming-again (Err refusal) other = unless-number refusal other _
@@ -62,18 +62,18 @@ pub incoming-fits : IncomingFits
 incoming-fits = record { number = incoming-number; fields = incoming-fields; form = incoming-form; again = incoming-again }
 
 -- any number but 0 is the refusal with it
-incoming-other : (n : ℕ) (h : Header) (f : Form) → (n ≡ 0 → ⊥) → Err (refused n) ≡ incoming n h f
+incoming-other : (n : ℕ) (h : Header) (f : Form) → (n ≡ 0 → ⊥) → Err (refusal_by n) ≡ incoming n h f
 incoming-other zero h f z = absurd (z refl)
 incoming-other (suc n) h f z = refl
 
 -- ---- what is received
 
 module _ (m : List ℕ) where
-  pub incoming-short : length m < 10 → Err (refused 3) ≡ received m
+  pub incoming-short : length m < 10 → Err (refusal_by 3) ≡ received m
   unfolding received read_number first_failing wrong_length
   incoming-short h = rw (lt-ltb (length m) 10 h)
 
-  pub incoming-refused : (n : ℕ) → n ≡ read_number (request_form (header_of m).cmd) m → (n ≡ 0 → ⊥) → Err (refused n) ≡ received m
+  pub incoming-refused : (n : ℕ) → n ≡ read_number (request_form (header_of m).cmd) m → (n ≡ 0 → ⊥) → Err (refusal_by n) ≡ received m
   unfolding received
   incoming-refused n e z = rw (← e) (incoming-other n (header_of m) (asks (op (header_of m).cmd)) z)
 

@@ -3,7 +3,7 @@ use Rattle.std.specs.Prelude.{Result, Ok, Err, ◌≡◌, cond, List, ℕ, eqb}
 use Rattle.format.specs.declared.header.Header.{Header}
 use Rattle.format.specs.Layout.{header_of}
 use Rattle.format.specs.declared.outcome.Refusal.{Refusal}
-use Rattle.format.specs.Outcome.{no_fields, refused, unless}
+use Rattle.format.specs.Outcome.{no_fields, refusal_by, unless}
 use Rattle.ops.specs.declared.table.Form.{Form}
 use Rattle.ops.specs.Table.{op, asks, bare, request_form}
 use Rattle.message.specs.Exchange.{read_number}
@@ -36,7 +36,7 @@ pub record IncomingFits : Type 0 where
   pub number : (n : ℕ) (h : Header) (f : Form) → incoming_number (incoming n h f) ≡ n
   pub fields : (n : ℕ) (h : Header) (f : Form) → incoming_fields (incoming n h f) ≡ cond (eqb n 0) h no_fields
   pub form : (n : ℕ) (h : Header) (f : Form) → incoming_form (incoming n h f) ≡ cond (eqb n 0) f bare
-  pub again : (i : Incoming) → (i ≡ Err (refused 0) → ⊥) → incoming (incoming_number i) (incoming_fields i) (incoming_form i) ≡ i
+  pub again : (i : Incoming) → (i ≡ Err (refusal_by 0) → ⊥) → incoming (incoming_number i) (incoming_fields i) (incoming_form i) ≡ i
 
 -- any bytes: by the tests 3 to 6, a request with the form of its op code
 unfoldable pub received : List ℕ → Incoming

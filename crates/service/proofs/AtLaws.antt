@@ -11,7 +11,7 @@ use lib.Dec.{eqb, ltb}
 use Rattle.ops.specs.Codes.{DEBUG, END-DEBUG, DESTROY, WATCH, END-WATCH}
 use Rattle.format.specs.declared.header.Header.{Header}
 use Rattle.std.proofs.Common.{Err}
-use Rattle.format.specs.Outcome.{refused}
+use Rattle.format.specs.Outcome.{refusal_by}
 use Rattle.format.specs.Outcome.{first_failing, is_granted}
 use Rattle.format.proofs.OutcomeLaws.{first_passes}
 use Rattle.process.specs.Local.{Local, local}
@@ -136,7 +136,7 @@ named-refused zero z h string buffer l = absurd (z refl)
 named-refused (suc n) z h string buffer l = refl
 
 pub report-refused : (n : ℕ) → (n ≡ 0 → ⊥) → (p kind reason : ℕ) (words buffer line : List ℕ) (l : Local)
-    → report_by n p kind reason words buffer line l ≡ leaving (beside [] line (answer (Err (refused n)) buffer)) l
+    → report_by n p kind reason words buffer line l ≡ leaving (beside [] line (answer (Err (refusal_by n)) buffer)) l
 unfolding report_by
 report-refused zero z p kind reason words buffer line l = absurd (z refl)
 report-refused (suc n) z p kind reason words buffer line l = refl

@@ -1,7 +1,7 @@
 -- `gateway::fresh::needed` meets its contract. The loop's invariant: the sum is that of the processes passed, each at most 65,535. Assumes nothing.
 use mathlib.Core.Path.{◌≡◌}
 use mathlib.Core.Bool.{Bool, false, cond}
-use Prim.Native.Nat.{ℕ, ◌-◌, ◌*◌, ◌≤◌}
+use Prim.Native.Nat.{ℕ, ◌*◌, ◌≤◌}
 use mathlib.Core.List.{List}
 use lib.ListN.{length, get_or}
 use Rattle.lists.specs.Sum.{total}
@@ -13,6 +13,3 @@ bytes_of there sizes p = cond (get_or there p false) (get_or sizes p 0) 0
 
 abbrev pub invariant-loop-p : goal.invariant-loop-p
 invariant-loop-p l = (l.p ≤ 8) × (length l.there ≡ 8) × (l.sum ≡ total (bytes_of l.there l.sizes) l.p) × (l.sum ≤ 65535 * l.p)
-
-abbrev pub decreases-loop-p : goal.decreases-loop-p
-decreases-loop-p l = 8 - l.p

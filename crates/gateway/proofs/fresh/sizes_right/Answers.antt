@@ -1,11 +1,12 @@
 -- `gateway::fresh::sizes_right` meets its contract: each size is tested, and then their sum. Assumes nothing.
+use Rattle.std.proofs.Common.{rules}
 use Rattle.state.specs.Fresh.{sizes_right}
 use Rattle.gateway.proofs.fresh.sizes_right.Goals as goal
 
-pub returns-then-not-each_right : goal.returns-then-not-each_right
+pub returns-then-each_right : goal.returns-then-each_right
 unfolding sizes_right
-returns-then-not-each_right c = let e = c.each_right in rw (← e.ensures, c.if-not-each_right.true)
+returns-then-each_right c = search rules
 
-pub returns : goal.returns
+pub returns-else-each_right : goal.returns-else-each_right
 unfolding sizes_right
-returns c = let e = c.each_right in rw (← e.ensures, c.if-not-each_right.false, ← c.needed.ensures)
+returns-else-each_right c = search rules

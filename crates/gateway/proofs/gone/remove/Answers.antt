@@ -7,17 +7,17 @@ use Rattle.gateway.proofs.gone.remove.Goals as goal
 pub take_out-requires : goal.take_out-requires
 unfolding is_granted
 take_out-requires c =
-    let granted : is_granted c.args.outcome ≡ true = rw c.in-Granted.is refl in
+    let granted : is_granted c.args.outcome ≡ true = rw c.in-Ok.is refl in
     record {
       pid_bound = (c.requires.pid_value.1, c.requires.pid_value.0 granted);
       start_value = (c.requires.start_value.0 granted, c.requires.start_value.1);
       state_value = c.requires.state_value;
     }
 
-pub returns-in-Granted : goal.returns-in-Granted
+pub returns-in-Ok : goal.returns-in-Ok
 unfolding is_granted
-returns-in-Granted c = rw c.in-Granted.is c.take_out.ensures
+returns-in-Ok c = rw c.in-Ok.is c.take_out.ensures
 
-pub returns-in-Refused : goal.returns-in-Refused
+pub returns-in_default : goal.returns-in_default
 unfolding is_granted
-returns-in-Refused c = rw c.in-Refused.is record { state_after = refl; memory_after = refl }
+returns-in_default c = rw c.in_default.is record { state_after = refl; memory_after = refl }

@@ -3,10 +3,10 @@ use mathlib.Core.Path.{refl}
 use Rattle.rules.specs.Isolation.{is_granted}
 use Rattle.gateway.proofs.kept.keep.Goals as goal
 
-pub returns-in-Granted : goal.returns-in-Granted
+pub returns-in-Ok : goal.returns-in-Ok
 unfolding is_granted
-returns-in-Granted c = rw c.in-Granted.is c.put_process_at.ensures
+returns-in-Ok c = rw c.in-Ok.is c.put_process_at.ensures
 
-pub returns-in-Refused : goal.returns-in-Refused
+pub returns-in_default : goal.returns-in_default
 unfolding is_granted
-returns-in-Refused c = rw c.in-Refused.is refl
+returns-in_default c = rw c.in_default.is refl

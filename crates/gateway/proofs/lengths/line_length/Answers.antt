@@ -8,20 +8,20 @@ use Rattle.format.specs.Outcome.{number_of, length_of}
 use Rattle.gateway.specs.Lengths.{after_newline, line_length}
 use Rattle.gateway.proofs.lengths.line_length.Goals as goal
 
-pub returns-in-Granted : goal.returns-in-Granted
+pub returns-in-Ok : goal.returns-in-Ok
 unfolding line_length number_of length_of
-returns-in-Granted c = sym (ap (λ (o : Outcome). line_length o c.args.buffer.now) c.in-Granted.is)
+returns-in-Ok c = sym (ap (λ (o : Outcome). line_length o c.args.buffer.now) c.in-Ok.is)
 
-pub returns-then-n-lt100 : goal.returns-then-n-lt100
+pub returns-then-refusal-lt100 : goal.returns-then-refusal-lt100
 unfolding line_length number_of length_of
-returns-then-n-lt100 c =
+returns-then-refusal-lt100 c =
     let b = c.args.buffer.now in
-    let low = lt-ltb c.in-Refused.n 100 (omega arith) in
-    sym (ap (λ (o : Outcome). line_length o b) c.in-Refused.is ∙ ap (λ (t : Bool). cond t 0 (after_newline b)) low)
+    let low = lt-ltb c.in-Err.refusal.0 100 (omega arith) in
+    sym (ap (λ (o : Outcome). line_length o b) c.in-Err.is ∙ ap (λ (t : Bool). cond t 0 (after_newline b)) low)
 
-pub returns-else-n-lt100 : goal.returns-else-n-lt100
+pub returns-else-refusal-lt100 : goal.returns-else-refusal-lt100
 unfolding line_length number_of length_of
-returns-else-n-lt100 c =
+returns-else-refusal-lt100 c =
     let b = c.args.buffer.now in
-    let high = le-ltb c.in-Refused.n 100 (omega arith) in
-    c.after_newline.ensures ∙ sym (ap (λ (o : Outcome). line_length o b) c.in-Refused.is ∙ ap (λ (t : Bool). cond t 0 (after_newline b)) high)
+    let high = le-ltb c.in-Err.refusal.0 100 (omega arith) in
+    c.after_newline.ensures ∙ sym (ap (λ (o : Outcome). line_length o b) c.in-Err.is ∙ ap (λ (t : Bool). cond t 0 (after_newline b)) high)

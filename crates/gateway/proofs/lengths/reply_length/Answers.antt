@@ -7,18 +7,18 @@ use Rattle.format.specs.Outcome.{number_of, length_of}
 use Rattle.gateway.specs.Lengths.{reply_length}
 use Rattle.gateway.proofs.lengths.reply_length.Goals as goal
 
-pub returns-in-Granted : goal.returns-in-Granted
+pub returns-in-Ok : goal.returns-in-Ok
 unfolding reply_length number_of length_of
-returns-in-Granted c = sym (ap reply_length c.in-Granted.is)
+returns-in-Ok c = sym (ap reply_length c.in-Ok.is)
 
-pub returns-then-n-lt7 : goal.returns-then-n-lt7
+pub returns-then-refusal-lt7 : goal.returns-then-refusal-lt7
 unfolding reply_length number_of length_of
-returns-then-n-lt7 c =
-    let low = lt-ltb c.in-Refused.n 7 (omega arith) in
-    sym (ap reply_length c.in-Refused.is ∙ ap (λ (t : Bool). cond t 0 10) low)
+returns-then-refusal-lt7 c =
+    let low = lt-ltb c.in-Err.refusal.0 7 (omega arith) in
+    sym (ap reply_length c.in-Err.is ∙ ap (λ (t : Bool). cond t 0 10) low)
 
-pub returns-else-n-lt7 : goal.returns-else-n-lt7
+pub returns-else-refusal-lt7 : goal.returns-else-refusal-lt7
 unfolding reply_length number_of length_of
-returns-else-n-lt7 c =
-    let high = le-ltb c.in-Refused.n 7 (omega arith) in
-    sym (ap reply_length c.in-Refused.is ∙ ap (λ (t : Bool). cond t 0 10) high)
+returns-else-refusal-lt7 c =
+    let high = le-ltb c.in-Err.refusal.0 7 (omega arith) in
+    sym (ap reply_length c.in-Err.is ∙ ap (λ (t : Bool). cond t 0 10) high)

@@ -10,18 +10,24 @@ use Rattle.rules.specs.Turn.{single}
 use Rattle.state_bytes.specs.State.{state_of, door_of}
 use Rattle.gateway.specs.Called.{Did}
 use Rattle.gateway.proofs.PacketLaws.{packet-few, packet-unknown, packet-beyond, packet-known}
+use Rattle.std.proofs.Common.{rules, Err}
+use Rattle.format.proofs.OutcomeLaws.{unless-ok}
 use Rattle.gateway.proofs.LentLaws.{lent-passes, finished-refused, ack-fits, packet-unfit, call-fit}
 use Rattle.gateway.proofs.pup_door.packet.Goals as goal
 
-pub returns-then-number-ne0 : goal.returns-then-number-ne0
+pub returns-in_err-check_ack_buffer_and_state : goal.returns-in_err-check_ack_buffer_and_state
 unfolding Did
-returns-then-number-ne0 c =
-    (refl, packet-unfit c.args.state.now c.args.memory.now (door_of c.args.state.now) c.args.kind c.args.id c.args.words.now c.args.out.now _ c.check_ack_buffer_and_state-number.ensures c.if-number-ne0.true)
+returns-in_err-check_ack_buffer_and_state c =
+    let failed = sym c.check_ack_buffer_and_state.ensures ∙ c.in_err-check_ack_buffer_and_state.was in
+    let given = c.from_residual.ensures in
+    let same : c.from_residual.result ≡ Err c.in_err-check_ack_buffer_and_state.field-0.0 = search rules in
+    rw same
+    ((refl, packet-unfit c.args.state.now c.args.memory.now (door_of c.args.state.now) c.args.kind c.args.id c.args.words.now c.args.out.now _ failed))
 
 pub returns-then-too_few : goal.returns-then-too_few
 unfolding Did step
 returns-then-too_few c =
-    let zero = sym c.check_ack_buffer_and_state-number.ensures ∙ c.if-number-ne0.false in
+    let zero = unless-ok _ _ _ (sym c.check_ack_buffer_and_state.ensures ∙ c.in_ok-check_ack_buffer_and_state.was) in
     let st = lent (state_of c.args.state.now) c.args.memory.now in
     let fit = ack-fits c.args.state.now c.args.memory.now c.args.out.now zero in
     let passes = lent-passes c.args.state.now (no_ack_room c.args.memory.now c.args.out.now) c.args.memory.now zero in
@@ -34,7 +40,7 @@ returns-then-too_few c =
 pub returns-then-not-is_known : goal.returns-then-not-is_known
 unfolding Did step
 returns-then-not-is_known c =
-    let zero = sym c.check_ack_buffer_and_state-number.ensures ∙ c.if-number-ne0.false in
+    let zero = unless-ok _ _ _ (sym c.check_ack_buffer_and_state.ensures ∙ c.in_ok-check_ack_buffer_and_state.was) in
     let st = lent (state_of c.args.state.now) c.args.memory.now in
     let fit = ack-fits c.args.state.now c.args.memory.now c.args.out.now zero in
     let passes = lent-passes c.args.state.now (no_ack_room c.args.memory.now c.args.out.now) c.args.memory.now zero in
@@ -47,13 +53,13 @@ returns-then-not-is_known c =
 
 pub read_door-door-requires : goal.read_door-door-requires
 read_door-door-requires c =
-    let zero = sym c.check_ack_buffer_and_state-number.ensures ∙ c.if-number-ne0.false in
+    let zero = unless-ok _ _ _ (sym c.check_ack_buffer_and_state.ensures ∙ c.in_ok-check_ack_buffer_and_state.was) in
     omega (arith, (ack-fits c.args.state.now c.args.memory.now c.args.out.now zero).long)
 
 pub returns-then-door-ge8 : goal.returns-then-door-ge8
 unfolding Did step
 returns-then-door-ge8 c =
-    let zero = sym c.check_ack_buffer_and_state-number.ensures ∙ c.if-number-ne0.false in
+    let zero = unless-ok _ _ _ (sym c.check_ack_buffer_and_state.ensures ∙ c.in_ok-check_ack_buffer_and_state.was) in
     let st = lent (state_of c.args.state.now) c.args.memory.now in
     let fit = ack-fits c.args.state.now c.args.memory.now c.args.out.now zero in
     let passes = lent-passes c.args.state.now (no_ack_room c.args.memory.now c.args.out.now) c.args.memory.now zero in
@@ -70,13 +76,13 @@ packet_known-requires c =
     let enough = sym c.too_few.ensures ∙ c.if-too_few.false in
     record {
       pid_bound = (omega arith, enough);
-      out_value = sym c.check_ack_buffer_and_state-number.ensures ∙ c.if-number-ne0.false;
+      out_value = unless-ok _ _ _ (sym c.check_ack_buffer_and_state.ensures ∙ c.in_ok-check_ack_buffer_and_state.was);
     }
 
 pub returns : goal.returns
 unfolding Did step
 returns c =
-    let zero = sym c.check_ack_buffer_and_state-number.ensures ∙ c.if-number-ne0.false in
+    let zero = unless-ok _ _ _ (sym c.check_ack_buffer_and_state.ensures ∙ c.in_ok-check_ack_buffer_and_state.was) in
     let st = lent (state_of c.args.state.now) c.args.memory.now in
     let fit = ack-fits c.args.state.now c.args.memory.now c.args.out.now zero in
     let passes = lent-passes c.args.state.now (no_ack_room c.args.memory.now c.args.out.now) c.args.memory.now zero in

@@ -11,12 +11,12 @@ returns-then-not-state_sound c =
 pub why_read-requires : goal.why_read-requires
 why_read-requires c =
     record {
-      form_value = sym c.in-Request.is ∙ c.read_request-incoming.ensures;
+      form_value = sym c.in-Ok.is ∙ c.read_request.ensures;
       state_value = sym c.state_sound.ensures ∙ c.if-not-state_sound.false;
     }
 
-pub returns-in-Refused : goal.returns-in-Refused
-returns-in-Refused c =
+pub returns-in-Err : goal.returns-in-Err
+returns-in-Err c =
     let sound = sym c.state_sound.ensures ∙ c.if-not-state_sound.false in
-    let read = refused-found c.args.message.now _ (sym c.in-Refused.is ∙ c.read_request-incoming.ensures) in
+    let read = refused-found c.args.message.now _ (sym c.in-Err.is ∙ c.read_request.ensures) in
     c.reason_without_process.ensures ∙ sym (why-refused c.args.state.now c.args.message.now sound _ (sym read))

@@ -14,7 +14,7 @@ use Rattle.gateway.proofs.requests.answer.Goals as goal
 pub answer_named-requires : goal.answer_named-requires
 answer_named-requires c =
     let read = request-found c.args.message.now c.args.h c.args.form c.requires.form_value in
-    let goes = target-says c.args.h c.args.form (Named _) read.1 (sym c.in-Named.is ∙ c.target_of-target.ensures) in
+    let goes = target-says c.args.h c.args.form (Named _) read.1 (sym c.in-Named.is ∙ c.target_of.ensures) in
     let short = carried-short c.args.message.now c.args.h read.0 in
     record {
       cmd_value = goes;
@@ -32,7 +32,7 @@ refuse-requires c =
 pub answer_new-requires : goal.answer_new-requires
 answer_new-requires c =
     let read = request-found c.args.message.now c.args.h c.args.form c.requires.form_value in
-    let goes = target-says c.args.h c.args.form New read.1 (sym c.in-New.is ∙ c.target_of-target.ensures) in
+    let goes = target-says c.args.h c.args.form New read.1 (sym c.in-New.is ∙ c.target_of.ensures) in
     record {
       cmd_value = (goes.0, goes.1, create-short c.args.message.now c.args.h read.0 goes.1);
       reply_value = c.requires.reply_value;
@@ -49,7 +49,7 @@ pub returns-in-OutOfRange : goal.returns-in-OutOfRange
 returns-in-OutOfRange c =
     let st = lent (state_of c.args.state.now) c.args.memory.now in
     let read = request-found c.args.message.now c.args.h c.args.form c.requires.form_value in
-    let goes = target-says c.args.h c.args.form OutOfRange read.1 (sym c.in-OutOfRange.is ∙ c.target_of-target.ensures) in
+    let goes = target-says c.args.h c.args.form OutOfRange read.1 (sym c.in-OutOfRange.is ∙ c.target_of.ensures) in
     let bytes : Bytes c.args.state.now = λ i. omega (arith, c.slice_known-1.given i) in
     let formed = (request-fits c.args.state.now c.args.memory.now c.args.reply.now c.requires.reply_value).formed in
     finished-unmoved c.args.state.now c.args.memory.now bytes formed _ _ c.refuse.ensures _ (asked-beyond c.args.h (string_of c.args.message.now) c.args.reply.now st goes)
@@ -61,7 +61,7 @@ pub returns-in-Nowhere : goal.returns-in-Nowhere
 returns-in-Nowhere c =
     let st = lent (state_of c.args.state.now) c.args.memory.now in
     let read = request-found c.args.message.now c.args.h c.args.form c.requires.form_value in
-    let goes = target-says c.args.h c.args.form Nowhere read.1 (sym c.in-Nowhere.is ∙ c.target_of-target.ensures) in
+    let goes = target-says c.args.h c.args.form Nowhere read.1 (sym c.in-Nowhere.is ∙ c.target_of.ensures) in
     let bytes : Bytes c.args.state.now = λ i. omega (arith, c.slice_known-1.given i) in
     let formed = (request-fits c.args.state.now c.args.memory.now c.args.reply.now c.requires.reply_value).formed in
     finished-unmoved c.args.state.now c.args.memory.now bytes formed _ _ c.reply_plain.ensures _ (asked-nowhere c.args.h (string_of c.args.message.now) c.args.reply.now st goes)

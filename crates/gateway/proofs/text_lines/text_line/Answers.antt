@@ -13,19 +13,25 @@ use Rattle.rules.specs.Turn.{single}
 use Rattle.state_bytes.specs.State.{state_of}
 use Rattle.gateway.specs.Called.{Did}
 use Rattle.gateway.proofs.TextLaws.{line-unread, line-broken, line-beyond, line_known}
+use Rattle.std.proofs.Common.{rules, Err}
+use Rattle.format.proofs.OutcomeLaws.{unless-ok}
 use Rattle.gateway.proofs.LentLaws.{lent-passes, finished-refused, line-fits, line-unfit, call-fit}
 use Rattle.gateway.proofs.FinishLaws.{finished-unmoved}
 use Rattle.gateway.proofs.text_lines.text_line.Goals as goal
 
-pub returns-then-number-ne0 : goal.returns-then-number-ne0
+pub returns-in_err-check_line_buffer_and_state : goal.returns-in_err-check_line_buffer_and_state
 unfolding Did
-returns-then-number-ne0 c =
-    line-unfit c.args.state.now c.args.memory.now c.args.text.now c.args.out.now _ c.check_line_buffer_and_state-number.ensures c.if-number-ne0.true
+returns-in_err-check_line_buffer_and_state c =
+    let failed = sym c.check_line_buffer_and_state.ensures ∙ c.in_err-check_line_buffer_and_state.was in
+    let given = c.from_residual.ensures in
+    let same : c.from_residual.result ≡ Err c.in_err-check_line_buffer_and_state.field-0.0 = search rules in
+    rw same
+    (line-unfit c.args.state.now c.args.memory.now c.args.text.now c.args.out.now _ failed)
 
 pub returns-then-not-line : goal.returns-then-not-line
 unfolding Did step
 returns-then-not-line c =
-    let zero = sym c.check_line_buffer_and_state-number.ensures ∙ c.if-number-ne0.false in
+    let zero = unless-ok _ _ _ (sym c.check_line_buffer_and_state.ensures ∙ c.in_ok-check_line_buffer_and_state.was) in
     let st = lent (state_of c.args.state.now) c.args.memory.now in
     let fit = line-fits c.args.state.now c.args.memory.now c.args.out.now zero in
     let passes = lent-passes c.args.state.now (no_line_room c.args.memory.now c.args.out.now) c.args.memory.now zero in
@@ -37,13 +43,13 @@ pub fail-requires : goal.fail-requires
 fail-requires c =
     record {
       le_number = omega arith;
-      line_bytes_in_bounds = (line-fits c.args.state.now c.args.memory.now c.args.out.now (sym c.check_line_buffer_and_state-number.ensures ∙ c.if-number-ne0.false)).room;
+      line_bytes_in_bounds = (line-fits c.args.state.now c.args.memory.now c.args.out.now (unless-ok _ _ _ (sym c.check_line_buffer_and_state.ensures ∙ c.in_ok-check_line_buffer_and_state.was))).room;
     }
 
 pub returns-then-not-line-2 : goal.returns-then-not-line-2
 unfolding Did step
 returns-then-not-line-2 c =
-    let zero = sym c.check_line_buffer_and_state-number.ensures ∙ c.if-number-ne0.false in
+    let zero = unless-ok _ _ _ (sym c.check_line_buffer_and_state.ensures ∙ c.in_ok-check_line_buffer_and_state.was) in
     let st = lent (state_of c.args.state.now) c.args.memory.now in
     let fit = line-fits c.args.state.now c.args.memory.now c.args.out.now zero in
     let passes = lent-passes c.args.state.now (no_line_room c.args.memory.now c.args.out.now) c.args.memory.now zero in
@@ -57,13 +63,13 @@ pub fail-requires-then-line-ge8 : goal.fail-requires-then-line-ge8
 fail-requires-then-line-ge8 c =
     record {
       le_number = omega arith;
-      line_bytes_in_bounds = (line-fits c.args.state.now c.args.memory.now c.args.out.now (sym c.check_line_buffer_and_state-number.ensures ∙ c.if-number-ne0.false)).room;
+      line_bytes_in_bounds = (line-fits c.args.state.now c.args.memory.now c.args.out.now (unless-ok _ _ _ (sym c.check_line_buffer_and_state.ensures ∙ c.in_ok-check_line_buffer_and_state.was))).room;
     }
 
 pub returns-then-line-ge8 : goal.returns-then-line-ge8
 unfolding Did step
 returns-then-line-ge8 c =
-    let zero = sym c.check_line_buffer_and_state-number.ensures ∙ c.if-number-ne0.false in
+    let zero = unless-ok _ _ _ (sym c.check_line_buffer_and_state.ensures ∙ c.in_ok-check_line_buffer_and_state.was) in
     let st = lent (state_of c.args.state.now) c.args.memory.now in
     let fit = line-fits c.args.state.now c.args.memory.now c.args.out.now zero in
     let passes = lent-passes c.args.state.now (no_line_room c.args.memory.now c.args.out.now) c.args.memory.now zero in
@@ -75,12 +81,12 @@ returns-then-line-ge8 c =
     (finished-unmoved c.args.state.now c.args.memory.now bytes fit.formed _ _ (rw c.read_line-line.ensures at c.fail-then-line-ge8.ensures) _ (line-beyond st c.args.text.now c.args.out.now passes headed whole beyond))
 
 pub line_known-requires : goal.line_known-requires
-line_known-requires c = record { pid_bound = omega arith; out_value = sym c.check_line_buffer_and_state-number.ensures ∙ c.if-number-ne0.false }
+line_known-requires c = record { pid_bound = omega arith; out_value = unless-ok _ _ _ (sym c.check_line_buffer_and_state.ensures ∙ c.in_ok-check_line_buffer_and_state.was) }
 
 pub returns : goal.returns
 unfolding Did step
 returns c =
-    let zero = sym c.check_line_buffer_and_state-number.ensures ∙ c.if-number-ne0.false in
+    let zero = unless-ok _ _ _ (sym c.check_line_buffer_and_state.ensures ∙ c.in_ok-check_line_buffer_and_state.was) in
     let st = lent (state_of c.args.state.now) c.args.memory.now in
     let fit = line-fits c.args.state.now c.args.memory.now c.args.out.now zero in
     let passes = lent-passes c.args.state.now (no_line_room c.args.memory.now c.args.out.now) c.args.memory.now zero in
