@@ -1,4 +1,5 @@
 -- The desk's end: fields that have room for their numbers, and what is read. Assumes nothing.
+use Rattle.std.proofs.Common.{None, Ok, Err}
 use mathlib.Core.Path.{◌≡◌, refl}
 use mathlib.Core.Bool.{Bool, true, false, not, cond, ◌&&◌, ◌||◌, true≢false}
 use mathlib.Core.List.{List, [], ◌∷◌}
@@ -8,12 +9,9 @@ use borrow.Author.Tests.{ltb-true, ltb-false, lt-ltb, le-ltb, ne_eqb}
 use lib.ListN.{length, set}
 use lib.Dec.{eqb, ltb}
 use Rattle.lists.proofs.Bool.{&&-left, &&-right}
-use Rattle.ops.specs.declared.table.Found.TheVariants.{Unknown}
 use Rattle.ops.specs.Table.{ops, row_of, request_form, answer_form}
 use Rattle.format.specs.declared.header.Header.{Header}
-use Rattle.format.specs.declared.outcome.Outcome.TheVariants.{Refused}
-use Rattle.format.specs.declared.outcome.Reading.TheVariants.{Message}
-use Rattle.format.specs.Outcome.{outcome, length_of, first_failing}
+use Rattle.format.specs.Outcome.{refusal_by, outcome, length_of, first_failing}
 use Rattle.format.specs.Layout.{header_of, fixed_right}
 use Rattle.format.specs.Refusal.{wrong_header, wrong_length, unknown}
 use Rattle.format.proofs.OutcomeLaws.{outcome-other, message-zero}
@@ -27,7 +25,7 @@ use Rattle.c_api.proofs.NarrowLaws.{same_byte, over-byte}
 use Rattle.c_api.specs.Desk.{arguments_fit, fields_fit, write_number, misfit_number, write_on}
 
 -- a CMD over 255 is unknown, and so is 255
-over-form : (cmd : ℕ) → 255 ≤ cmd → request_form cmd ≡ Unknown
+over-form : (cmd : ℕ) → 255 ≤ cmd → request_form cmd ≡ None
 unfolding request_form row_of
 over-form cmd h = let over : length ops ≤ cmd = omega arith in rw (le-ltb cmd (length ops) over)
 
@@ -109,7 +107,7 @@ module _ (h : Header) where
     fit-writes e = rw (fit-number (length string) buffer e)
 
     -- and others are refused
-    pub misfit-writes : fields_fit h ≡ false → write_on h string buffer ≡ wrote (Refused (misfit_number h.host h.cmd (length string) buffer)) buffer
+    pub misfit-writes : fields_fit h ≡ false → write_on h string buffer ≡ wrote (Err (refusal_by (misfit_number h.host h.cmd (length string) buffer))) buffer
     unfolding write_on answered
     misfit-writes e =
         let other = misfit-other (length string) buffer h.host h.cmd in
@@ -125,7 +123,7 @@ module _ (h : Header) where
         go (suc n) e = omega arith
 
 -- an answer that is read has between 10 and 266 bytes
-pub read_length : (m : List ℕ) (h : Header) → reads answer_form m ≡ Message h → (10 ≤ length m) × (length m ≤ 266)
+pub read_length : (m : List ℕ) (h : Header) → reads answer_form m ≡ Ok h → (10 ≤ length m) × (length m ≤ 266)
 unfolding reads read_number
 read_length m h e = sized-between (length m) (zero-passed (fixed_right m) (answer_form (header_of m).cmd) (header_of m) (length m) (message-zero _ (header_of m) h e)).sized
 

@@ -1,4 +1,5 @@
 -- Calls of the library are calls of the gateway, and so a run of the rules. Assumes nothing.
+use Rattle.std.proofs.Common.{Ok, Err}
 use mathlib.Core.Path.{◌≡◌, refl, sym, ap, ap₂, ◌∙◌}
 use mathlib.Core.Bool.{true, true≢false}
 use mathlib.Core.List.{List, [], ◌∷◌, ◌++◌, map}
@@ -10,8 +11,7 @@ use lib.ListN.{length, take}
 use lib.Dec.{eqb}
 use Rattle.lists.specs.Word.{vector_of}
 use Rattle.format.specs.Outcome.{Outcome}
-use Rattle.format.specs.declared.outcome.Outcome.TheVariants.{Granted, Refused}
-use Rattle.format.specs.Outcome.{outcome, number_of, length_of}
+use Rattle.format.specs.Outcome.{refusal_by, outcome, number_of, length_of}
 use Rattle.format.specs.Layout.{header_of}
 use Rattle.format.proofs.OutcomeLaws.{number_of-outcome, first_passes, rest-passes}
 use Rattle.state.specs.Layout.{capacity}
@@ -42,19 +42,26 @@ use Rattle.c_api.proofs.StartLaws.{start-same}
 -- where a number of 0 says that the call was granted
 told : (o : Outcome) → (number_of o ≡ 0 → is_granted o ≡ true) → outcome_of (signed o) ≡ o
 unfolding signed outcome_of number_of length_of is_granted
-told (Granted n) g = refl
-told (Refused zero) g = absurd (true≢false (sym (g refl)))
-told (Refused (suc n)) g = ap outcome_of (+ℤ_idl (negsuc n))
+told (Ok n) g = refl
+told (Err r) g = go r.0 refl
+  where
+    go : (n : ℕ) → r.0 ≡ n → outcome_of (signed (Err r)) ≡ Err r
+    go zero e = absurd (true≢false (sym (g e)))
+    go (suc n) e = rw e (ap outcome_of (+ℤ_idl (negsuc n))) ∙ ap (λ (k : ℕ). Err (refusal_by k)) (sym e)
 
 -- both lengths of a report come back from the one number
 both_told : (o : Outcome) (n : ℕ) → Small o n → (number_of o ≡ 0 → is_granted o ≡ true)
     → (notice_told (signed (both_lengths o n)) ≡ o) × (line_told (signed (both_lengths o n)) ≡ n)
 unfolding signed both_lengths notice_told line_told number_of length_of is_granted
-both_told (Granted k) n f g =
+both_told (Ok k) n f g =
     let own = f.own in
-    (ap Granted (omega arith), omega arith)
-both_told (Refused zero) n f g = absurd (true≢false (sym (g refl)))
-both_told (Refused (suc k)) n f g = (ap notice_told (+ℤ_idl (negsuc k)), ap line_told (+ℤ_idl (negsuc k)) ∙ sym (f.silent refl))
+    (ap Ok (omega arith), omega arith)
+both_told (Err r) n f g = go r.0 refl
+  where
+    go : (k : ℕ) → r.0 ≡ k → (notice_told (signed (both_lengths (Err r) n)) ≡ Err r) × (line_told (signed (both_lengths (Err r) n)) ≡ n)
+    go zero e = absurd (true≢false (sym (g e)))
+    go (suc k) e =
+        (rw e (ap notice_told (+ℤ_idl (negsuc k))) ∙ ap (λ (j : ℕ). Err (refusal_by j)) (sym e), rw e (ap line_told (+ℤ_idl (negsuc k))) ∙ sym (f.silent refl))
 
 -- ---- calls with no line buffer
 
@@ -262,7 +269,7 @@ none-fails : (n : ℕ) → pos 0 ≡ signed (outcome n 0) → n ≡ 0
 unfolding outcome_of number_of
 none-fails zero e = refl
 none-fails (suc n) e =
-    sym (ap (λ (z : ℤ). number_of (outcome_of z)) e ∙ ap number_of (told (Refused (suc n)) (λ z. absurd (omega (arith, z)))))
+    sym (ap (λ (z : ℤ). number_of (outcome_of z)) e ∙ ap number_of (told (Err (refusal_by (suc n))) (λ z. absurd (omega (arith, z)))))
 
 started-begins : (there door : ℕ) (sizes before memory : List ℕ) → start_number there sizes before ≡ 0 → length memory ≡ capacity
     → Begins (start_with there sizes door before).state memory

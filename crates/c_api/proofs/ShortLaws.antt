@@ -1,4 +1,5 @@
 -- No call grants more than a signed number holds: what it wrote is in its buffer, and a report's two lengths are small. Assumes nothing.
+use Rattle.std.proofs.Common.{Ok, Err}
 use mathlib.Core.Path.{◌≡◌, refl}
 use mathlib.Core.Bool.{Bool, true, false, cond, true≢false}
 use mathlib.Core.List.{List}
@@ -12,7 +13,6 @@ use Rattle.lists.specs.Word.{vector_of}
 use Rattle.lists.proofs.Bool.{&&-left}
 use Rattle.lists.proofs.Word.{length-low_first}
 use Rattle.format.specs.Outcome.{Outcome}
-use Rattle.format.specs.declared.outcome.Outcome.TheVariants.{Granted, Refused}
 use Rattle.format.specs.Outcome.{outcome, length_of, is_granted, first_failing}
 use Rattle.format.proofs.OutcomeLaws.{length_of-none, first_passes, rest-passes}
 use Rattle.fields.specs.Written.{line_bytes}
@@ -86,8 +86,8 @@ pub record Small (o : Outcome) (line : ℕ) : Type 0 where
 -- so the one number is no greater than a signed one holds
 pub both-short : (o : Outcome) (line : ℕ) → Small o line → Short (both_lengths o line)
 unfolding both_lengths length_of
-both-short (Granted n) line f = let own = f.own in let short = f.line-short in omega arith
-both-short (Refused n) line f = omega arith
+both-short (Ok n) line f = let own = f.own in let short = f.line-short in omega arith
+both-short (Err r) line f = omega arith
 
 small-refused : (n : ℕ) → Small (outcome n 0) 0
 small-refused n = record { own = rw (length_of-none n) (omega arith); line-short = omega arith; silent = λ e. refl }

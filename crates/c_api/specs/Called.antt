@@ -1,8 +1,7 @@
 -- What the exported functions return and leave.
-use Rattle.std.specs.Prelude.{◌≡◌, Bool, not, cond, List, [], ◌∷◌, ℕ, ◌+◌, ◌*◌, ◌<◌, ◌/◌, ◌%◌, ℤ, pos, ◌-ℤ◌, length, eqb, ltb}
+use Rattle.std.specs.Prelude.{Ok, Err, ◌≡◌, Bool, not, cond, List, [], ◌∷◌, ℕ, ◌+◌, ◌*◌, ◌<◌, ◌/◌, ◌%◌, ℤ, pos, ◌-ℤ◌, length, eqb, ltb}
 use Rattle.lists.specs.Word.{vector_of}
 use Rattle.format.specs.Outcome.{Outcome}
-use Rattle.format.specs.declared.outcome.Outcome.TheVariants.{Granted, Refused}
 use Rattle.format.specs.Outcome.{outcome, number_of, length_of, is_granted, test, first_failing}
 use Rattle.state.specs.Fresh.{fresh_start, sizes_right}
 use Rattle.rules.specs.Step.{report, packet}
@@ -33,8 +32,8 @@ pub record Returns (x : Called) (result : ℤ) (state memory buffer : List ℕ) 
 
 -- of a report 'both lengths told', as one: that of the notice and 256 times that of the line
 unfoldable pub both_lengths : Outcome → ℕ → Outcome
-both_lengths (Granted n) line = Granted (n + 256 * line)
-both_lengths (Refused n) line = Refused n
+both_lengths (Ok n) line = Ok (n + 256 * line)
+both_lengths (Err refusal) line = Err refusal
 
 -- a report returned this number, and left these bytes in state, memory and its two buffers
 pub record Reports (x : Called) (result : ℤ) (state memory notice line : List ℕ) : Type 0 where

@@ -1,11 +1,8 @@
 -- What the exported functions of the desk's end return and leave.
-use Rattle.std.specs.Prelude.{◌≡◌, Bool, true, not, cond, ◌&&◌, ◌||◌, List, [], ◌∷◌, ℕ, ◌+◌, ℤ, length, eqb, ltb}
+use Rattle.std.specs.Prelude.{Ok, Err, ◌≡◌, Bool, true, not, cond, ◌&&◌, ◌||◌, List, [], ◌∷◌, ℕ, ◌+◌, ℤ, length, eqb, ltb}
 use Rattle.ops.specs.Table.{request_form, answer_form}
 use Rattle.format.specs.declared.header.Header.{Header}
-use Rattle.format.specs.declared.outcome.Outcome.TheVariants.{Granted, Refused}
-use Rattle.format.specs.declared.outcome.Reading.{Reading}
-use Rattle.format.specs.declared.outcome.Reading.TheVariants.{Message, Refused as ReadingRefused}
-use Rattle.format.specs.Outcome.{Test, test, outcome, first_failing}
+use Rattle.format.specs.Outcome.{Reading, Test, test, outcome, first_failing}
 use Rattle.format.specs.Layout.{written, string_of}
 use Rattle.format.specs.Refusal.{wrong_length, unknown, malformed}
 use Rattle.format.specs.Sizes.{header_bytes, message_bytes}
@@ -58,8 +55,8 @@ handed h = h.host ∷ h.cmd ∷ h.pid ∷ h.arg1 ∷ h.arg2 ∷ []
 
 -- of an answer that was read, the fields are handed over and the length of its string is returned; 'write nothing when they refuse'
 unfoldable pub hand_over : Reading → ℕ → List ℕ → Written
-hand_over (Message h) carried buffer = wrote (Granted carried) (handed h)
-hand_over (ReadingRefused n) carried buffer = wrote (Refused n) buffer
+hand_over (Ok h) carried buffer = wrote (Ok carried) (handed h)
+hand_over (Err refusal) carried buffer = wrote (Err refusal) buffer
 
 -- what reading any bytes as an answer does; a buffer of other than five words is a lent buffer of the wrong length, test 1
 unfoldable pub read_on : List ℕ → List ℕ → Written

@@ -4,9 +4,9 @@ ghost use Rattle.c_api.specs.Desk.{Leaves, fields, arguments_fit, fields_fit, mi
 
 use crate::narrow::byte_of;
 use crate::result::{minus, signed};
-use format::{HEADER_BYTES, Header, MESSAGE_BYTES, Outcome, Reading, STRING_BYTES};
+use format::{HEADER_BYTES, Header, MESSAGE_BYTES, STRING_BYTES};
 use message::{read_answer, write_request};
-use ops::{Found, request_form};
+use ops::request_form;
 
 // PID, ARG1 and ARG2 have room for their numbers.
 fn arguments_fit(pid: u64, arg1: u64, arg2: u64) -> bool
@@ -50,10 +50,9 @@ fn misfit_number(host: u64, cmd: u64, carried: usize, request: &[u8]) -> u8
     if 256 <= host {
         return 4;
     }
-    let found = request_form(byte_of(cmd));
-    match found {
-        Found::Known(_) => 6,
-        Found::Unknown => 5,
+    match request_form(byte_of(cmd)) {
+        Some(_) => 6,
+        None => 5,
     }
 }
 
@@ -104,12 +103,11 @@ pub extern "C" fn palustrode_read_answer(message: &[u8], fields: &mut [u16]) -> 
     if fields.len() != 5 {
         return minus(1);
     }
-    let reading = read_answer(message);
-    match reading {
-        Reading::Message(h) => {
+    match read_answer(message) {
+        Ok(h) => {
             hand_over(h, fields);
-            signed(Outcome::Granted(message.len() - HEADER_BYTES))
+            signed(Ok(message.len() - HEADER_BYTES))
         }
-        Reading::Refused(n) => minus(n),
+        Err(refusal) => minus(refusal.0),
     }
 }

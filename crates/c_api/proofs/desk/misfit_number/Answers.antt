@@ -36,18 +36,18 @@ returns-then-host-ge256 c =
     let short : 10 + c.args.carried ≤ 266 = omega arith in
     rw (le-ltb _ 266 c.if-request-lt-MESSAGE_BYTES.false, le-ltb _ _ enough, le-ltb _ _ short, le-ltb c.args.host 256 c.if-host-ge256.true, or-true (eqb c.args.host 0))
 
-pub returns-in-Known : goal.returns-in-Known
+pub returns-in-Some : goal.returns-in-Some
 unfolding misfit_number first_failing wrong_length
-returns-in-Known c =
+returns-in-Some c =
     let enough : 10 ≤ 10 + c.args.carried = omega arith in
     let short : 10 + c.args.carried ≤ 266 = omega (arith, c.if-carried-gt-STRING_BYTES.false) in
-    let form = sym c.in-Known.is ∙ c.request_form-found.ensures ∙ ap request_form c.byte_of.ensures ∙ form-byte c.args.cmd in
+    let form = sym c.in-Some.is ∙ c.request_form.ensures ∙ ap request_form c.byte_of.ensures ∙ form-byte c.args.cmd in
     rw (le-ltb _ 266 c.if-request-lt-MESSAGE_BYTES.false, le-ltb _ _ enough, le-ltb _ _ short, ne_eqb c.args.host 0 c.if-host-eq0.false, lt-ltb c.args.host 256 c.if-host-ge256.false, ← form)
 
-pub returns-in-Unknown : goal.returns-in-Unknown
+pub returns-in-None : goal.returns-in-None
 unfolding misfit_number first_failing wrong_length
-returns-in-Unknown c =
+returns-in-None c =
     let enough : 10 ≤ 10 + c.args.carried = omega arith in
     let short : 10 + c.args.carried ≤ 266 = omega (arith, c.if-carried-gt-STRING_BYTES.false) in
-    let form = sym c.in-Unknown.is ∙ c.request_form-found.ensures ∙ ap request_form c.byte_of.ensures ∙ form-byte c.args.cmd in
+    let form = sym c.in-None.is ∙ c.request_form.ensures ∙ ap request_form c.byte_of.ensures ∙ form-byte c.args.cmd in
     rw (le-ltb _ 266 c.if-request-lt-MESSAGE_BYTES.false, le-ltb _ _ enough, le-ltb _ _ short, ne_eqb c.args.host 0 c.if-host-eq0.false, lt-ltb c.args.host 256 c.if-host-ge256.false, ← form)

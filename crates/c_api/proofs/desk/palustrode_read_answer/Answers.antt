@@ -22,25 +22,25 @@ returns-then-fields-ne5 c =
     rw (ne_eqb _ 5 c.if-fields-ne5.true) (record { result-is = same ∙ c.minus.ensures; buffer-is = refl })
 
 pub overflow_sub-message : goal.overflow_sub-message
-overflow_sub-message c = omega (arith, (read_length _ _ (sym c.read_answer-reading.ensures ∙ c.in-Message.is)).0)
+overflow_sub-message c = omega (arith, (read_length _ _ (sym c.read_answer.ensures ∙ c.in-Ok.is)).0)
 
 pub signed-requires : goal.signed-requires
 unfolding length_of
-signed-requires c = omega (arith, (read_length _ _ (sym c.read_answer-reading.ensures ∙ c.in-Message.is)).1)
+signed-requires c = omega (arith, (read_length _ _ (sym c.read_answer.ensures ∙ c.in-Ok.is)).1)
 
-pub returns-in-Message : goal.returns-in-Message
+pub returns-in-Ok : goal.returns-in-Ok
 unfolding read_on hand_over signed is_granted number_of length_of
-returns-in-Message c =
-    let found = sym c.read_answer-reading.ensures ∙ c.in-Message.is in
+returns-in-Ok c =
+    let found = sym c.read_answer.ensures ∙ c.in-Ok.is in
     let same : to_z w64 (of_z w64 c.signed.result) ≡ c.signed.result = search rules in
     let long = (read_length c.args.message.now _ found).0 in
     let string : length (string_of c.args.message.now) ≡ length c.args.message.now - 10 = omega (arith, length-string_of c.args.message.now long) in
     rw (eq-eqb _ 5 c.if-fields-ne5.false, found, string)
     (record { result-is = same ∙ c.signed.ensures; buffer-is = c.hand_over.ensures })
 
-pub returns-in-Refused : goal.returns-in-Refused
+pub returns-in-Err : goal.returns-in-Err
 unfolding read_on hand_over signed is_granted number_of length_of
-returns-in-Refused c =
-    let found = sym c.read_answer-reading.ensures ∙ c.in-Refused.is in
-    let same : to_z w64 (of_z w64 c.minus-in-Refused.result) ≡ c.minus-in-Refused.result = search rules in
-    rw (eq-eqb _ 5 c.if-fields-ne5.false, found) (record { result-is = same ∙ c.minus-in-Refused.ensures; buffer-is = refl })
+returns-in-Err c =
+    let found = sym c.read_answer.ensures ∙ c.in-Err.is in
+    let same : to_z w64 (of_z w64 c.minus-in-Err.result) ≡ c.minus-in-Err.result = search rules in
+    rw (eq-eqb _ 5 c.if-fields-ne5.false, found) (record { result-is = same ∙ c.minus-in-Err.ensures; buffer-is = refl })

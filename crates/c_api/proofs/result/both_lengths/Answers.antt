@@ -8,16 +8,16 @@ use Rattle.c_api.proofs.result.both_lengths.Goals as goal
 
 pub overflow_mul-result : goal.overflow_mul-result
 unfolding both_lengths length_of
-overflow_mul-result c = omega (arith, subst (λ (o : Outcome). Short (both_lengths o c.args.told.line)) c.in-Granted.is c.requires)
+overflow_mul-result c = omega (arith, subst (λ (o : Outcome). Short (both_lengths o c.args.told.line)) c.in-Ok.is c.requires)
 
 pub overflow_add-result : goal.overflow_add-result
 unfolding both_lengths length_of
-overflow_add-result c = omega (arith, subst (λ (o : Outcome). Short (both_lengths o c.args.told.line)) c.in-Granted.is c.requires)
+overflow_add-result c = omega (arith, subst (λ (o : Outcome). Short (both_lengths o c.args.told.line)) c.in-Ok.is c.requires)
 
-pub returns-in-Granted : goal.returns-in-Granted
+pub returns-in-Ok : goal.returns-in-Ok
 unfolding both_lengths
-returns-in-Granted c = rw c.in-Granted.is refl
+returns-in-Ok c = rw c.in-Ok.is refl
 
-pub returns-in-Refused : goal.returns-in-Refused
+pub returns-in-Err : goal.returns-in-Err
 unfolding both_lengths
-returns-in-Refused c = rw c.in-Refused.is refl
+returns-in-Err c = rw c.in-Err.is refl

@@ -10,14 +10,14 @@ use Rattle.c_api.proofs.result.signed.Goals as goal
 
 pub overflow_cast-result : goal.overflow_cast-result
 unfolding length_of
-overflow_cast-result c = small-fits _ (subst Short c.in-Granted.is c.requires)
+overflow_cast-result c = small-fits _ (subst Short c.in-Ok.is c.requires)
 
-pub returns-in-Granted : goal.returns-in-Granted
+pub returns-in-Ok : goal.returns-in-Ok
 unfolding signed number_of length_of is_granted
-returns-in-Granted c = rw c.in-Granted.is (signed-small _ (subst Short c.in-Granted.is c.requires))
+returns-in-Ok c = rw c.in-Ok.is (signed-small _ (subst Short c.in-Ok.is c.requires))
 
-pub returns-in-Refused : goal.returns-in-Refused
+pub returns-in-Err : goal.returns-in-Err
 unfolding signed number_of length_of is_granted
-returns-in-Refused c =
+returns-in-Err c =
     let same : to_z w64 (of_z w64 c.minus.result) ≡ c.minus.result = search rules in
-    rw c.in-Refused.is (same ∙ c.minus.ensures)
+    rw c.in-Err.is (same ∙ c.minus.ensures)
