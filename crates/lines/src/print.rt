@@ -1,25 +1,17 @@
 // Bytes as text.
-ghost use Rattle.std.specs.Prelude.{◌≡◌, ◌+◌, ◌*◌, ◌≤◌, ◌<◌, length};
+ghost use Rattle.std.specs.Prelude.{◌≡◌, ◌+◌, ◌*◌, ◌≤◌, length};
 ghost use Rattle.lists.specs.Buffer.{overlay};
-ghost use Rattle.lines.specs.Hex.{digit, pair, pair_at, pairs, spaced, spaced_or_dash, pairs_line};
+ghost use Rattle.lines.specs.Hex.{pair, pair_at, pairs, spaced, spaced_or_dash, pairs_line};
 
-// The digit of a number under 16.
-fn digit(v: u8) -> u8
-    requires { v < 16 }
-    ensures { result ≡ digit v }
-{
-    if v < 10 {
-        return 48 + v;
-    }
-    87 + v
-}
+use digits::digit;
 
 // A blank and the two digits of a byte, from an index on.
+#[tactic(auto, unfolding(crate::specs::Hex::pair_at))]
 fn put_pair(b: u8, at: usize, out: &mut [u8])
     requires { at + 3 ≤ length out.old }
     ensures { out.new ≡ pair_at b at out.old }
 {
-    out[at] = 32;
+    out[at] = b' ';
     out[at + 1] = digit(b / 16);
     out[at + 2] = digit(b % 16);
 }
@@ -29,10 +21,8 @@ fn put_spaced(bytes: &[u8], out: &mut [u8])
     requires { 3 * length bytes.now ≤ length out.old }
     ensures { out.new ≡ overlay (spaced bytes.now) out.old }
 {
-    let mut i = 0;
-    while i < bytes.len() {
-        put_pair(bytes[i], 3 * i, out);
-        i += 1;
+    for (i, b) in bytes.iter().enumerate() {
+        put_pair(*b, 3 * i, out);
     }
 }
 
@@ -42,9 +32,9 @@ pub fn put_bytes(bytes: &[u8], out: &mut [u8]) -> usize
     ensures value { result ≡ length (spaced_or_dash bytes.now) }
     ensures out_after { out.new ≡ overlay (spaced_or_dash bytes.now) out.old }
 {
-    if bytes.len() == 0 {
-        out[0] = 32;
-        out[1] = 45;
+    if bytes.is_empty() {
+        out[0] = b' ';
+        out[1] = b'-';
         return 2;
     }
     put_spaced(bytes, out);
@@ -52,6 +42,7 @@ pub fn put_bytes(bytes: &[u8], out: &mut [u8]) -> usize
 }
 
 // The two digits of a byte.
+#[tactic(auto, unfolding(lists::specs::Buffer::overlay))]
 fn put_first(b: u8, out: &mut [u8])
     requires { 2 ≤ length out.old }
     ensures { out.new ≡ overlay (pair b) out.old }
@@ -76,12 +67,12 @@ pub fn put_pairs(bytes: &[u8], out: &mut [u8]) -> usize
     ensures upper_bound { result ≤ length out.old }
     ensures out_after { out.new ≡ overlay (pairs_line bytes.now) out.old }
 {
-    if bytes.len() == 0 {
-        out[0] = 10;
+    if bytes.is_empty() {
+        out[0] = b'\n';
         return 1;
     }
     put_parted(bytes, out);
     let last = 3 * bytes.len() - 1;
-    out[last] = 10;
+    out[last] = b'\n';
     last + 1
 }
