@@ -5,7 +5,7 @@ ghost use Rattle.std.specs.Prelude.{◌≡◌, ◌<◌, MatchOption};
 ghost use Rattle.digits.specs.Digit.{digit, value};
 
 // The digit of a number under 16.
-#[tactic(auto, using(std::proofs::lemmas::Bool::Decides::nat_tests), unfolding(crate::specs::Digit::digit))]
+#[tactic(auto, unfolding(crate::specs::Digit::digit))]
 pub fn digit(v: u8) -> u8
     requires { v < 16 }
     ensures { result ≡ digit v }
@@ -14,7 +14,7 @@ pub fn digit(v: u8) -> u8
 }
 
 // The number of a digit, or `None` where the character is none.
-#[tactic(auto, using(std::proofs::lemmas::Bool::Decides::nat_tests), unfolding(crate::specs::Digit::value))]
+#[tactic(auto, unfolding(crate::specs::Digit::value))]
 pub fn digit_value(c: u8) -> Option<u8>
     ensures { MatchOption result (value c ≡ 16) (λ v. (v ≡ value c) × (v < 16)) }
 {

@@ -20,24 +20,24 @@ pub struct TextAnswer {
 }
 
 // Whether a third field is one of an answer: 0, or the flag.
-#[tactic(auto, using(std::proofs::lemmas::Bool::Decides::nat_tests), unfolding(crate::specs::Answer::is_flag))]
+#[tactic(auto, unfolding(crate::specs::Answer::is_flag))]
 fn is_flag(third: u32) -> bool
     ensures { result ≡ is_flag third }
 {
     matches!(third, 0 | FAILED_FLAG)
 }
 
-impl TextAnswer {
+impl From<TextAnswer> for Fields {
+    ghost from_gives = { λ a fields. fields ≡ answer_fields a };
+
     // The four fields of its line.
     #[tactic(auto, unfolding(crate::specs::Answer::answer_fields))]
-    fn fields(self) -> Fields
-        ensures { result ≡ answer_fields self }
-    {
+    fn from(a: TextAnswer) -> Fields {
         Fields {
-            pid: self.pid,
-            letter: self.letter,
-            third: if self.failed { FAILED_FLAG } else { 0 },
-            fourth: self.value,
+            pid: a.pid,
+            letter: a.letter,
+            third: if a.failed { FAILED_FLAG } else { 0 },
+            fourth: a.value,
         }
     }
 }
@@ -49,11 +49,11 @@ pub fn write_answer(a: TextAnswer, out: &mut [u8]) -> usize
     ensures upper_bound { result ≤ line_bytes }
     ensures out_after { out.new ≡ overlay (written (answer_fields a)) out.old }
 {
-    write_fields(a.fields(), out)
+    write_fields(Fields::from(a), out)
 }
 
 // A text as an answer, if it is the line of one.
-#[tactic(auto, using(std::proofs::lemmas::Bool::Decides::nat_tests), unfolding(crate::specs::Answer::answer_of, crate::specs::Answer::answer_from))]
+#[tactic(auto, unfolding(crate::specs::Answer::answer_of, crate::specs::Answer::answer_from))]
 pub fn read_answer(text: &[u8]) -> Option<TextAnswer>
     ensures { result ≡ answer_of text.now }
 {

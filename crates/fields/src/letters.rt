@@ -27,7 +27,7 @@ pub const CONTINUE: u8 = b'c';
 pub const STEP: u8 = b's';
 
 // Whether a character is one of these eight.
-#[tactic(auto, using(std::proofs::lemmas::Bool::Decides::nat_tests), unfolding(crate::specs::Letters::known))]
+#[tactic(auto, unfolding(crate::specs::Letters::known))]
 pub fn is_known(c: u8) -> bool
     ensures { result ≡ known c }
 {

@@ -15,7 +15,7 @@ pub struct Number {
 }
 
 // Whether digits are those of a number: one at least, and no zero before others.
-#[tactic(auto, using(std::proofs::lemmas::Bool::Decides::nat_tests), unfolding(crate::specs::Hex::plain))]
+#[tactic(auto, unfolding(crate::specs::Hex::plain))]
 fn is_plain(digits: &[u8]) -> bool
     ensures { result ≡ plain digits.now }
 {
@@ -48,7 +48,7 @@ impl Number {
     }
 
     // The number at an index.
-    #[tactic(auto, using(std::proofs::lemmas::Bool::Decides::nat_tests, std::proofs::lemmas::Grind::common_steps), unfolding(crate::specs::Hex::number_at))]
+    #[tactic(auto, unfolding(crate::specs::Hex::number_at))]
     pub fn at(text: &[u8], at: usize) -> Option<Number>
         requires { at ≤ length text.now }
         ensures { result ≡ number_at text.now at }
@@ -60,7 +60,7 @@ impl Number {
     }
 
     // The number after a blank at an index.
-    #[tactic(auto, using(std::proofs::lemmas::Bool::Decides::nat_tests, std::proofs::lemmas::Grind::common_steps), unfolding(crate::specs::Hex::number_after))]
+    #[tactic(auto, unfolding(crate::specs::Hex::number_after))]
     pub fn after(text: &[u8], at: usize) -> Option<Number>
         ensures { result ≡ number_after text.now at }
     {

@@ -27,7 +27,7 @@ pub struct Line {
 }
 
 // Whether a field may end at an index: nothing follows, or a blank, or a newline.
-#[tactic(auto, using(std::proofs::lemmas::Bool::Decides::nat_tests, std::proofs::lemmas::Grind::common_steps), unfolding(crate::specs::Read::separates))]
+#[tactic(auto, unfolding(crate::specs::Read::separates))]
 fn separates(text: &[u8], at: usize) -> bool
     ensures { result ≡ separates (drop at text.now) }
 {
@@ -35,7 +35,7 @@ fn separates(text: &[u8], at: usize) -> bool
 }
 
 // Whether the line ends at an index: with a newline, and nothing after it.
-#[tactic(auto, using(std::proofs::lemmas::Bool::Decides::nat_tests, std::proofs::lemmas::Grind::common_steps), unfolding(crate::specs::Read::ends_at))]
+#[tactic(auto, unfolding(crate::specs::Read::ends_at))]
 fn ends(text: &[u8], at: usize) -> bool
     ensures { result ≡ ends_at text.now at }
 {
@@ -44,7 +44,7 @@ fn ends(text: &[u8], at: usize) -> bool
 
 impl Head {
     // The first two fields, after the number of the first was read.
-    #[tactic(auto, using(std::proofs::lemmas::Bool::Decides::nat_tests, std::proofs::lemmas::Grind::common_steps), unfolding(crate::specs::Read::head_after, crate::specs::Letters::known))]
+    #[tactic(auto, unfolding(crate::specs::Read::head_after, crate::specs::Letters::known))]
     fn after(text: &[u8], n: Number) -> Option<Head>
         ensures { result ≡ head_after text.now n }
     {
@@ -63,7 +63,7 @@ impl Head {
     }
 
     // The first two fields of a text.
-    #[tactic(auto, using(std::proofs::lemmas::Bool::Decides::nat_tests, std::proofs::lemmas::Grind::common_steps), unfolding(crate::specs::Read::head_of))]
+    #[tactic(auto, unfolding(crate::specs::Read::head_of))]
     fn of(text: &[u8]) -> Option<Head>
         ensures { result ≡ head_of text.now }
     {
@@ -133,7 +133,7 @@ impl Line {
 }
 
 // A text as a line.
-#[tactic(auto, using(std::proofs::lemmas::Bool::Decides::nat_tests, std::proofs::lemmas::Grind::common_steps), unfolding(crate::specs::Read::line_of, crate::specs::Read::line_from, crate::specs::Read::line_after))]
+#[tactic(auto, unfolding(crate::specs::Read::line_of, crate::specs::Read::line_from, crate::specs::Read::line_after))]
 pub fn read_line(text: &[u8]) -> Line
     ensures { result ≡ line_of text.now }
 {

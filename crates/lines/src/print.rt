@@ -3,17 +3,24 @@ ghost use Rattle.std.specs.Prelude.{◌≡◌, ◌+◌, ◌*◌, ◌≤◌, leng
 ghost use Rattle.lists.specs.Buffer.{overlay};
 ghost use Rattle.lines.specs.Hex.{pair, pair_at, pairs, spaced, spaced_or_dash, pairs_line};
 
+use crate::text::put;
 use digits::digit;
 
+// The two digits of a byte.
+fn pair(b: u8) -> [u8; 2]
+    ensures { result ≡ pair b }
+{
+    [digit(b / 16), digit(b % 16)]
+}
+
 // A blank and the two digits of a byte, from an index on.
-#[tactic(auto, unfolding(crate::specs::Hex::pair_at))]
+#[tactic(auto, unfolding(crate::specs::Hex::pair_at, crate::specs::Scan::kept))]
 fn put_pair(b: u8, at: usize, out: &mut [u8])
     requires { at + 3 ≤ length out.old }
     ensures { out.new ≡ pair_at b at out.old }
 {
     out[at] = b' ';
-    out[at + 1] = digit(b / 16);
-    out[at + 2] = digit(b % 16);
+    put(&pair(b), at + 1, out);
 }
 
 // Each byte after a blank.
@@ -41,22 +48,12 @@ pub fn put_bytes(bytes: &[u8], out: &mut [u8]) -> usize
     3 * bytes.len()
 }
 
-// The two digits of a byte.
-#[tactic(auto, unfolding(lists::specs::Buffer::overlay))]
-fn put_first(b: u8, out: &mut [u8])
-    requires { 2 ≤ length out.old }
-    ensures { out.new ≡ overlay (pair b) out.old }
-{
-    out[0] = digit(b / 16);
-    out[1] = digit(b % 16);
-}
-
 // The pairs of one or more bytes, parted by single blanks.
 fn put_parted(bytes: &[u8], out: &mut [u8])
     requires { (1 ≤ length bytes.now) × (3 * length bytes.now ≤ length out.old) }
     ensures { out.new ≡ overlay (pairs bytes.now) out.old }
 {
-    put_first(bytes[0], out);
+    put(&pair(bytes[0]), 0, out);
     put_spaced(&bytes[1..], &mut out[2..]);
 }
 

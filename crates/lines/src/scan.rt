@@ -26,7 +26,7 @@ pub struct Scan {
 
 impl Phase {
     // One character more.
-    #[tactic(auto, using(std::proofs::lemmas::Bool::Decides::nat_tests), unfolding(crate::specs::Scan::next, crate::specs::Scan::opened))]
+    #[tactic(auto, unfolding(crate::specs::Scan::next, crate::specs::Scan::opened))]
     pub fn next(self, c: u8) -> Phase
         ensures { result ≡ next self c }
     {
@@ -60,7 +60,7 @@ impl Scan {
     }
 
     // One character more: the byte that it completes goes to the buffer, if there is room.
-    #[tactic(auto, using(std::proofs::lemmas::Bool::Decides::nat_tests, std::proofs::lemmas::List::set_past), unfolding(crate::specs::Scan::next, crate::specs::Scan::opened, crate::specs::Scan::made, crate::specs::Scan::kept, crate::specs::Scan::filled))]
+    #[tactic(auto, unfolding(crate::specs::Scan::made, crate::specs::Scan::kept, crate::specs::Scan::filled))]
     fn push(self, c: u8, buffer: &mut [u8]) -> Scan
         ensures phase_value { result.phase ≡ next self.phase c }
         ensures len_value { result.len ≡ filled (length buffer.old) self.len (made self.phase c) }
