@@ -1,15 +1,15 @@
 -- Laws of reading a line, field by field. Assumes nothing.
 use Rattle.std.proofs.Common.{Option, Some, None}
 use mathlib.Core.Path.{◌≡◌, refl, sym, ap, ◌∙◌, subst}
-use mathlib.Core.Bool.{Bool, true, false, cond, ◌&&◌, ◌||◌, true≢false}
+use mathlib.Core.Bool.{Bool, true, false, cond, ◌&&◌, true≢false}
 use mathlib.Core.List.{List, [], ◌∷◌, ◌++◌}
 use Prim.Native.Nat.{ℕ, ◌+◌, ◌-◌, ◌≤◌, ◌<◌}
 use native.Mathlib.Omega.{arith}
-use borrow.Author.Tests.{eqb-true, eqb-false, eq-eqb, ne_eqb}
-use lib.ListN.{length, drop, get_or, length-drop, drop_of_length-le, get_or-eq_default}
+use borrow.Author.Tests.{eqb-true, eqb-false, eq-eqb}
+use lib.ListN.{length, drop, get_or, length-drop, drop_of_length-le}
 use lib.Seq.{drop-append_seam}
 use lib.Dec.{eqb}
-use Rattle.lists.proofs.Bool.{&&-left, &&-right, same_truth}
+use Rattle.lists.proofs.Bool.{&&-left, &&-right}
 use Rattle.fields.specs.declared.write.Fields.{Fields}
 use Rattle.fields.specs.declared.number.Number.{Number}
 use Rattle.fields.specs.declared.read.Head.{Head}
@@ -24,34 +24,6 @@ use Rattle.fields.proofs.ReadLaws.{some_only, here, stands-first, stands-rest, s
 -- ---- where a field, and a line, may end
 
 module _ (text : List ℕ) (at : ℕ) where
-  pub separates-end : length text ≤ at → true ≡ separates (drop at text)
-  unfolding separates
-  separates-end h = rw (drop_of_length-le text h)
-
-  separates-here : at < length text → separates (drop at text) ≡ eqb (get_or text at 0) 32 || eqb (get_or text at 0) 10
-  unfolding separates
-  separates-here h = ap separates (here text at h)
-
-  pub separates-blank : at < length text → get_or text at 0 ≡ 32 → true ≡ separates (drop at text)
-  separates-blank h e = sym (separates-here h ∙ rw (eq-eqb (get_or text at 0) 32 e))
-
-  pub separates-other : at < length text → (get_or text at 0 ≡ 32 → ⊥) → eqb (get_or text at 0) 10 ≡ separates (drop at text)
-  separates-other h n = sym (separates-here h ∙ rw (ne_eqb (get_or text at 0) 32 n))
-
-  pub ends-other : (get_or text at 0 ≡ 10 → ⊥) → false ≡ ends_at text at
-  unfolding ends_at
-  ends-other n = rw (ne_eqb (get_or text at 0) 10 n)
-
-  pub ends-past : length text ≤ at → false ≡ ends_at text at
-  ends-past h = ends-other (λ e. omega (arith, e, get_or-eq_default text 0 h))
-
-  pub ends_last : at < length text → get_or text at 0 ≡ 10 → eqb (length text - at) 1 ≡ ends_at text at
-  unfolding ends_at
-  ends_last h e = rw (eq-eqb (get_or text at 0) 10 e)
-      (same_truth (eqb (length text - at) 1) (eqb (length text) (at + 1))
-      (λ q. eq-eqb (length text) (at + 1) (omega (arith, h, eqb-true (length text - at) 1 q)))
-      (λ q. eq-eqb (length text - at) 1 (omega (arith, h, eqb-true (length text) (at + 1) q))))
-
   -- a newline and no more stands there
   newline-ends : drop at text ≡ 10 ∷ [] → ends_at text at ≡ true
   unfolding ends_at
@@ -72,10 +44,6 @@ module _ (text : List ℕ) (at : ℕ) where
 -- ---- the process and the request: what the code finds
 
 module _ (text : List ℕ) (n : Number) where
-  unknown-zero : known 0 ≡ false
-  unfolding known
-  unknown-zero = refl
-
   pub head-found : get_or text n.next 0 ≡ 32 → known (get_or text (n.next + 1) 0) ≡ true → separates (drop (n.next + 2) text) ≡ true
       → head_after text n ≡ Some (record { pid = n.value; letter = get_or text (n.next + 1) 0; next = n.next + 2 })
   unfolding head_after
