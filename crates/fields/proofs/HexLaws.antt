@@ -2,14 +2,13 @@
 use mathlib.Core.Path.{◌≡◌, refl, sym, ap, ◌∙◌}
 use mathlib.Core.Bool.{Bool, true, false, cond, true≢false}
 use mathlib.Core.List.{List, [], ◌∷◌, ◌++◌, append_assoc, append-nil}
-use Prim.Native.Nat.{ℕ, zero, suc, ◌+◌, ◌-◌, ◌*◌, ◌/◌, ◌%◌, ◌≤◌, ◌<◌}
+use Prim.Native.Nat.{ℕ, zero, suc, ◌+◌, ◌*◌, ◌/◌, ◌%◌, ◌≤◌, ◌<◌}
 use native.Mathlib.Nat.{not-suc-le-zero}
 use native.Mathlib.Omega.{arith}
-use borrow.Author.Tests.{eqb-true, eqb-false, eq-eqb, ltb-true, ltb-false, leb-true, lt-ltb, le-ltb, ne_eqb}
+use borrow.Author.Tests.{eqb-true, eqb-false, eq-eqb, ltb-true, ltb-false, lt-ltb, le-ltb, ne_eqb}
 use lib.ListN.{length, get_or, length-append, get_or-append}
-use lib.Dec.{ltb, leb, eqb}
-use Rattle.lists.specs.Every.{below}
-use Rattle.lists.proofs.Every.{below_at}
+use lib.Dec.{ltb, eqb}
+use Rattle.digits.proofs.DigitLaws.{value-digit, digit-back}
 use Rattle.fields.specs.Hex.{hex_digit, digits_in, hex_digits, hex_numeral, hex_value, digits_of, value_from, plain}
 
 -- ---- one digit, or more
@@ -63,13 +62,6 @@ digits_more v d h i =
 
 -- ---- one digit
 
-all_digits : below (λ (v : ℕ). eqb (hex_value (hex_digit v)) v) 16 ≡ true
-unfolding hex_value hex_digit
-all_digits = refl
-
-value-digit : (d : ℕ) → d < 16 → hex_value (hex_digit d) ≡ d
-value-digit d h = eqb-true _ _ (below_at (λ (k : ℕ). eqb (hex_value (hex_digit k)) k) 16 d h all_digits)
-
 zero-digit : hex_digit 0 ≡ 48
 unfolding hex_digit
 zero-digit = refl
@@ -77,25 +69,6 @@ zero-digit = refl
 -- only 0 has the digit 0
 digit-zero : (d : ℕ) → d < 16 → hex_digit d ≡ 48 → d ≡ 0
 digit-zero d h e = sym (value-digit d h) ∙ ap hex_value (e ∙ sym zero-digit) ∙ value-digit 0 (omega arith)
-
--- a digit is the character of its value
-pub digit-back : (c : ℕ) → (hex_value c ≡ 16 → ⊥) → (hex_value c < 16) × (hex_digit (hex_value c) ≡ c)
-unfolding hex_value hex_digit
-digit-back c = go (ltb c 48) refl (leb c 57) refl (ltb c 97) refl (leb c 102) refl
-  where
-    go : (s : Bool) → ltb c 48 ≡ s → (t : Bool) → leb c 57 ≡ t → (u : Bool) → ltb c 97 ≡ u → (v : Bool) → leb c 102 ≡ v → (hex_value c ≡ 16 → ⊥)
-        → (hex_value c < 16) × (hex_digit (hex_value c) ≡ c)
-    go true e t f u g v i n = absurd (n (rw e))
-    go false e true f u g v i n =
-        let l = ltb-false c 48 e in
-        let h = leb-true c 57 f in
-        rw (e, f) (omega (arith, l, h), rw (lt-ltb (c - 48) 10 (omega (arith, l, h))) (omega (arith, l, h)))
-    go false e false f true g v i n = absurd (n (rw (e, f, g)))
-    go false e false f false g true i n =
-        let l = ltb-false c 97 g in
-        let h = leb-true c 102 i in
-        rw (e, f, g, i) (omega (arith, l, h), rw (le-ltb (c - 87) 10 (omega (arith, l, h))) (omega (arith, l, h)))
-    go false e false f false g false i n = absurd (n (rw (e, f, g, i)))
 
 digits-one : (d : ℕ) (cs : List ℕ) → d < 16 → digits_of (hex_digit d ∷ cs) ≡ hex_digit d ∷ digits_of cs
 unfolding digits_of
@@ -146,6 +119,10 @@ headed = by_digits Headed
       omega (arith, length-append (hex_digits (n / 16)) rest),
       λ some. ap (λ (c : ℕ). eqb c 48) (get_or-append (hex_digits (n / 16)) rest 0 0 (omega (arith, r.0))) ∙ r.1 (omega (arith, h)),
     ))
+
+pub some-digits : (n : ℕ) → 1 ≤ length (hex_digits n)
+unfolding Headed
+some-digits n = (headed n).0
 
 plain-head : (xs : List ℕ) → 1 ≤ length xs → eqb (get_or xs 0 0) 48 ≡ false → plain xs ≡ true
 unfolding plain
@@ -248,6 +225,13 @@ one_less n h = ap (λ (l : List ℕ). length l) (digits-large n h) ∙ length-ap
 
 pub one-digit : (n : ℕ) → n < 16 → length (hex_digits n) ≡ 1
 one-digit n h = ap (λ (l : List ℕ). length l) (digits-small n h)
+
+-- a number of one digit is under 16, and one of more is not
+pub one_alone : (n : ℕ) → length (hex_digits n) ≤ 1 → n < 16
+one_alone n h = by_size n (λ low. low) (λ high. absurd (omega (arith, h, one_less n high, some-digits (n / 16))))
+
+pub one_of_several : (n : ℕ) → 2 ≤ length (hex_digits n) → 16 ≤ n
+one_of_several n h = by_size n (λ low. absurd (omega (arith, h, one-digit n low))) (λ high. high)
 
 more-digits : (m b : ℕ) → 1 ≤ m → ((n : ℕ) → n < b → length (hex_digits n) ≤ m) → (n : ℕ) → n < 16 * b → length (hex_digits n) ≤ m + 1
 more-digits m b some short n h =

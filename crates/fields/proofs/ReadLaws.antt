@@ -1,18 +1,20 @@
 -- Laws of reading numbers. Assumes nothing.
+use Rattle.std.proofs.Common.{Option, Some, None}
+use Rattle.std.specs.Bool.{then_some}
 use mathlib.Core.Path.{◌≡◌, refl, sym, ap, ◌∙◌, subst}
-use mathlib.Core.Bool.{Bool, true, false, not, cond, ◌&&◌, true≢false}
+use mathlib.Core.Bool.{Bool, true, false, cond, ◌&&◌}
 use mathlib.Core.List.{List, [], ◌∷◌, ◌++◌, append-nil}
 use Prim.Native.Nat.{ℕ, suc, ◌+◌, ◌-◌, ◌*◌, ◌≤◌, ◌<◌}
 use native.Mathlib.Nat.{add-zero}
 use native.Mathlib.Numerals.{add-one}
 use native.Mathlib.Omega.{arith}
-use borrow.Author.Tests.{eqb-true, eq-eqb, ne_eqb, le-leb, lt-leb, leb-true, leb-false}
-use lib.ListN.{length, take, drop, get_or, drop_of_length-le, get_or-eq_default, take-append-drop}
-use lib.Seq.{drop-cons, drop-append_seam, drop-drop, get_or-drop}
+use borrow.Author.Tests.{eqb-true, eq-eqb, le-leb, lt-leb, leb-true, leb-false}
+use lib.ListN.{length, take, drop, get_or, length-take, length-drop, drop_of_length-le, get_or-eq_default, take-append-drop}
+use lib.Seq.{drop-cons, get_or-take, drop-append_seam, drop-drop, get_or-drop}
 use lib.Dec.{eqb, leb}
 use Rattle.lists.proofs.Bool.{&&-left, &&-right}
 use Rattle.fields.specs.declared.number.Number.{Number}
-use Rattle.fields.specs.Hex.{hex_digits, hex_numeral, hex_value, digits_of, value_from, plain, most_number, wrong, right, checked, digits_at, number_at, number_after}
+use Rattle.fields.specs.Hex.{hex_digits, hex_numeral, hex_value, digits_of, value_from, plain, most_number, right, checked, digits_at, number_at, number_after}
 use Rattle.fields.specs.Written.{blank_numeral}
 use Rattle.fields.proofs.HexLaws.{digits-stop, digits-go, value-cons, digits-digits, value-digits, plain-digits, digits-back}
 
@@ -48,25 +50,17 @@ module _ (text : List ℕ) (i : ℕ) where
       go true e = absurd (omega (arith, h, get_or-eq_default text 0 (leb-true (length text) i e)))
       go false e = omega (arith, leb-false (length text) i e)
 
--- ---- the test of digits by its indices
+-- the part of a text from an index on
+module _ (text : List ℕ) (at : ℕ) where
+  pub part-long : length (take (length text - at) (drop at text)) ≡ length text - at
+  part-long = simp (length-take, length-drop) (omega arith)
 
-pub plain-none : (xs : List ℕ) (n : ℕ) → n ≡ 0 → plain (take n xs) ≡ false
-unfolding plain
-plain-none xs n e = rw e
-
-pub plain-single : (xs : List ℕ) (n : ℕ) → n ≡ 1 → 1 ≤ length xs → plain (take n xs) ≡ true
-unfolding plain
-plain-single [] n e h = absurd (omega (arith, h))
-plain-single (x ∷ xs) n e h = rw e
-
-pub plain-several : (xs : List ℕ) (n : ℕ) → 2 ≤ n → n ≤ length xs → plain (take n xs) ≡ not (eqb (get_or xs 0 0) 48)
-unfolding plain
-plain-several xs n low h = go (n - 2) xs (omega (arith, low)) h
-  where
-    go : (k : ℕ) (xs : List ℕ) → n ≡ suc (suc k) → n ≤ length xs → plain (take n xs) ≡ not (eqb (get_or xs 0 0) 48)
-    go k [] e h = absurd (omega (arith, e, h))
-    go k (x ∷ []) e h = absurd (omega (arith, e, h))
-    go k (x ∷ y ∷ ys) e h = rw e
+  pub part-here : (k i : ℕ) → k < length (take (length text - at) (drop at text)) → i ≡ at + k
+      → get_or (take (length text - at) (drop at text)) k 0 ≡ get_or text i 0
+  part-here k i h e =
+      get_or-take (length text - at) (drop at text) k 0 (omega (arith, h, part-long))
+      ∙ get_or-drop at text k 0
+      ∙ ap (λ (n : ℕ). get_or text n 0) (sym e)
 
 -- ---- a turn of the loop that reads digits
 
@@ -86,6 +80,10 @@ module _ (text : List ℕ) (i : ℕ) (h : i < length text) where
 pub stops_end : (text : List ℕ) (i : ℕ) → length text ≤ i → digits_of (drop i text) ≡ []
 unfolding digits_of
 stops_end text i h = rw (drop_of_length-le text h)
+
+pub some_checked : (t : Bool) (v n : ℕ) → then_some t (record { value = v; next = n }) ≡ checked t v n
+some_checked true v n = refl
+some_checked false v n = refl
 
 -- ---- what the digits passed make
 
@@ -122,7 +120,7 @@ module _ (at : ℕ) (text : List ℕ) (value i : ℕ)
       ∙ ap (λ (j : ℕ). checked (plain ds && leb (value_from 0 ds) most_number) (value_from 0 ds) j) (sym n)
 
 -- the digits make too much already
-pub too_much : (at : ℕ) (text : List ℕ) (value : ℕ) (cs : List ℕ) → value_from value cs ≡ value_from 0 (digits_of (drop at text)) → most_number < value → wrong ≡ digits_at text at
+pub too_much : (at : ℕ) (text : List ℕ) (value : ℕ) (cs : List ℕ) → value_from value cs ≡ value_from 0 (digits_of (drop at text)) → most_number < value → None ≡ digits_at text at
 unfolding digits_at
 too_much at text value cs same high =
     let ds = digits_of (drop at text) in
@@ -133,29 +131,11 @@ too_much at text value cs same high =
 -- ---- the number at an index
 
 module _ (text : List ℕ) (at : ℕ) where
-  pub number-first : (get_or text at 0 ≡ 48 → ⊥) → wrong ≡ number_at text at
-  unfolding number_at
-  number-first n = rw (ne_eqb (get_or text at 0) 48 n)
-
-  pub number-second : (get_or text (at + 1) 0 ≡ 120 → ⊥) → wrong ≡ number_at text at
-  unfolding number_at
-  number-second n = rw (ne_eqb (get_or text (at + 1) 0) 120 n, and-false (eqb (get_or text at 0) 48))
-
-  pub number_short : length text ≤ at + 1 → wrong ≡ number_at text at
-  number_short h = number-second (λ e. omega (arith, e, get_or-eq_default text 0 h))
-
-  pub number_digits : get_or text at 0 ≡ 48 → get_or text (at + 1) 0 ≡ 120 → digits_at text (at + 2) ≡ number_at text at
+  number_digits : get_or text at 0 ≡ 48 → get_or text (at + 1) 0 ≡ 120 → number_at text at ≡ digits_at text (at + 2)
   unfolding number_at
   number_digits e f = rw (eq-eqb (get_or text at 0) 48 e, eq-eqb (get_or text (at + 1) 0) 120 f)
 
-  pub after-other : (get_or text at 0 ≡ 32 → ⊥) → wrong ≡ number_after text at
-  unfolding number_after
-  after-other n = rw (ne_eqb (get_or text at 0) 32 n)
-
-  pub after-end : length text ≤ at → wrong ≡ number_after text at
-  after-end h = after-other (λ e. omega (arith, e, get_or-eq_default text 0 h))
-
-  pub after-blank : get_or text at 0 ≡ 32 → number_at text (at + 1) ≡ number_after text at
+  after-blank : get_or text at 0 ≡ 32 → number_after text at ≡ number_at text (at + 1)
   unfolding number_after
   after-blank e = rw (eq-eqb (get_or text at 0) 32 e)
 
@@ -177,7 +157,7 @@ numeral-is-read text at n after e h none =
     let two : at + 1 + 1 ≡ at + 2 = omega arith in
     let digits : drop (at + 2) text ≡ hex_digits n ++ after = ap (λ (k : ℕ). drop k text) (sym two) ∙ stands-rest text (at + 1) 120 (hex_digits n ++ after) rest in
     let next : at + 2 + length (hex_digits n) ≡ at + suc (suc (length (hex_digits n))) = omega arith in
-    sym (number_digits text at (stands-first text at 48 _ e) (stands-first text (at + 1) 120 _ rest))
+    number_digits text at (stands-first text at 48 _ e) (stands-first text (at + 1) 120 _ rest)
     ∙ digits-are-read text (at + 2) n after digits h none
     ∙ ap (right n) next
 
@@ -186,7 +166,7 @@ pub blank-is-read : (text : List ℕ) (at n : ℕ) (after : List ℕ) → drop a
 unfolding blank_numeral
 blank-is-read text at n after e h none =
     let next : at + 1 + length (hex_numeral n) ≡ at + suc (length (hex_numeral n)) = omega arith in
-    sym (after-blank text at (stands-first text at 32 _ e))
+    after-blank text at (stands-first text at 32 _ e)
     ∙ numeral-is-read text (at + 1) n after (stands-rest text at 32 _ e) h none
     ∙ ap (right n) next
 
@@ -198,9 +178,16 @@ pub record Stands (write : ℕ → List ℕ) (text : List ℕ) (at : ℕ) (n : N
   pub fits : n.value < 4294967296
   pub next-is : n.next ≡ at + length (write n.value)
 
-checked-ok : (t : Bool) (v n : ℕ) → (checked t v n).ok ≡ true → t ≡ true
-checked-ok true v n e = refl
-checked-ok false v n e = absurd (true≢false (sym e))
+-- what a test lets through was there, and the test was passed
+pub only : {A : Type 0} (t : Bool) (o : Option A) (x : A) → cond t o None ≡ Some x → (t ≡ true) × (o ≡ Some x)
+only true o x e = (refl, e)
+only false o x e = absurd (none_some x e)
+  where
+    none_some : {A : Type 0} (x : A) → None ≡ Some x → ⊥
+    none_some x e = cc
+
+pub some_only : {A : Type 0} (t : Bool) (x y : A) → cond t (Some x) None ≡ Some y → (t ≡ true) × (x ≡ y)
+some_only t x y e = let found = only t (Some x) y e in let is : Some x ≡ Some y = found.1 in (found.0, cc)
 
 split-digits : (at : ℕ) (text : List ℕ) → drop at text ≡ digits_of (drop at text) ++ drop (at + length (digits_of (drop at text))) text
 split-digits at text =
@@ -209,36 +196,31 @@ split-digits at text =
     ∙ ap (λ (l : List ℕ). l ++ drop (length ds) (drop at text)) (take-digits (drop at text))
     ∙ ap (λ (l : List ℕ). ds ++ l) (drop-drop (length ds) at text)
 
-digits-stand : (text : List ℕ) (at : ℕ) → (digits_at text at).ok ≡ true → Stands hex_digits text at (digits_at text at)
+digits-stand : (text : List ℕ) (at : ℕ) (n : Number) → digits_at text at ≡ Some n → Stands hex_digits text at n
 unfolding digits_at
-digits-stand text at ok =
+digits-stand text at n e =
     let ds = digits_of (drop at text) in
     let v = value_from 0 ds in
     let t = plain ds && leb v most_number in
-    let passed : t ≡ true = checked-ok t v (at + length ds) ok in
-    let back : hex_digits v ≡ ds = digits-back (drop at text) (&&-left (plain ds) (leb v most_number) passed) in
-    let stands : Stands hex_digits text at (right v (at + length ds)) = record {
+    let m : Number = record { value = v; next = at + length ds } in
+    let found = some_only t m n e in
+    let back : hex_digits v ≡ ds = digits-back (drop at text) (&&-left (plain ds) (leb v most_number) found.0) in
+    let stands : Stands hex_digits text at m = record {
       text-here = split-digits at text ∙ ap (λ (l : List ℕ). l ++ drop (at + length ds) text) (sym back);
-      fits = omega (arith, leb-true v most_number (&&-right (plain ds) (leb v most_number) passed));
+      fits = omega (arith, leb-true v most_number (&&-right (plain ds) (leb v most_number) found.0));
       next-is = ap (λ (l : List ℕ). at + length l) (sym back);
     } in
-    subst (λ (s : Bool). Stands hex_digits text at (checked s v (at + length ds))) (sym passed) stands
+    subst (λ (x : Number). Stands hex_digits text at x) found.1 stands
 
-cond-ok : (t : Bool) (n : Number) → (cond t n wrong).ok ≡ true → t ≡ true
-cond-ok true n e = refl
-cond-ok false n e = absurd (true≢false (sym e))
-
-pub numeral-stands : (text : List ℕ) (at : ℕ) → (number_at text at).ok ≡ true → Stands hex_numeral text at (number_at text at)
+pub numeral-stands : (text : List ℕ) (at : ℕ) (n : Number) → number_at text at ≡ Some n → Stands hex_numeral text at n
 unfolding number_at hex_numeral
-numeral-stands text at ok =
-    let t = eqb (get_or text at 0) 48 && eqb (get_or text (at + 1) 0) 120 in
-    let n = digits_at text (at + 2) in
-    let both : t ≡ true = cond-ok t n ok in
-    let one : get_or text at 0 ≡ 48 = eqb-true _ _ (&&-left (eqb (get_or text at 0) 48) (eqb (get_or text (at + 1) 0) 120) both) in
-    let two : get_or text (at + 1) 0 ≡ 120 = eqb-true _ _ (&&-right (eqb (get_or text at 0) 48) (eqb (get_or text (at + 1) 0) 120) both) in
-    let s = digits-stand text (at + 2) (subst (λ (s : Bool). (cond s n wrong).ok ≡ true) both ok) in
+numeral-stands text at n e =
+    let found = only (eqb (get_or text at 0) 48 && eqb (get_or text (at + 1) 0) 120) (digits_at text (at + 2)) n e in
+    let one : get_or text at 0 ≡ 48 = eqb-true _ _ (&&-left (eqb (get_or text at 0) 48) (eqb (get_or text (at + 1) 0) 120) found.0) in
+    let two : get_or text (at + 1) 0 ≡ 120 = eqb-true _ _ (&&-right (eqb (get_or text at 0) 48) (eqb (get_or text (at + 1) 0) 120) found.0) in
+    let s = digits-stand text (at + 2) n found.1 in
     let sum : at + 1 + 1 ≡ at + 2 = omega arith in
-    let stands : Stands hex_numeral text at n = record {
+    record {
       text-here =
           here text at (stands-within text at (omega (arith, one)))
           ∙ ap (λ (k : ℕ). k ∷ drop (at + 1) text) one
@@ -248,23 +230,19 @@ numeral-stands text at ok =
           ∙ ap (λ (l : List ℕ). 48 ∷ 120 ∷ l) s.text-here;
       fits = s.fits;
       next-is = s.next-is ∙ omega arith;
-    } in
-    subst (λ (s : Bool). Stands hex_numeral text at (cond s n wrong)) (sym both) stands
+    }
 
-pub blank_stands : (text : List ℕ) (at : ℕ) → (number_after text at).ok ≡ true → Stands blank_numeral text at (number_after text at)
+pub blank_stands : (text : List ℕ) (at : ℕ) (n : Number) → number_after text at ≡ Some n → Stands blank_numeral text at n
 unfolding number_after blank_numeral
-blank_stands text at ok =
-    let t = eqb (get_or text at 0) 32 in
-    let n = number_at text (at + 1) in
-    let blank : t ≡ true = cond-ok t n ok in
-    let one : get_or text at 0 ≡ 32 = eqb-true _ _ blank in
-    let s = numeral-stands text (at + 1) (subst (λ (s : Bool). (cond s n wrong).ok ≡ true) blank ok) in
-    let stands : Stands blank_numeral text at n = record {
+blank_stands text at n e =
+    let found = only (eqb (get_or text at 0) 32) (number_at text (at + 1)) n e in
+    let one : get_or text at 0 ≡ 32 = eqb-true _ _ found.0 in
+    let s = numeral-stands text (at + 1) n found.1 in
+    record {
       text-here =
           here text at (stands-within text at (omega (arith, one)))
           ∙ ap (λ (k : ℕ). k ∷ drop (at + 1) text) one
           ∙ ap (λ (l : List ℕ). 32 ∷ l) s.text-here;
       fits = s.fits;
       next-is = s.next-is ∙ omega arith;
-    } in
-    subst (λ (s : Bool). Stands blank_numeral text at (cond s n wrong)) (sym blank) stands
+    }

@@ -1,9 +1,8 @@
 -- A line as an answer: the third field says whether it failed.
-use Rattle.std.specs.Prelude.{◌≡◌, Bool, true, false, cond, ◌&&◌, ◌||◌, List, ℕ, ◌<◌, eqb}
+use Rattle.std.specs.Prelude.{◌≡◌, Bool, true, cond, Option, Some, None, ◌&&◌, ◌||◌, List, ℕ, ◌<◌, eqb}
 use Rattle.fields.specs.declared.write.Fields.{Fields}
 use Rattle.fields.specs.declared.read.Line.{Line}
 use Rattle.fields.specs.declared.answer.TextAnswer.{TextAnswer}
-use Rattle.fields.specs.declared.answer.AnswerLine.{AnswerLine}
 use Rattle.fields.specs.Letters.{known}
 use Rattle.fields.specs.Read.{line_of}
 
@@ -19,18 +18,14 @@ answer_fields a = record { pid = a.pid; letter = a.letter; third = cond a.failed
 unfoldable pub is_flag : ℕ → Bool
 is_flag n = eqb n 0 || eqb n failed_flag
 
--- no answer
-abbrev pub no_answer : AnswerLine
-no_answer = record { ok = false; answer = record { pid = 0; letter = 0; failed = false; value = 0 } }
-
 -- a line as an answer: a whole one, whose third field is 0 or the flag
-unfoldable pub answer_from : Line → AnswerLine
+unfoldable pub answer_from : Line → Option TextAnswer
 answer_from l =
     cond (l.whole && is_flag l.third)
-    (record { ok = true; answer = record { pid = l.pid; letter = l.letter; failed = eqb l.third failed_flag; value = l.fourth } }) no_answer
+    (Some (record { pid = l.pid; letter = l.letter; failed = eqb l.third failed_flag; value = l.fourth })) None
 
 -- a text as an answer
-unfoldable pub answer_of : List ℕ → AnswerLine
+unfoldable pub answer_of : List ℕ → Option TextAnswer
 answer_of text = answer_from (line_of text)
 
 -- what an answer can say: one of the eight requests, and numbers of 32 bits

@@ -1,12 +1,10 @@
 -- A number as text: `0x` and 'lower-case hex without leading zeros'.
-use Rattle.std.specs.Prelude.{Bool, true, false, not, cond, ◌&&◌, List, [], ◌∷◌, ◌++◌, ℕ, zero, suc, ◌+◌, ◌-◌, ◌*◌, ◌/◌, ◌%◌, length, drop, get_or, ltb, leb, eqb}
+use Rattle.std.specs.Prelude.{Option, Some, None, Bool, true, false, not, cond, ◌&&◌, List, [], ◌∷◌, ◌++◌, ℕ, zero, suc, ◌+◌, ◌*◌, ◌/◌, ◌%◌, length, drop, get_or, ltb, leb, eqb}
+-- the digit of a number, and the number of a digit, or 16 where the character is none
+unfoldable pub use Rattle.digits.specs.Digit.{digit as hex_digit, value as hex_value}
 use Rattle.fields.specs.declared.number.Number.{Number}
 
 -- ---- writing
-
--- the digit of a number under 16: '0' to '9', then 'a' to 'f'
-unfoldable pub hex_digit : ℕ → ℕ
-hex_digit v = cond (ltb v 10) (48 + v) (87 + v)
 
 -- the digits of a number, at most so many: its last digit, after those of the rest if there is one
 unfoldable pub digits_in : ℕ → ℕ → List ℕ
@@ -27,10 +25,6 @@ hex_numeral n = 48 ∷ 120 ∷ hex_digits n
 abbrev pub most_number : ℕ
 most_number = 4294967295
 
--- the value of a digit, or 16 where the character is none
-unfoldable pub hex_value : ℕ → ℕ
-hex_value c = cond (ltb c 48) 16 (cond (leb c 57) (c - 48) (cond (ltb c 97) 16 (cond (leb c 102) (c - 87) 16)))
-
 -- the digits that a text begins with
 unfoldable pub digits_of : List ℕ → List ℕ
 digits_of [] = []
@@ -47,28 +41,24 @@ plain [] = false
 plain (c ∷ []) = true
 plain (c ∷ d ∷ ds) = not (eqb c 48)
 
--- no number
-abbrev pub wrong : Number
-wrong = record { ok = false; value = 0; next = 0 }
-
 -- a number, and the index after it
-abbrev pub right : ℕ → ℕ → Number
-right value next = record { ok = true; value = value; next = next }
+abbrev pub right : ℕ → ℕ → Option Number
+right value next = Some (record { value = value; next = next })
 
 -- a number that passed its test, or none
-abbrev pub checked : Bool → ℕ → ℕ → Number
-checked t value next = cond t (right value next) wrong
+abbrev pub checked : Bool → ℕ → ℕ → Option Number
+checked t value next = cond t (right value next) None
 
 -- all digits that stand at an index, if they are those of a number of 32 bits
-unfoldable pub digits_at : List ℕ → ℕ → Number
+unfoldable pub digits_at : List ℕ → ℕ → Option Number
 digits_at text at =
     checked (plain (digits_of (drop at text)) && leb (value_from 0 (digits_of (drop at text))) most_number)
     (value_from 0 (digits_of (drop at text))) (at + length (digits_of (drop at text)))
 
 -- the number at an index: `0x` and digits
-unfoldable pub number_at : List ℕ → ℕ → Number
-number_at text at = cond (eqb (get_or text at 0) 48 && eqb (get_or text (at + 1) 0) 120) (digits_at text (at + 2)) wrong
+unfoldable pub number_at : List ℕ → ℕ → Option Number
+number_at text at = cond (eqb (get_or text at 0) 48 && eqb (get_or text (at + 1) 0) 120) (digits_at text (at + 2)) None
 
 -- the number after a blank at an index
-unfoldable pub number_after : List ℕ → ℕ → Number
-number_after text at = cond (eqb (get_or text at 0) 32) (number_at text (at + 1)) wrong
+unfoldable pub number_after : List ℕ → ℕ → Option Number
+number_after text at = cond (eqb (get_or text at 0) 32) (number_at text (at + 1)) None

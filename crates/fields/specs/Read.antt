@@ -1,5 +1,5 @@
 -- Reading a line of four fields.
-use Rattle.std.specs.Prelude.{Bool, true, false, cond, ◌&&◌, ◌||◌, List, [], ◌∷◌, ℕ, ◌+◌, length, drop, get_or, eqb}
+use Rattle.std.specs.Prelude.{Option, Some, None, Bool, true, false, cond, ◌&&◌, ◌||◌, List, [], ◌∷◌, ℕ, ◌+◌, length, drop, get_or, eqb}
 use Rattle.fields.specs.declared.write.Fields.{Fields}
 use Rattle.fields.specs.declared.number.Number.{Number}
 use Rattle.fields.specs.declared.read.Head.{Head}
@@ -14,19 +14,20 @@ unfoldable pub separates : List ℕ → Bool
 separates [] = true
 separates (c ∷ cs) = eqb c 32 || eqb c 10
 
--- they cannot be read
-abbrev pub no_head : Head
-no_head = record { ok = false; pid = 0; letter = 0; next = 0 }
-
 -- a number was read: a blank, one of the eight letters and the end of the field follow it
-unfoldable pub head_after : List ℕ → Number → Head
+unfoldable pub head_after : List ℕ → Number → Option Head
 head_after text n =
-    cond (n.ok && (eqb (get_or text n.next 0) 32 && (known (get_or text (n.next + 1) 0) && separates (drop (n.next + 2) text))))
-    (record { ok = true; pid = n.value; letter = get_or text (n.next + 1) 0; next = n.next + 2 }) no_head
+    cond (eqb (get_or text n.next 0) 32 && (known (get_or text (n.next + 1) 0) && separates (drop (n.next + 2) text)))
+    (Some (record { pid = n.value; letter = get_or text (n.next + 1) 0; next = n.next + 2 })) None
+
+-- perhaps a number was read
+abbrev pub head_from : List ℕ → Option Number → Option Head
+head_from text None = None
+head_from text (Some n) = head_after text n
 
 -- they stand at the start
-unfoldable pub head_of : List ℕ → Head
-head_of text = head_after text (number_at text 0)
+unfoldable pub head_of : List ℕ → Option Head
+head_of text = head_from text (number_at text 0)
 
 -- ---- the line
 
@@ -46,16 +47,30 @@ whole_line f = record { headed = true; whole = true; pid = f.pid; letter = f.let
 unfoldable pub ends_at : List ℕ → ℕ → Bool
 ends_at text at = eqb (get_or text at 0) 10 && eqb (length text) (at + 1)
 
--- the process and the request were read, and perhaps two numbers: both have to be there, and the line has to end
-unfoldable pub line_after : List ℕ → Head → Number → Number → Line
-line_after text h n m =
-    cond (n.ok && (m.ok && ends_at text m.next))
-    (whole_line (record { pid = h.pid; letter = h.letter; third = n.value; fourth = m.value })) (head_only h.pid h.letter)
+-- the first three fields were read, and perhaps the fourth: it has to be there, and the line has to end
+abbrev pub fields_with : List ℕ → Head → Number → Option Number → Option Fields
+fields_with text h n None = None
+fields_with text h n (Some m) =
+    cond (ends_at text m.next) (Some (record { pid = h.pid; letter = h.letter; third = n.value; fourth = m.value })) None
 
--- the line after the process and the request
-unfoldable pub line_from : List ℕ → Head → Line
-line_from text h =
-    cond h.ok (line_after text h (number_after text h.next) (number_after text (number_after text h.next).next)) unread
+-- the process and the request were read, and perhaps a third field
+abbrev pub fields_from : List ℕ → Head → Option Number → Option Fields
+fields_from text h None = None
+fields_from text h (Some n) = fields_with text h n (number_after text n.next)
+
+-- all four fields, after the process and the request
+abbrev pub fields_after : List ℕ → Head → Option Fields
+fields_after text h = fields_from text h (number_after text h.next)
+
+-- the process and the request were read, and perhaps all four fields
+unfoldable pub line_after : Head → Option Fields → Line
+line_after h None = head_only h.pid h.letter
+line_after h (Some f) = whole_line f
+
+-- perhaps the process and the request were read
+unfoldable pub line_from : List ℕ → Option Head → Line
+line_from text None = unread
+line_from text (Some h) = line_after h (fields_after text h)
 
 -- a text as a line
 unfoldable pub line_of : List ℕ → Line

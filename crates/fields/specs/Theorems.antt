@@ -1,5 +1,5 @@
 -- The statements that the contracts of theorems.rt carry.
-use Rattle.std.specs.Prelude.{◌≡◌, true, false, List, ◌∷◌, ◌++◌, ℕ, ◌+◌, ◌≤◌, ◌<◌, length, drop}
+use Rattle.std.specs.Prelude.{◌≡◌, true, false, Some, List, ◌∷◌, ◌++◌, ℕ, ◌+◌, ◌≤◌, ◌<◌, length, drop}
 use Rattle.fields.specs.declared.write.Fields.{Fields}
 use Rattle.fields.specs.declared.answer.TextAnswer.{TextAnswer}
 use Rattle.fields.specs.Letters.{known}
@@ -22,10 +22,9 @@ pub record ReadsLines : Type 0 where
 -- the same of answers
 pub record ReadsAnswers : Type 0 where
   -- the line of an answer is read as it
-  pub answer-is-read : (a : TextAnswer) → SayableAnswer a → answer_of (written (answer_fields a)) ≡ record { ok = true; answer = a }
+  pub answer-is-read : (a : TextAnswer) → SayableAnswer a → answer_of (written (answer_fields a)) ≡ Some a
   -- and only the line of an answer is read as one
-  pub read-is-answer : (text : List ℕ) → (answer_of text).ok ≡ true
-      → (text ≡ written (answer_fields (answer_of text).answer)) × SayableAnswer (answer_of text).answer
+  pub read-is-answer : (text : List ℕ) (a : TextAnswer) → answer_of text ≡ Some a → (text ≡ written (answer_fields a)) × SayableAnswer a
 
 -- what is read where the rest of a line is not
 pub record ReadsHeads : Type 0 where

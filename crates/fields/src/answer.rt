@@ -2,13 +2,13 @@
 ghost use Rattle.std.specs.Prelude.{◌≡◌, ◌≤◌, length};
 ghost use Rattle.lists.specs.Buffer.{overlay};
 ghost use Rattle.fields.specs.Written.{written, line_bytes};
-ghost use Rattle.fields.specs.Answer.{is_flag, answer_fields, no_answer, answer_of};
+ghost use Rattle.fields.specs.Answer.{is_flag, answer_fields, answer_of};
 
 use crate::read::read_line;
 use crate::write::{Fields, write_fields};
 
 // The third field of an answer that failed; it is 0 in all others.
-const FAILED_FLAG: u32 = 4294967295;
+const FAILED_FLAG: u32 = 0xffff_ffff;
 
 // An answer: process and request as they were asked, whether it failed, and the response, which is the error number where it did.
 #[derive(Clone, Copy)]
@@ -19,53 +19,25 @@ pub struct TextAnswer {
     pub value: u32,
 }
 
-// What reading a text as an answer gives: whether it is one, and which; all 0 where it is none.
-#[derive(Clone, Copy)]
-pub struct AnswerLine {
-    pub ok: bool,
-    pub answer: TextAnswer,
-}
-
 // Whether a third field is one of an answer: 0, or the flag.
+#[tactic(auto, unfolding(crate::specs::Answer::is_flag))]
 fn is_flag(third: u32) -> bool
     ensures { result ≡ is_flag third }
 {
-    if third == 0 {
-        return true;
-    }
-    third == FAILED_FLAG
+    matches!(third, 0 | FAILED_FLAG)
 }
 
-impl TextAnswer {
+impl From<TextAnswer> for Fields {
+    ghost from_gives = { λ a fields. fields ≡ answer_fields a };
+
     // The four fields of its line.
-    fn fields(self) -> Fields
-        ensures { result ≡ answer_fields self }
-    {
-        let mut third = 0;
-        if self.failed {
-            third = FAILED_FLAG;
-        }
+    #[tactic(auto, unfolding(crate::specs::Answer::answer_fields))]
+    fn from(a: TextAnswer) -> Fields {
         Fields {
-            pid: self.pid,
-            letter: self.letter,
-            third: third,
-            fourth: self.value,
-        }
-    }
-}
-
-impl AnswerLine {
-    fn none() -> AnswerLine
-        ensures { result ≡ no_answer }
-    {
-        AnswerLine {
-            ok: false,
-            answer: TextAnswer {
-                pid: 0,
-                letter: 0,
-                failed: false,
-                value: 0,
-            },
+            pid: a.pid,
+            letter: a.letter,
+            third: if a.failed { FAILED_FLAG } else { 0 },
+            fourth: a.value,
         }
     }
 }
@@ -77,27 +49,22 @@ pub fn write_answer(a: TextAnswer, out: &mut [u8]) -> usize
     ensures upper_bound { result ≤ line_bytes }
     ensures out_after { out.new ≡ overlay (written (answer_fields a)) out.old }
 {
-    write_fields(a.fields(), out)
+    write_fields(Fields::from(a), out)
 }
 
-// A text as an answer.
-pub fn read_answer(text: &[u8]) -> AnswerLine
+// A text as an answer, if it is the line of one.
+#[tactic(auto, unfolding(crate::specs::Answer::answer_of, crate::specs::Answer::answer_from))]
+pub fn read_answer(text: &[u8]) -> Option<TextAnswer>
     ensures { result ≡ answer_of text.now }
 {
     let line = read_line(text);
-    if !line.whole {
-        return AnswerLine::none();
+    if !line.whole || !is_flag(line.third) {
+        return None;
     }
-    if !is_flag(line.third) {
-        return AnswerLine::none();
-    }
-    AnswerLine {
-        ok: true,
-        answer: TextAnswer {
-            pid: line.pid,
-            letter: line.letter,
-            failed: line.third == FAILED_FLAG,
-            value: line.fourth,
-        },
-    }
+    Some(TextAnswer {
+        pid: line.pid,
+        letter: line.letter,
+        failed: line.third == FAILED_FLAG,
+        value: line.fourth,
+    })
 }

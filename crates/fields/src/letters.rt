@@ -2,54 +2,44 @@
 ghost use Rattle.std.specs.Prelude.{◌≡◌};
 ghost use Rattle.fields.specs.Letters.{known};
 
-// A word of code is read: `i`.
-pub const READ_CODE: u8 = 105;
+// A word of code is read.
+pub const READ_CODE: u8 = b'i';
 
-// A word of data is read: `d`.
-pub const READ_DATA: u8 = 100;
+// A word of data is read.
+pub const READ_DATA: u8 = b'd';
 
-// A word of code is written: `I`.
-pub const WRITE_CODE: u8 = 73;
+// A word of code is written.
+pub const WRITE_CODE: u8 = b'I';
 
-// A word of data is written: `D`.
-pub const WRITE_DATA: u8 = 68;
+// A word of data is written.
+pub const WRITE_DATA: u8 = b'D';
 
-// A register is read: `r`.
-pub const READ_REGISTER: u8 = 114;
+// A register is read.
+pub const READ_REGISTER: u8 = b'r';
 
-// A register is written: `R`.
-pub const WRITE_REGISTER: u8 = 82;
+// A register is written.
+pub const WRITE_REGISTER: u8 = b'R';
 
-// The process goes on: `c`.
-pub const CONTINUE: u8 = 99;
+// The process goes on.
+pub const CONTINUE: u8 = b'c';
 
-// The process takes one step: `s`.
-pub const STEP: u8 = 115;
+// The process takes one step.
+pub const STEP: u8 = b's';
 
 // Whether a character is one of these eight.
+#[tactic(auto, unfolding(crate::specs::Letters::known))]
 pub fn is_known(c: u8) -> bool
     ensures { result ≡ known c }
 {
-    if c == READ_CODE {
-        return true;
-    }
-    if c == READ_DATA {
-        return true;
-    }
-    if c == WRITE_CODE {
-        return true;
-    }
-    if c == WRITE_DATA {
-        return true;
-    }
-    if c == READ_REGISTER {
-        return true;
-    }
-    if c == WRITE_REGISTER {
-        return true;
-    }
-    if c == CONTINUE {
-        return true;
-    }
-    c == STEP
+    matches!(
+        c,
+        READ_CODE
+            | READ_DATA
+            | WRITE_CODE
+            | WRITE_DATA
+            | READ_REGISTER
+            | WRITE_REGISTER
+            | CONTINUE
+            | STEP
+    )
 }

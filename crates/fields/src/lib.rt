@@ -9,7 +9,7 @@ mod read;
 pub mod theorems;
 mod write;
 
-pub use answer::{AnswerLine, TextAnswer, read_answer, write_answer};
+pub use answer::{TextAnswer, read_answer, write_answer};
 pub use letters::{
     CONTINUE, READ_CODE, READ_DATA, READ_REGISTER, STEP, WRITE_CODE, WRITE_DATA, WRITE_REGISTER,
     is_known,

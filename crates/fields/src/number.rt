@@ -1,122 +1,71 @@
 // Reading a number: `0x` and lower-case hex digits without leading zeros, of 32 bits.
-ghost use Rattle.std.specs.Prelude.{◌≡◌, ◌-◌, ◌≤◌, length, take, drop};
-ghost use Rattle.fields.specs.Hex.{hex_value, plain, wrong, checked, digits_at, number_at, number_after};
+ghost use Rattle.std.specs.Prelude.{◌≡◌, ◌≤◌, length};
+ghost use Rattle.fields.specs.Hex.{plain, digits_at, number_at, number_after};
 
-// A number, or nothing; and the index after it.
+use digits::digit_value;
+
+// The greatest number that one digit more leaves within 32 bits.
+const MOST_BEFORE: u32 = 0x0fff_ffff;
+
+// A number that was read, and the index after it.
 #[derive(Clone, Copy)]
 pub struct Number {
-    pub ok: bool,
     pub value: u32,
     pub next: usize,
 }
 
-// The value of a digit, or 16.
-fn digit_value(c: u8) -> u8
-    ensures value { result ≡ hex_value c }
-    ensures upper_bound { result ≤ 16 }
+// Whether digits are those of a number: one at least, and no zero before others.
+#[tactic(auto, unfolding(crate::specs::Hex::plain))]
+fn is_plain(digits: &[u8]) -> bool
+    ensures { result ≡ plain digits.now }
 {
-    if c < 48 {
-        return 16;
+    match digits {
+        [] => false,
+        [_] => true,
+        [first, ..] => *first != b'0',
     }
-    if c <= 57 {
-        return c - 48;
-    }
-    if c < 97 {
-        return 16;
-    }
-    if c <= 102 {
-        return c - 87;
-    }
-    16
-}
-
-// Whether digits between two indices are those of a number: one at least, and no zero before others.
-fn is_plain(text: &[u8], at: usize, end: usize) -> bool
-    requires { end ≤ length text.now }
-    ensures { result ≡ plain (take (end - at) (drop at text.now)) }
-{
-    if end <= at {
-        return false;
-    }
-    if end - at == 1 {
-        return true;
-    }
-    text[at] != 48
 }
 
 impl Number {
-    fn wrong() -> Number
-        ensures { result ≡ wrong }
-    {
-        Number {
-            ok: false,
-            value: 0,
-            next: 0,
-        }
-    }
-
-    // The number whose digits stand between two indices.
-    fn checked(text: &[u8], at: usize, end: usize, value: u32) -> Number
-        requires { end ≤ length text.now }
-        ensures { result ≡ checked (plain (take (end - at) (drop at text.now))) value end }
-    {
-        if !is_plain(text, at, end) {
-            return Number::wrong();
-        }
-        Number {
-            ok: true,
-            value: value,
-            next: end,
-        }
-    }
-
-    // The digits from an index on.
-    fn digits(text: &[u8], at: usize) -> Number
+    // The digits from an index on, as many as there are.
+    fn digits(text: &[u8], at: usize) -> Option<Number>
         requires { at ≤ length text.now }
         ensures { result ≡ digits_at text.now at }
     {
         let mut value: u32 = 0;
-        let mut i = at;
-        while i < text.len() {
-            let v = digit_value(text[i]);
-            if v == 16 {
-                return Number::checked(text, at, i, value);
+        let mut next = at;
+        for c in &text[at..] {
+            let Some(v) = digit_value(*c) else {
+                break;
+            };
+            if value > MOST_BEFORE {
+                return None;
             }
-            if 268435455 < value {
-                return Number::wrong();
-            }
-            value = 16 * value + v as u32;
-            i += 1;
+            value = 16 * value + u32::from(v);
+            next += 1;
         }
-        Number::checked(text, at, i, value)
+        is_plain(&text[at..next]).then_some(Number { value, next })
     }
 
     // The number at an index.
-    pub fn at(text: &[u8], at: usize) -> Number
+    #[tactic(auto, unfolding(crate::specs::Hex::number_at))]
+    pub fn at(text: &[u8], at: usize) -> Option<Number>
         requires { at ≤ length text.now }
         ensures { result ≡ number_at text.now at }
     {
-        if text.len() - at < 2 {
-            return Number::wrong();
+        match &text[at..] {
+            [b'0', b'x', ..] => Number::digits(text, at + 2),
+            _ => None,
         }
-        if text[at] != 48 {
-            return Number::wrong();
-        }
-        if text[at + 1] != 120 {
-            return Number::wrong();
-        }
-        Number::digits(text, at + 2)
     }
 
     // The number after a blank at an index.
-    pub fn after(text: &[u8], at: usize) -> Number
+    #[tactic(auto, unfolding(crate::specs::Hex::number_after))]
+    pub fn after(text: &[u8], at: usize) -> Option<Number>
         ensures { result ≡ number_after text.now at }
     {
-        if text.len() <= at {
-            return Number::wrong();
-        }
-        if text[at] != 32 {
-            return Number::wrong();
+        if text.get(at) != Some(&b' ') {
+            return None;
         }
         Number::at(text, at + 1)
     }

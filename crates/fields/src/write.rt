@@ -1,8 +1,10 @@
 // Writing a line.
-ghost use Rattle.std.specs.Prelude.{◌≡◌, ◌+◌, ◌≤◌, ◌<◌, length};
+ghost use Rattle.std.specs.Prelude.{◌≡◌, ◌+◌, ◌≤◌, length};
 ghost use Rattle.lists.specs.Buffer.{overlay};
-ghost use Rattle.fields.specs.Hex.{hex_digit, hex_digits, hex_numeral};
+ghost use Rattle.fields.specs.Hex.{hex_digits, hex_numeral};
 ghost use Rattle.fields.specs.Written.{Put, blank_numeral, written, line_bytes};
+
+use digits::digit;
 
 // No line is longer.
 pub const LINE_BYTES: usize = 35;
@@ -16,29 +18,19 @@ pub struct Fields {
     pub fourth: u32,
 }
 
-// The digit of a number under 16.
-fn digit(v: u8) -> u8
-    requires { v < 16 }
-    ensures { result ≡ hex_digit v }
-{
-    if v < 10 {
-        return 48 + v;
-    }
-    87 + v
-}
-
 // How many digits a number has.
 fn digit_count(n: u32) -> usize
     ensures value { result ≡ length (hex_digits n) }
     ensures upper_bound { result ≤ 8 }
 {
     let mut rest = n;
-    let mut k = 1;
-    while 16 <= rest {
-        rest = rest / 16;
-        k += 1;
+    for count in 1..8 {
+        if rest < 16 {
+            return count;
+        }
+        rest /= 16;
     }
-    k
+    8
 }
 
 // The digits of a number from an index on, the last one first; the index after them.
@@ -49,11 +41,9 @@ fn put_digits(n: u32, at: usize, out: &mut [u8]) -> usize
 {
     let end = at + digit_count(n);
     let mut rest = n;
-    let mut i = end;
-    while 16 <= rest {
-        i -= 1;
+    for i in (at + 1..end).rev() {
         out[i] = digit((rest % 16) as u8);
-        rest = rest / 16;
+        rest /= 16;
     }
     out[at] = digit(rest as u8);
     end
@@ -65,8 +55,8 @@ fn put_number(n: u32, at: usize, out: &mut [u8]) -> usize
     ensures put { Put at (hex_numeral n) out.old result out.new }
     ensures upper_bound { result ≤ at + 10 }
 {
-    out[at] = 48;
-    out[at + 1] = 120;
+    out[at] = b'0';
+    out[at + 1] = b'x';
     put_digits(n, at + 2, out)
 }
 
@@ -76,7 +66,7 @@ fn put_after_blank(n: u32, at: usize, out: &mut [u8]) -> usize
     ensures put { Put at (blank_numeral n) out.old result out.new }
     ensures upper_bound { result ≤ at + 11 }
 {
-    out[at] = 32;
+    out[at] = b' ';
     put_number(n, at + 1, out)
 }
 
@@ -88,10 +78,10 @@ pub fn write_fields(f: Fields, out: &mut [u8]) -> usize
     ensures out_after { out.new ≡ overlay (written f) out.old }
 {
     let at = put_number(f.pid, 0, out);
-    out[at] = 32;
+    out[at] = b' ';
     out[at + 1] = f.letter;
     let next = put_after_blank(f.third, at + 2, out);
     let end = put_after_blank(f.fourth, next, out);
-    out[end] = 10;
+    out[end] = b'\n';
     end + 1
 }

@@ -2,45 +2,24 @@
 use mathlib.Core.Path.{◌≡◌, refl, sym, ap, ◌∙◌}
 use mathlib.Core.Bool.{Bool, true, false, cond, true≢false}
 use mathlib.Core.List.{List, [], ◌∷◌, ◌++◌, append_assoc, append-nil}
-use Prim.Native.Nat.{ℕ, suc, ◌+◌, ◌-◌, ◌*◌, ◌/◌, ◌%◌, ◌≤◌, ◌<◌}
+use Prim.Native.Nat.{ℕ, suc, ◌+◌, ◌*◌, ◌/◌, ◌%◌, ◌≤◌, ◌<◌}
 use native.Mathlib.Omega.{arith}
-use borrow.Author.Tests.{eqb-true, ltb-true, ltb-false, leb-true, lt-ltb, le-ltb}
+use borrow.Author.Tests.{eqb-true, ltb-true, ltb-false, lt-ltb}
 use lib.ListN.{length, take, set, length-append}
 use lib.Seq.{take_all, take-append_seam, set_out}
-use lib.Dec.{ltb, leb, eqb}
+use lib.Dec.{ltb, eqb}
 use Rattle.lists.specs.Buffer.{overlay, Bytes}
-use Rattle.lists.specs.Every.{below}
-use Rattle.lists.proofs.Every.{below_at}
 use Rattle.lists.proofs.Buffer.{overlay-snoc, take-overlay, length-overlay}
+use Rattle.digits.proofs.DigitLaws.{value-digit, digit-back}
 use Rattle.lines.specs.declared.scan.Phase.{Phase}
 use Rattle.lines.specs.declared.scan.Phase.TheVariants.{Open, Half, Full, Bad}
 use Rattle.lines.specs.Hex.{digit, value, pair, pairs, spaced}
-use Rattle.lines.specs.Scan.{opened, next, made, after, bytes_of, kept, filled}
+use Rattle.lines.specs.Scan.{opened, next, full, made, after, bytes_of, kept, filled}
 use Rattle.lines.specs.Theorems.{ReadsPairs}
 use Rattle.lines.proofs.ScanLaws.{in_parts, parts-read, kept_full, filled-full}
 
--- ---- digits
-
-all_digits : below (λ (v : ℕ). eqb (value (digit v)) v) 16 ≡ true
-unfolding value digit
-all_digits = refl
-
-value-digit : (v : ℕ) → v < 16 → value (digit v) ≡ v
-value-digit v h = eqb-true _ _ (below_at (λ (k : ℕ). eqb (value (digit k)) k) 16 v h all_digits)
-
-digit_value : (c : ℕ) → value c < 16 → digit (value c) ≡ c
-unfolding value digit
-digit_value c = under (ltb c 48) refl (leb c 57) refl (ltb c 97) refl (leb c 102) refl
-  where
-    under : (s : Bool) → ltb c 48 ≡ s → (t : Bool) → leb c 57 ≡ t → (u : Bool) → ltb c 97 ≡ u → (w : Bool) → leb c 102 ≡ w
-        → cond s 16 (cond t (c - 48) (cond u 16 (cond w (c - 87) 16))) < 16
-        → cond (ltb (cond s 16 (cond t (c - 48) (cond u 16 (cond w (c - 87) 16)))) 10)
-        (48 + cond s 16 (cond t (c - 48) (cond u 16 (cond w (c - 87) 16)))) (87 + cond s 16 (cond t (c - 48) (cond u 16 (cond w (c - 87) 16)))) ≡ c
-    under true e t i u j w k h = absurd (omega (arith, h))
-    under false e true i u j w k h = rw (lt-ltb (c - 48) 10 (omega (arith, leb-true c 57 i))) (omega (arith, ltb-false c 48 e))
-    under false e false i true j w k h = absurd (omega (arith, h))
-    under false e false i false j true k h = rw (le-ltb (c - 87) 10 (omega (arith, ltb-false c 97 j))) (omega (arith, ltb-false c 97 j))
-    under false e false i false j false k h = absurd (omega (arith, h))
+digit_back : (c : ℕ) → value c < 16 → digit (value c) ≡ c
+digit_back c h = (digit-back c (λ e. omega (arith, e, h))).1
 
 -- ---- writing, then reading
 
@@ -49,9 +28,6 @@ bytes-tail b bs h i = h (suc i)
 
 -- a pair is read as its byte
 module _ (b : ℕ) (h : b < 256) where
-  high-low : b / 16 < 16
-  high-low = omega arith
-
   pair-phase : (cs : List ℕ) → after Open (pair b ++ cs) ≡ after Full cs
   unfolding after next opened
   pair-phase cs = rw (value-digit (b / 16) (omega arith), lt-ltb (b / 16) 16 (omega arith), value-digit (b % 16) (omega arith), lt-ltb (b % 16) 16 (omega arith))
@@ -110,18 +86,12 @@ unfolding after next
 bad-stays [] = refl
 bad-stays (c ∷ cs) = bad-stays cs
 
-is_full : Phase → Bool
-is_full Open = false
-is_full (Half h) = false
-is_full Full = true
-is_full Bad = false
-
-unfull : (p : Phase) → is_full p ≡ false → p ≡ Full → ⊥
-unfolding is_full
-unfull p e f = true≢false (sym (ap is_full f) ∙ e)
+unfull : (p : Phase) → full p ≡ false → p ≡ Full → ⊥
+unfolding full
+unfull p e f = true≢false (sym (ap full f) ∙ e)
 
 not-bad : (cs : List ℕ) → after Bad cs ≡ Full → ⊥
-unfolding is_full
+unfolding full
 not-bad cs e = unfull Bad refl (sym (bad-stays cs) ∙ e)
 
 -- the two digits of a pair, and what stands after it
@@ -141,7 +111,7 @@ begun c d cs = go (ltb (value c) 16) refl (ltb (value d) 16) refl
 
 -- one digit alone is no pair
 alone : (c : ℕ) → after Open (c ∷ []) ≡ Full → ⊥
-unfolding after next opened is_full
+unfolding after next opened full
 alone c = go (ltb (value c) 16) refl
   where
     go : (t : Bool) → ltb (value c) 16 ≡ t → after Open (c ∷ []) ≡ Full → ⊥
@@ -171,11 +141,11 @@ unfolding byte_of
 byte_pair c d h i =
     let high : (value c % 16 * 16 + value d) / 16 ≡ value c = omega (arith, h, i) in
     let low : (value c % 16 * 16 + value d) % 16 ≡ value d = omega (arith, h, i) in
-    rw (high, low, digit_value c h, digit_value d i)
+    rw (high, low, digit_back c h, digit_back d i)
 
 -- a line of pairs has a byte
 some_read : (cs : List ℕ) → after Open cs ≡ Full → bytes_of Open cs ≡ [] → ⊥
-unfolding after is_full
+unfolding after full
 some_read [] e = λ z. unfull Open refl e
 some_read (c ∷ []) e = λ z. alone c e
 some_read (c ∷ d ∷ cs) e = λ z. omega (arith, ap (λ (l : List ℕ). length l) (sym (read-pair c d cs (begun c d cs e)) ∙ z))
@@ -186,7 +156,7 @@ pairs-cons b [] n = absurd (n refl)
 pairs-cons b (c ∷ bs) n = refl
 
 read-is-written : (line : List ℕ) → after Open line ≡ Full → pairs (bytes_of Open line) ≡ line
-unfolding after is_full pairs bytes_of
+unfolding after full pairs bytes_of
 read-is-written [] e = absurd (unfull Open refl e)
 read-is-written (c ∷ []) e = absurd (alone c e)
 read-is-written (c ∷ d ∷ []) e =

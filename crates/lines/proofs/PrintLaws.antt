@@ -5,7 +5,7 @@ use Prim.Native.Nat.{ℕ, ◌+◌, ◌*◌, ◌/◌, ◌%◌, ◌≤◌, ◌<◌
 use native.Mathlib.Numerals.{add-one}
 use native.Mathlib.Omega.{arith}
 use lib.ListN.{length, take, get_or, length-append}
-use lib.Seq.{length-take-le, take-suc, take_all}
+use lib.Seq.{length-take-le, take-suc}
 use Rattle.lists.specs.Buffer.{overlay}
 use Rattle.lists.proofs.Buffer.{overlay-snoc}
 use Rattle.lines.specs.Hex.{digit, pair, pair_at, spaced, spaced_or_dash}
@@ -43,10 +43,6 @@ spaced-step bytes buffer out i h room e =
     ∙ pair-overlay xs buffer (get_or bytes i 0) (omega (arith, size, h, room))
     ∙ ap (λ (l : List ℕ). overlay l buffer)
     (sym (spaced-snoc (take i bytes) (get_or bytes i 0)) ∙ ap spaced (sym (take-suc bytes i 0 h) ∙ ap (λ (n : ℕ). take n bytes) (sym (add-one i))))
-
--- all of it
-pub spaced-all : (bytes : List ℕ) (i : ℕ) → length bytes ≤ i → spaced (take i bytes) ≡ spaced bytes
-spaced-all bytes i h = ap spaced (take_all i bytes h)
 
 -- ---- bytes, or a dash
 

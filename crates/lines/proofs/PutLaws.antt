@@ -5,12 +5,12 @@ use Prim.Native.Nat.{ℕ, suc, ◌+◌, ◌-◌, ◌*◌, ◌≤◌, ◌<◌}
 use native.Mathlib.Nat.{add-zero}
 use native.Mathlib.Numerals.{add-one}
 use native.Mathlib.Omega.{arith}
-use lib.ListN.{length, take, drop, get_or, set, drop_of_length-le, length-append}
-use lib.Seq.{drop-cons, sets, take_all}
+use lib.ListN.{length, take, drop, get_or, set, length-append}
+use lib.Seq.{sets, sets-eq, paste, take-length, take_all}
 use Rattle.lists.specs.Buffer.{overlay}
 use Rattle.lists.specs.Joined.{joined}
 use Rattle.lists.proofs.Joined.{joined-none, joined-more}
-use Rattle.lists.proofs.Buffer.{overlay-snoc, sets-overlay}
+use Rattle.lists.proofs.Buffer.{overlay-snoc, sets-overlay, paste-lent}
 use Rattle.lines.specs.Hex.{pair, pairs, spaced, pairs_line}
 use Rattle.lines.specs.Scan.{kept, Put}
 use Rattle.lines.proofs.PrintLaws.{length-spaced}
@@ -72,17 +72,12 @@ put-joined-all f xs i at next buffer last h = put_as at next (joined f (take i x
 pub put_whole : (next : ℕ) (xs buffer last : List ℕ) → length xs ≤ length buffer → Put 0 xs buffer next last → (next ≡ length xs) × (last ≡ overlay xs buffer)
 put_whole next xs buffer last h p = (p.0 ∙ omega arith, p.1 ∙ kept-overlay xs buffer h)
 
--- a turn of the loop that puts text, and its end
-pub kept-turn : (text out : List ℕ) (at i : ℕ) → i < length text → kept (at + i) (drop i text) out ≡ kept (at + (i + 1)) (drop (i + 1) text) (set out (at + i) (get_or text i 0))
-unfolding kept
-kept-turn text out at i h =
-    let here : drop i text ≡ get_or text i 0 ∷ drop (i + 1) text = drop-cons text i 0 h ∙ ap (λ (n : ℕ). get_or text i 0 ∷ drop n text) (sym (add-one i)) in
-    let e : at + i + 1 ≡ at + (i + 1) = omega arith in
-    ap (λ (l : List ℕ). kept (at + i) l out) here ∙ ap (λ (n : ℕ). kept n (drop (i + 1) text) (set out (at + i) (get_or text i 0))) e
-
-pub kept-done : (text out : List ℕ) (at i : ℕ) → length text ≤ i → kept at (drop i text) out ≡ out
-unfolding kept
-kept-done text out at i h = rw (drop_of_length-le text h)
+-- a text copied to its place, in the shape in which the part comes back
+pub kept-copied : (at : ℕ) (text buffer : List ℕ) → at + length text ≤ length buffer
+    → take at buffer ++ (text ++ drop (at + length text - at) (drop at buffer)) ≡ kept at text buffer
+kept-copied at text buffer h =
+    let pasted : paste buffer at text (length text) ≡ sets buffer at text = rw (take-length text) (sym (sets-eq text buffer at h)) in
+    paste-lent at text buffer ∙ pasted ∙ sym (kept_sets at text buffer)
 
 -- ---- pairs as a line
 

@@ -1,13 +1,7 @@
 -- Bytes as text: 'lower-case hex pairs parted by single blanks'.
-use Rattle.std.specs.Prelude.{cond, List, [], ◌∷◌, ◌++◌, ℕ, ◌+◌, ◌-◌, ◌/◌, ◌%◌, set, ltb, leb}
-
--- the digit of a number under 16: '0' to '9', then 'a' to 'f'
-unfoldable pub digit : ℕ → ℕ
-digit v = cond (ltb v 10) (48 + v) (87 + v)
-
--- the number of a digit, or 16 where the character is none
-unfoldable pub value : ℕ → ℕ
-value c = cond (ltb c 48) 16 (cond (leb c 57) (c - 48) (cond (ltb c 97) 16 (cond (leb c 102) (c - 87) 16)))
+use Rattle.std.specs.Prelude.{List, [], ◌∷◌, ◌++◌, ℕ, ◌+◌, ◌/◌, ◌%◌, set}
+-- the digit of a number, and the number of a digit
+unfoldable pub use Rattle.digits.specs.Digit.{digit, value}
 
 -- a byte, its high digit first
 abbrev pub pair : ℕ → List ℕ

@@ -5,8 +5,5 @@ ghost use Rattle.lines.specs.Count.{AtMost};
 pub fn at_most(n: usize, bytes: &[u8]) -> usize
     ensures { AtMost result n bytes.now }
 {
-    if n < bytes.len() {
-        return n;
-    }
-    bytes.len()
+    n.min(bytes.len())
 }

@@ -1,27 +1,26 @@
 // Bytes as text.
-ghost use Rattle.std.specs.Prelude.{◌≡◌, ◌+◌, ◌*◌, ◌≤◌, ◌<◌, length};
+ghost use Rattle.std.specs.Prelude.{◌≡◌, ◌+◌, ◌*◌, ◌≤◌, length};
 ghost use Rattle.lists.specs.Buffer.{overlay};
-ghost use Rattle.lines.specs.Hex.{digit, pair, pair_at, pairs, spaced, spaced_or_dash, pairs_line};
+ghost use Rattle.lines.specs.Hex.{pair, pair_at, pairs, spaced, spaced_or_dash, pairs_line};
 
-// The digit of a number under 16.
-fn digit(v: u8) -> u8
-    requires { v < 16 }
-    ensures { result ≡ digit v }
+use crate::text::put;
+use digits::digit;
+
+// The two digits of a byte.
+fn pair(b: u8) -> [u8; 2]
+    ensures { result ≡ pair b }
 {
-    if v < 10 {
-        return 48 + v;
-    }
-    87 + v
+    [digit(b / 16), digit(b % 16)]
 }
 
 // A blank and the two digits of a byte, from an index on.
+#[tactic(auto, unfolding(crate::specs::Hex::pair_at, crate::specs::Scan::kept))]
 fn put_pair(b: u8, at: usize, out: &mut [u8])
     requires { at + 3 ≤ length out.old }
     ensures { out.new ≡ pair_at b at out.old }
 {
-    out[at] = 32;
-    out[at + 1] = digit(b / 16);
-    out[at + 2] = digit(b % 16);
+    out[at] = b' ';
+    put(&pair(b), at + 1, out);
 }
 
 // Each byte after a blank.
@@ -29,10 +28,8 @@ fn put_spaced(bytes: &[u8], out: &mut [u8])
     requires { 3 * length bytes.now ≤ length out.old }
     ensures { out.new ≡ overlay (spaced bytes.now) out.old }
 {
-    let mut i = 0;
-    while i < bytes.len() {
-        put_pair(bytes[i], 3 * i, out);
-        i += 1;
+    for (i, b) in bytes.iter().enumerate() {
+        put_pair(*b, 3 * i, out);
     }
 }
 
@@ -42,22 +39,13 @@ pub fn put_bytes(bytes: &[u8], out: &mut [u8]) -> usize
     ensures value { result ≡ length (spaced_or_dash bytes.now) }
     ensures out_after { out.new ≡ overlay (spaced_or_dash bytes.now) out.old }
 {
-    if bytes.len() == 0 {
-        out[0] = 32;
-        out[1] = 45;
+    if bytes.is_empty() {
+        out[0] = b' ';
+        out[1] = b'-';
         return 2;
     }
     put_spaced(bytes, out);
     3 * bytes.len()
-}
-
-// The two digits of a byte.
-fn put_first(b: u8, out: &mut [u8])
-    requires { 2 ≤ length out.old }
-    ensures { out.new ≡ overlay (pair b) out.old }
-{
-    out[0] = digit(b / 16);
-    out[1] = digit(b % 16);
 }
 
 // The pairs of one or more bytes, parted by single blanks.
@@ -65,7 +53,7 @@ fn put_parted(bytes: &[u8], out: &mut [u8])
     requires { (1 ≤ length bytes.now) × (3 * length bytes.now ≤ length out.old) }
     ensures { out.new ≡ overlay (pairs bytes.now) out.old }
 {
-    put_first(bytes[0], out);
+    put(&pair(bytes[0]), 0, out);
     put_spaced(&bytes[1..], &mut out[2..]);
 }
 
@@ -76,12 +64,12 @@ pub fn put_pairs(bytes: &[u8], out: &mut [u8]) -> usize
     ensures upper_bound { result ≤ length out.old }
     ensures out_after { out.new ≡ overlay (pairs_line bytes.now) out.old }
 {
-    if bytes.len() == 0 {
-        out[0] = 10;
+    if bytes.is_empty() {
+        out[0] = b'\n';
         return 1;
     }
     put_parted(bytes, out);
     let last = 3 * bytes.len() - 1;
-    out[last] = 10;
+    out[last] = b'\n';
     last + 1
 }

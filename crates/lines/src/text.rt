@@ -7,15 +7,13 @@ pub fn put(text: &[u8], at: usize, out: &mut [u8]) -> usize
     requires { at + length text.now ≤ length out.old }
     ensures { Put at text.now out.old result out.new }
 {
-    let mut i = 0;
-    while i < text.len() {
-        out[at + i] = text[i];
-        i += 1;
-    }
-    at + i
+    let end = at + text.len();
+    out[at..end].copy_from_slice(text);
+    end
 }
 
 // One character at an index.
+#[tactic(auto, unfolding(crate::specs::Scan::kept))]
 pub fn put_mark(mark: u8, at: usize, out: &mut [u8])
     requires { at < length out.old }
     ensures { out.new ≡ kept at (mark ∷ []) out.old }
