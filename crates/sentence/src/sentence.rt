@@ -17,6 +17,7 @@ pub const SENTENCE_ROOM: usize = 160;
 const ENDED: u8 = 4;
 
 // Who debugs the process, or that the asker does not watch it.
+#[tactic(auto, unfolding(crate::specs::Sentence::debugger_text, crate::specs::Pattern::room, crate::specs::Pattern::widest))]
 fn put_debugger(h: Header, host: u8, from: usize, out: &mut [u8]) -> usize
     requires { from + sentence_room ≤ length out.old }
     ensures put { Put from (debugger_text h host) out.old result out.new }
@@ -24,21 +25,20 @@ fn put_debugger(h: Header, host: u8, from: usize, out: &mut [u8]) -> usize
 {
     let n = host as u64;
     if h.cmd == END_WATCH {
-        return put_filled(h, n, b"host @ does not watch process #", from, out);
-    }
-    if host == 0 {
-        return put_filled(h, n, b"nobody debugs process #", from, out);
-    }
-    if host == h.host {
-        return put_filled(
+        put_filled(h, n, b"host @ does not watch process #", from, out)
+    } else if host == 0 {
+        put_filled(h, n, b"nobody debugs process #", from, out)
+    } else if host == h.host {
+        put_filled(
             h,
             n,
             b"host $ debugs process # itself: WATCH is for another host",
             from,
             out,
-        );
+        )
+    } else {
+        put_filled(h, n, b"host $ debugs process #", from, out)
     }
-    put_filled(h, n, b"host $ debugs process #", from, out)
 }
 
 // The run state of the process.
@@ -47,24 +47,26 @@ fn put_state(run: u8, from: usize, out: &mut [u8]) -> usize
     ensures put { Put from (state_text run) out.old result out.new }
     ensures upper_bound { result ≤ from + 36 }
 {
-    if run == ENDED {
-        let has = put(b"the process has ", from, out);
-        return put_run_name(run, has, out);
-    }
-    let is = put(b"the process is ", from, out);
-    put_run_name(run, is, out)
+    let at = if run == ENDED {
+        put(b"the process has ", from, out)
+    } else {
+        put(b"the process is ", from, out)
+    };
+    put_run_name(run, at, out)
 }
 
 // The run states that the op code wants.
+#[tactic(auto, unfolding(crate::specs::Sentence::want_text, crate::specs::Pattern::room, crate::specs::Pattern::widest))]
 fn put_want(h: Header, from: usize, out: &mut [u8]) -> usize
     requires { from + 58 ≤ length out.old }
     ensures put { Put from (want_text h) out.old result out.new }
     ensures upper_bound { result ≤ from + 58 }
 {
     if h.cmd == PROCEED {
-        return put_filled(h, 0, b": ! wants it at a breakpoint", from, out);
+        put_filled(h, 0, b": ! wants it at a breakpoint", from, out)
+    } else {
+        put_filled(h, 0, b": ! wants it stopped or at a breakpoint", from, out)
     }
-    put_filled(h, 0, b": ! wants it stopped or at a breakpoint", from, out)
 }
 
 // The run state of the process, and those that the op code wants.
@@ -78,48 +80,53 @@ fn put_run_state(h: Header, run: u8, from: usize, out: &mut [u8]) -> usize
 }
 
 // By how much the end of the process or of the vector is passed.
+#[tactic(auto, unfolding(crate::specs::Sentence::past_end_text, crate::specs::Pattern::room, crate::specs::Pattern::widest))]
 fn put_past_end(h: Header, n: u64, from: usize, out: &mut [u8]) -> usize
     requires { from + sentence_room ≤ length out.old }
     ensures put { Put from (past_end_text h n) out.old result out.new }
     ensures upper_bound { result ≤ from + sentence_room }
 {
     if h.cmd == DEPOSIT_VECTOR {
-        return put_filled(
+        put_filled(
             h,
             n,
             b"! of % at ^ of process #: + past the end of the vector (=)",
             from,
             out,
-        );
+        )
+    } else {
+        put_filled(
+            h,
+            n,
+            b"! of % at ^ of process #: + past its end (=)",
+            from,
+            out,
+        )
     }
-    put_filled(
-        h,
-        n,
-        b"! of % at ^ of process #: + past its end (=)",
-        from,
-        out,
-    )
 }
 
 // By how much the last address of a breakpoint is passed, or that the address is odd.
+#[tactic(auto, unfolding(crate::specs::Sentence::past_last_text, crate::specs::Pattern::room, crate::specs::Pattern::widest))]
 fn put_past_last(h: Header, n: u64, from: usize, out: &mut [u8]) -> usize
     requires { from + sentence_room ≤ length out.old }
     ensures put { Put from (past_last_text h n) out.old result out.new }
     ensures upper_bound { result ≤ from + sentence_room }
 {
     if n == 0 {
-        return put_filled(h, n, b"! at ^ of process #: the address is odd", from, out);
+        put_filled(h, n, b"! at ^ of process #: the address is odd", from, out)
+    } else {
+        put_filled(
+            h,
+            n,
+            b"! at ^ of process #: + past the last address for a breakpoint (<)",
+            from,
+            out,
+        )
     }
-    put_filled(
-        h,
-        n,
-        b"! at ^ of process #: + past the last address for a breakpoint (<)",
-        from,
-        out,
-    )
 }
 
 // Which limit is passed, and by how much.
+#[tactic(auto, unfolding(crate::specs::Sentence::past_text, crate::specs::Pattern::room, crate::specs::Pattern::widest))]
 fn put_past(h: Header, limit: Limit, n: u64, from: usize, out: &mut [u8]) -> usize
     requires { from + sentence_room ≤ length out.old }
     ensures put { Put from (past_text h limit n) out.old result out.new }
@@ -133,6 +140,7 @@ fn put_past(h: Header, limit: Limit, n: u64, from: usize, out: &mut [u8]) -> usi
 }
 
 // That no breakpoint can be added.
+#[tactic(auto, unfolding(crate::specs::Sentence::full_text, crate::specs::Pattern::room, crate::specs::Pattern::widest))]
 fn put_full(h: Header, entries: u8, from: usize, out: &mut [u8]) -> usize
     requires { from + sentence_room ≤ length out.old }
     ensures put { Put from (full_text h entries) out.old result out.new }
@@ -140,42 +148,46 @@ fn put_full(h: Header, entries: u8, from: usize, out: &mut [u8]) -> usize
 {
     let n = entries as u64;
     if entries == 8 {
-        return put_filled(h, n, b"all 8 breakpoints of process # are set", from, out);
+        put_filled(h, n, b"all 8 breakpoints of process # are set", from, out)
+    } else {
+        put_filled(
+            h,
+            n,
+            b"host @ may set no more than $ breakpoints in process # while it is watched",
+            from,
+            out,
+        )
     }
-    put_filled(
-        h,
-        n,
-        b"host @ may set no more than $ breakpoints in process # while it is watched",
-        from,
-        out,
-    )
 }
 
 // What is wrong with the fields or the string.
+#[tactic(auto, unfolding(crate::specs::Sentence::form_text, crate::specs::Pattern::room, crate::specs::Pattern::widest))]
 fn put_form(h: Header, from: usize, out: &mut [u8]) -> usize
     requires { from + sentence_room ≤ length out.old }
     ensures put { Put from (form_text h) out.old result out.new }
     ensures upper_bound { result ≤ from + sentence_room }
 {
     if h.cmd == CREATE {
-        return put_filled(
+        put_filled(
             h,
             0,
             b"a field that ! does not use is not 0, its size is odd or over 4096, or it has a string",
             from,
             out,
-        );
+        )
+    } else {
+        put_filled(
+            h,
+            0,
+            b"a field that ! does not use is not 0, or its string has a wrong length",
+            from,
+            out,
+        )
     }
-    put_filled(
-        h,
-        0,
-        b"a field that ! does not use is not 0, or its string has a wrong length",
-        from,
-        out,
-    )
 }
 
 // A test by its number alone.
+#[tactic(auto, unfolding(crate::specs::Sentence::other_text, crate::specs::Pattern::room, crate::specs::Pattern::widest))]
 fn put_other(h: Header, number: u8, from: usize, out: &mut [u8]) -> usize
     requires { from + sentence_room ≤ length out.old }
     ensures put { Put from (other_text h number) out.old result out.new }
@@ -206,6 +218,7 @@ fn put_other(h: Header, number: u8, from: usize, out: &mut [u8]) -> usize
 }
 
 // The sentence of a request's header and a reason; the index after it.
+#[tactic(auto, unfolding(crate::specs::Sentence::sentence, crate::specs::Pattern::room, crate::specs::Pattern::widest))]
 pub fn put_sentence(h: Header, reason: Reason, from: usize, out: &mut [u8]) -> usize
     requires { from + sentence_room ≤ length out.old }
     ensures put { Put from (sentence h reason) out.old result out.new }
