@@ -1,4 +1,6 @@
 // The sentence of each reason.
+#![tactic(auto, unfolding(crate::specs::Pattern::room, crate::specs::Pattern::widest))]
+
 ghost use Rattle.std.specs.Prelude.{◌+◌, ◌≤◌, length};
 ghost use Rattle.lines.specs.Scan.{Put};
 ghost use Rattle.sentence.specs.Sentence.{sentence_room, debugger_text, state_text, want_text, run_state_text, past_end_text, past_last_text, past_text, full_text, form_text, other_text, sentence};
@@ -17,28 +19,21 @@ pub const SENTENCE_ROOM: usize = 160;
 const ENDED: u8 = 4;
 
 // Who debugs the process, or that the asker does not watch it.
-#[tactic(auto, unfolding(crate::specs::Sentence::debugger_text, crate::specs::Pattern::room, crate::specs::Pattern::widest))]
 fn put_debugger(h: Header, host: u8, from: usize, out: &mut [u8]) -> usize
     requires { from + sentence_room ≤ length out.old }
     ensures put { Put from (debugger_text h host) out.old result out.new }
     ensures upper_bound { result ≤ from + sentence_room }
 {
-    let n = host as u64;
-    if h.cmd == END_WATCH {
-        put_filled(h, n, b"host @ does not watch process #", from, out)
+    let pattern: &[u8] = if h.cmd == END_WATCH {
+        b"host @ does not watch process #"
     } else if host == 0 {
-        put_filled(h, n, b"nobody debugs process #", from, out)
+        b"nobody debugs process #"
     } else if host == h.host {
-        put_filled(
-            h,
-            n,
-            b"host $ debugs process # itself: WATCH is for another host",
-            from,
-            out,
-        )
+        b"host $ debugs process # itself: WATCH is for another host"
     } else {
-        put_filled(h, n, b"host $ debugs process #", from, out)
-    }
+        b"host $ debugs process #"
+    };
+    put_filled(h, host as u64, pattern, from, out)
 }
 
 // The run state of the process.
@@ -56,17 +51,17 @@ fn put_state(run: u8, from: usize, out: &mut [u8]) -> usize
 }
 
 // The run states that the op code wants.
-#[tactic(auto, unfolding(crate::specs::Sentence::want_text, crate::specs::Pattern::room, crate::specs::Pattern::widest))]
 fn put_want(h: Header, from: usize, out: &mut [u8]) -> usize
     requires { from + 58 ≤ length out.old }
     ensures put { Put from (want_text h) out.old result out.new }
     ensures upper_bound { result ≤ from + 58 }
 {
-    if h.cmd == PROCEED {
-        put_filled(h, 0, b": ! wants it at a breakpoint", from, out)
+    let pattern: &[u8] = if h.cmd == PROCEED {
+        b": ! wants it at a breakpoint"
     } else {
-        put_filled(h, 0, b": ! wants it stopped or at a breakpoint", from, out)
-    }
+        b": ! wants it stopped or at a breakpoint"
+    };
+    put_filled(h, 0, pattern, from, out)
 }
 
 // The run state of the process, and those that the op code wants.
@@ -80,49 +75,31 @@ fn put_run_state(h: Header, run: u8, from: usize, out: &mut [u8]) -> usize
 }
 
 // By how much the end of the process or of the vector is passed.
-#[tactic(auto, unfolding(crate::specs::Sentence::past_end_text, crate::specs::Pattern::room, crate::specs::Pattern::widest))]
 fn put_past_end(h: Header, n: u64, from: usize, out: &mut [u8]) -> usize
     requires { from + sentence_room ≤ length out.old }
     ensures put { Put from (past_end_text h n) out.old result out.new }
     ensures upper_bound { result ≤ from + sentence_room }
 {
-    if h.cmd == DEPOSIT_VECTOR {
-        put_filled(
-            h,
-            n,
-            b"! of % at ^ of process #: + past the end of the vector (=)",
-            from,
-            out,
-        )
+    let pattern: &[u8] = if h.cmd == DEPOSIT_VECTOR {
+        b"! of % at ^ of process #: + past the end of the vector (=)"
     } else {
-        put_filled(
-            h,
-            n,
-            b"! of % at ^ of process #: + past its end (=)",
-            from,
-            out,
-        )
-    }
+        b"! of % at ^ of process #: + past its end (=)"
+    };
+    put_filled(h, n, pattern, from, out)
 }
 
 // By how much the last address of a breakpoint is passed, or that the address is odd.
-#[tactic(auto, unfolding(crate::specs::Sentence::past_last_text, crate::specs::Pattern::room, crate::specs::Pattern::widest))]
 fn put_past_last(h: Header, n: u64, from: usize, out: &mut [u8]) -> usize
     requires { from + sentence_room ≤ length out.old }
     ensures put { Put from (past_last_text h n) out.old result out.new }
     ensures upper_bound { result ≤ from + sentence_room }
 {
-    if n == 0 {
-        put_filled(h, n, b"! at ^ of process #: the address is odd", from, out)
+    let pattern: &[u8] = if n == 0 {
+        b"! at ^ of process #: the address is odd"
     } else {
-        put_filled(
-            h,
-            n,
-            b"! at ^ of process #: + past the last address for a breakpoint (<)",
-            from,
-            out,
-        )
-    }
+        b"! at ^ of process #: + past the last address for a breakpoint (<)"
+    };
+    put_filled(h, n, pattern, from, out)
 }
 
 // Which limit is passed, and by how much.
@@ -140,50 +117,31 @@ fn put_past(h: Header, limit: Limit, n: u64, from: usize, out: &mut [u8]) -> usi
 }
 
 // That no breakpoint can be added.
-#[tactic(auto, unfolding(crate::specs::Sentence::full_text, crate::specs::Pattern::room, crate::specs::Pattern::widest))]
 fn put_full(h: Header, entries: u8, from: usize, out: &mut [u8]) -> usize
     requires { from + sentence_room ≤ length out.old }
     ensures put { Put from (full_text h entries) out.old result out.new }
     ensures upper_bound { result ≤ from + sentence_room }
 {
-    let n = entries as u64;
-    if entries == 8 {
-        put_filled(h, n, b"all 8 breakpoints of process # are set", from, out)
+    let pattern: &[u8] = if entries == 8 {
+        b"all 8 breakpoints of process # are set"
     } else {
-        put_filled(
-            h,
-            n,
-            b"host @ may set no more than $ breakpoints in process # while it is watched",
-            from,
-            out,
-        )
-    }
+        b"host @ may set no more than $ breakpoints in process # while it is watched"
+    };
+    put_filled(h, entries as u64, pattern, from, out)
 }
 
 // What is wrong with the fields or the string.
-#[tactic(auto, unfolding(crate::specs::Sentence::form_text, crate::specs::Pattern::room, crate::specs::Pattern::widest))]
 fn put_form(h: Header, from: usize, out: &mut [u8]) -> usize
     requires { from + sentence_room ≤ length out.old }
     ensures put { Put from (form_text h) out.old result out.new }
     ensures upper_bound { result ≤ from + sentence_room }
 {
-    if h.cmd == CREATE {
-        put_filled(
-            h,
-            0,
-            b"a field that ! does not use is not 0, its size is odd or over 4096, or it has a string",
-            from,
-            out,
-        )
+    let pattern: &[u8] = if h.cmd == CREATE {
+        b"a field that ! does not use is not 0, its size is odd or over 4096, or it has a string"
     } else {
-        put_filled(
-            h,
-            0,
-            b"a field that ! does not use is not 0, or its string has a wrong length",
-            from,
-            out,
-        )
-    }
+        b"a field that ! does not use is not 0, or its string has a wrong length"
+    };
+    put_filled(h, 0, pattern, from, out)
 }
 
 // A test by its number alone.
