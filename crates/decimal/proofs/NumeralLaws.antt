@@ -243,12 +243,13 @@ more-digits m b some short n h =
     let size : length (numeral n) ≡ length (numeral (n / 10)) + 1 = ap (λ (l : List ℕ). length l) (numeral-large n large) ∙ length-append (numeral (n / 10)) ((48 + n % 10) ∷ []) in
     omega (arith, size, short (n / 10) (omega (arith, h))))
 
+pub three-digits : (n : ℕ) → n < 1000 → length (numeral n) ≤ 3
+three-digits =
+    more-digits 2 100 (omega arith)
+    (more-digits 1 10 (omega arith) (λ n h. omega (arith, ap (λ (l : List ℕ). length l) (numeral-small n h))))
+
 pub five-digits : (n : ℕ) → n < 100000 → length (numeral n) ≤ 5
-five-digits =
-    more-digits 4 10000 (omega arith)
-    (more-digits 3 1000 (omega arith)
-    (more-digits 2 100 (omega arith)
-    (more-digits 1 10 (omega arith) (λ n h. omega (arith, ap (λ (l : List ℕ). length l) (numeral-small n h))))))
+five-digits = more-digits 4 10000 (omega arith) (more-digits 3 1000 (omega arith) three-digits)
 
 pub ten-digits : (n : ℕ) → n < 10000000000 → length (numeral n) ≤ 10
 ten-digits =

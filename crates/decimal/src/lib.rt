@@ -5,6 +5,8 @@
 mod field;
 mod number;
 pub mod theorems;
+mod width;
 
-pub use field::{put_field, put_long, put_number, put_wide, put_wide_field};
+pub use field::{put_field, put_long, put_number, put_wide};
 pub use number::Number;
+pub use width::Width;

@@ -14,26 +14,23 @@ fn put_entry(b: Breakpoint, from: usize, out: &mut [u8]) -> usize
     ensures put { Put from (entry_text b) out.old result out.new }
     ensures upper_bound { result ≤ from + 36 }
 {
-    let used = put_field(32, flag(b.setter != 0) as u16, from, out);
-    let address = put_field(58, b.address, used, out);
-    let count = put_field(58, b.count, address, out);
-    let saved = put_field(58, word_of(b.high, b.low), count, out);
-    let lifted = put_field(58, flag(b.lifted) as u16, saved, out);
-    put_field(58, b.setter as u16, lifted, out)
+    let used = put_field(b' ', flag(b.setter != 0), from, out);
+    let address = put_field(b':', b.address, used, out);
+    let count = put_field(b':', b.count, address, out);
+    let saved = put_field(b':', word_of(b.high, b.low), count, out);
+    let lifted = put_field(b':', flag(b.lifted), saved, out);
+    put_field(b':', b.setter, lifted, out)
 }
 
 // The eight entries.
-pub(crate) fn put_entries(breaks: [Breakpoint; 8], from: usize, out: &mut [u8]) -> usize
+pub(crate) fn put_entries(breaks: &[Breakpoint; 8], from: usize, out: &mut [u8]) -> usize
     requires { from + 288 ≤ length out.old }
-    ensures put { Put from (joined entry_text breaks) out.old result out.new }
+    ensures put { Put from (joined entry_text breaks.now) out.old result out.new }
     ensures upper_bound { result ≤ from + 288 }
 {
     let mut at = from;
-    let mut i = 0;
-    while i < 8 {
-        let b = breaks[i];
-        at = put_entry(b, at, out);
-        i += 1;
+    for b in breaks {
+        at = put_entry(*b, at, out);
     }
     at
 }

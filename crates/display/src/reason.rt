@@ -4,7 +4,7 @@ ghost use Rattle.lists.specs.Buffer.{overlay};
 ghost use Rattle.lines.specs.Scan.{Put};
 ghost use Rattle.display.specs.Reason.{limit_name, past_text, facts_text, reason_text, why_line};
 
-use decimal::{put_field, put_number, put_wide_field};
+use decimal::{put_field, put_number};
 use lines::{put, put_mark};
 use reasons::{Limit, Reason};
 
@@ -28,25 +28,25 @@ fn put_past(limit: Limit, excess: u32, from: usize, out: &mut [u8]) -> usize
     ensures upper_bound { result ≤ from + 27 }
 {
     let at = put_limit(limit, from, out);
-    put_wide_field(32, excess as u64, at, out)
+    put_field(b' ', excess, at, out)
 }
 
 // The facts of a reason, each after a blank.
+#[tactic(auto, unfolding(crate::specs::Reason::facts_text, lines::specs::Scan::kept))]
 fn put_facts(reason: Reason, from: usize, out: &mut [u8]) -> usize
     requires { from + 27 ≤ length out.old }
     ensures put { Put from (facts_text reason) out.old result out.new }
     ensures upper_bound { result ≤ from + 27 }
 {
     match reason {
-        Reason::Granted => from,
-        Reason::Length(n) => put_wide_field(32, n as u64, from, out),
-        Reason::Debugger(host) => put_field(32, host as u16, from, out),
-        Reason::RunState(run) => put_field(32, run as u16, from, out),
+        Reason::Granted | Reason::Other(_) => from,
+        Reason::Length(n) => put_field(b' ', n as u64, from, out),
         Reason::Past(limit, excess) => put_past(limit, excess, from, out),
-        Reason::Full(entries) => put_field(32, entries as u16, from, out),
-        Reason::Watcher(host) => put_field(32, host as u16, from, out),
-        Reason::Setter(host) => put_field(32, host as u16, from, out),
-        Reason::Other(_) => from,
+        Reason::Debugger(n)
+        | Reason::RunState(n)
+        | Reason::Full(n)
+        | Reason::Watcher(n)
+        | Reason::Setter(n) => put_field(b' ', n, from, out),
     }
 }
 
@@ -56,12 +56,13 @@ fn put_text(reason: Reason, out: &mut [u8]) -> usize
     ensures put { Put 0 (reason_text reason) out.old result out.new }
     ensures upper_bound { result ≤ 32 }
 {
-    let number = reason.number();
-    if number == 0 {
-        return put(b"granted", 0, out);
+    match reason.number() {
+        0 => put(b"granted", 0, out),
+        number => {
+            let at = put_number(number, 0, out);
+            put_facts(reason, at, out)
+        }
     }
-    let at = put_number(number as u16, 0, out);
-    put_facts(reason, at, out)
 }
 
 // Why a request is refused, or that it is granted, as a line; the length of the line.
@@ -72,6 +73,6 @@ pub fn put_reason(reason: Reason, out: &mut [u8]) -> usize
     ensures out_after { out.new ≡ overlay (why_line reason) out.old }
 {
     let end = put_text(reason, out);
-    put_mark(10, end, out);
+    put_mark(b'\n', end, out);
     end + 1
 }

@@ -6,7 +6,7 @@ ghost use Rattle.lines.specs.Scan.{Put};
 ghost use Rattle.display.specs.Line.{word_text, head_text, named, owed_shown, owed_text, waiting_text, go_text, begin_shown, record_text, process_line};
 
 use crate::entry::put_entries;
-use decimal::{put_field, put_long, put_number};
+use decimal::{Width, put_field, put_number};
 use lines::{put, put_mark};
 use process::Process;
 use run_state::Run;
@@ -19,44 +19,39 @@ fn put_head(there: bool, host: u8, run: Run, out: &mut [u8]) -> usize
     ensures put { Put 0 (head_text there host run) out.old result out.new }
     ensures upper_bound { result ≤ 17 }
 {
-    let first = put_number(flag(there) as u16, 0, out);
-    let second = put_field(32, host as u16, first, out);
-    put_field(32, run.number() as u16, second, out)
+    let first = put_number(flag(there), 0, out);
+    let second = put_field(b' ', host, first, out);
+    put_field(b' ', run.number(), second, out)
 }
 
 // The nine words, each after a blank.
-fn put_words(words: [u16; 9], from: usize, out: &mut [u8]) -> usize
+fn put_words(words: &[u16; 9], from: usize, out: &mut [u8]) -> usize
     requires { from + 54 ≤ length out.old }
-    ensures put { Put from (joined word_text words) out.old result out.new }
+    ensures put { Put from (joined word_text words.now) out.old result out.new }
     ensures upper_bound { result ≤ from + 54 }
 {
     let mut at = from;
-    let mut i = 0;
-    while i < 9 {
-        at = put_field(32, words[i], at, out);
-        i += 1;
+    for word in words {
+        at = put_field(b' ', *word, at, out);
     }
     at
 }
 
 // A number after its name.
-fn put_named(name: &[u8], n: u16, from: usize, out: &mut [u8]) -> usize
-    requires { from + length name.now + 6 ≤ length out.old }
-    ensures put { Put from (named name.now n) out.old result out.new }
-    ensures upper_bound { result ≤ from + length name.now + 6 }
+fn put_named<T: Width>(name: &[u8], n: T, from: usize, out: &mut [u8]) -> usize
+    requires { from + length name.now + 1 + T.most_digits ≤ length out.old }
+    ensures put { Put from (named name.now (T.number n)) out.old result out.new }
+    ensures upper_bound { result ≤ from + length name.now + 1 + T.most_digits }
 {
     let at = put(name, from, out);
-    put_field(32, n, at, out)
+    put_field(b' ', n, at, out)
 }
 
 // The letter of the request whose answer is owed, or a dash.
 fn owed_shown(owed: Owed) -> u8
     ensures { result ≡ owed_shown owed }
 {
-    if owed.owes() {
-        return owed.letter();
-    }
-    45
+    if owed.owes() { owed.letter() } else { b'-' }
 }
 
 // The owed answer after its name.
@@ -76,8 +71,8 @@ fn put_waiting(go: Go, from: usize, out: &mut [u8]) -> usize
     ensures put { Put from (waiting_text go) out.old result out.new }
     ensures upper_bound { result ≤ from + 16 }
 {
-    let at = put_long(go.id, from, out);
-    put_field(58, go.ticks as u16, at, out)
+    let at = put_number(go.id, from, out);
+    put_field(b':', go.ticks, at, out)
 }
 
 // The Go that waits after its name, or a dash.
@@ -87,11 +82,12 @@ fn put_go(go: Go, from: usize, out: &mut [u8]) -> usize
     ensures upper_bound { result ≤ from + 20 }
 {
     let at = put(b" go ", from, out);
-    if !go.waits {
-        put_mark(45, at, out);
-        return at + 1;
+    if go.waits {
+        put_waiting(go, at, out)
+    } else {
+        put_mark(b'-', at, out);
+        at + 1
     }
-    put_waiting(go, at, out)
 }
 
 // All of a record.
@@ -100,20 +96,15 @@ fn put_record(p: Process, out: &mut [u8]) -> usize
     ensures put { Put 0 (record_text p) out.old result out.new }
     ensures upper_bound { result ≤ 421 }
 {
-    let run = p.run;
-    let vector = p.vector;
-    let breaks = p.breaks;
     let session = p.session;
-    let owed = session.owed;
-    let go = session.go;
-    let head = put_head(p.there, p.host, run, out);
-    let words = put_words(vector, head, out);
-    let entries = put_entries(breaks, words, out);
+    let head = put_head(p.there, p.host, p.run, out);
+    let words = put_words(&p.vector, head, out);
+    let entries = put_entries(&p.breaks, words, out);
     let size = put_named(b" size", p.size, entries, out);
-    let watcher = put_named(b" watcher", session.watcher as u16, size, out);
-    let set = put_named(b" set", p.number as u16, watcher, out);
-    let answer = put_owed(owed, set, out);
-    put_go(go, answer, out)
+    let watcher = put_named(b" watcher", session.watcher, size, out);
+    let set = put_named(b" set", p.number, watcher, out);
+    let answer = put_owed(session.owed, set, out);
+    put_go(session.go, answer, out)
 }
 
 // Where the bytes of a process begin; 0 where it is absent.
@@ -132,6 +123,6 @@ pub fn put_process(p: Process, start: u16, out: &mut [u8]) -> usize
 {
     let record = put_record(p, out);
     let end = put_named(b" begin", begin_shown(p.there, start), record, out);
-    put_mark(10, end, out);
+    put_mark(b'\n', end, out);
     end + 1
 }

@@ -5,7 +5,7 @@ ghost use Rattle.std.specs.Prelude.{◌≡◌};
 ghost use Rattle.reasons.specs.Reason.{limit_number, reason_number, two_facts};
 
 // Which limit a request passes.
-#[derive(Clone, Copy)]
+#[derive(Clone, Copy, PartialEq, Eq)]
 pub enum Limit {
     // The end of the process's memory, or of the vector.
     End,
@@ -16,7 +16,7 @@ pub enum Limit {
 }
 
 // Granted, or the first test that fails and its facts.
-#[derive(Clone, Copy)]
+#[derive(Clone, Copy, PartialEq, Eq)]
 pub enum Reason {
     Granted,
     // 3: the length of the message.
@@ -69,19 +69,19 @@ impl Reason {
     }
 
     // Its facts as two numbers, 0 where there is none.
+    #[tactic(auto, unfolding(crate::specs::Reason::two_facts, crate::specs::Reason::facts_of))]
     pub fn facts(self) -> [u64; 2]
         ensures { result ≡ two_facts self }
     {
         match self {
-            Reason::Granted => [0, 0],
+            Reason::Granted | Reason::Other(_) => [0, 0],
             Reason::Length(n) => [n as u64, 0],
-            Reason::Debugger(host) => [host as u64, 0],
-            Reason::RunState(run) => [run as u64, 0],
             Reason::Past(limit, excess) => [limit.number() as u64, excess as u64],
-            Reason::Full(entries) => [entries as u64, 0],
-            Reason::Watcher(host) => [host as u64, 0],
-            Reason::Setter(host) => [host as u64, 0],
-            Reason::Other(_) => [0, 0],
+            Reason::Debugger(n)
+            | Reason::RunState(n)
+            | Reason::Full(n)
+            | Reason::Watcher(n)
+            | Reason::Setter(n) => [n as u64, 0],
         }
     }
 }

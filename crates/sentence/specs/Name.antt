@@ -1,5 +1,6 @@
 -- Names by their number: a table of names is one text, in which commas separate them.
-use Rattle.std.specs.Prelude.{cond, List, [], ◌∷◌, ◌++◌, ℕ, zero, suc, ltb, eqb}
+use Rattle.std.specs.Prelude.{cond, List, [], ◌∷◌, ◌++◌, ℕ, zero, suc, length, ltb, eqb}
+use Rattle.std.specs.Borrow.{Bor}
 use Rattle.decimal.specs.Numeral.{numeral}
 
 -- a comma
@@ -28,3 +29,13 @@ name_in count names other n = cond (ltb n count) (word_at n names) (other ++ num
 -- no name is longer than this
 abbrev pub name_room : ℕ
 name_room = 20
+
+-- the name of this number in a table, counted from 0; nothing where there are fewer
+unfoldable pub name_at : List (Bor (List ℕ)) → ℕ → List ℕ
+name_at [] n = []
+name_at (name ∷ names) zero = name.now
+name_at (name ∷ names) (suc n) = name_at names n
+
+-- the name of a number in a table; of a number that has none, the number itself after the text for others
+unfoldable pub named_in : List (Bor (List ℕ)) → List ℕ → ℕ → List ℕ
+named_in names other n = cond (ltb n (length names)) (name_at names n) (other ++ numeral n)

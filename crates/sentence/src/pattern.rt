@@ -3,9 +3,9 @@ ghost use Rattle.std.specs.Prelude.{[], ◌∷◌, ◌+◌, ◌≤◌, length};
 ghost use Rattle.lines.specs.Scan.{Put};
 ghost use Rattle.sentence.specs.Pattern.{piece_of, filled, widest, room};
 
-use crate::count::{less, put_count};
+use crate::count::put_count;
 use crate::op_name::put_op_name;
-use decimal::{put_number, put_wide};
+use decimal::put_number;
 use format::Header;
 use lines::put_mark;
 
@@ -20,21 +20,22 @@ fn put_character(c: u8, from: usize, out: &mut [u8]) -> usize
 }
 
 // What a character of a pattern stands for; the index after it.
+#[tactic(auto, unfolding(crate::specs::Pattern::piece_of, crate::specs::Pattern::widest))]
 fn put_piece(h: Header, n: u64, c: u8, from: usize, out: &mut [u8]) -> usize
     requires { from + widest c ≤ length out.old }
     ensures put { Put from (piece_of h n c) out.old result out.new }
     ensures upper_bound { result ≤ from + widest c }
 {
     match c {
-        b'@' => put_number(h.host as u16, from, out),
-        b'#' => put_number(h.pid as u16, from, out),
+        b'@' => put_number(h.host, from, out),
+        b'#' => put_number(h.pid, from, out),
         b'^' => put_number(h.arg1, from, out),
         b'!' => put_op_name(h.cmd, from, out),
         b'%' => put_count(h.arg2 as u64, from, out),
-        b'$' => put_wide(n, from, out),
+        b'$' => put_number(n, from, out),
         b'+' => put_count(n, from, out),
-        b'=' => put_wide(less(h.arg1 as u64 + h.arg2 as u64, n), from, out),
-        b'<' => put_wide(less(h.arg1 as u64, n), from, out),
+        b'=' => put_number((h.arg1 as u64 + h.arg2 as u64).saturating_sub(n), from, out),
+        b'<' => put_number((h.arg1 as u64).saturating_sub(n), from, out),
         _ => put_character(c, from, out),
     }
 }
@@ -46,10 +47,8 @@ pub(crate) fn put_filled(h: Header, n: u64, pattern: &[u8], from: usize, out: &m
     ensures upper_bound { result ≤ from + room pattern.now }
 {
     let mut at = from;
-    let mut i = 0;
-    while i < pattern.len() {
-        at = put_piece(h, n, pattern[i], at, out);
-        i += 1;
+    for c in pattern {
+        at = put_piece(h, n, *c, at, out);
     }
     at
 }

@@ -1,4 +1,6 @@
 // The sentence of each reason.
+#![tactic(auto, unfolding(crate::specs::Pattern::room, crate::specs::Pattern::widest))]
+
 ghost use Rattle.std.specs.Prelude.{◌+◌, ◌≤◌, length};
 ghost use Rattle.lines.specs.Scan.{Put};
 ghost use Rattle.sentence.specs.Sentence.{sentence_room, debugger_text, state_text, want_text, run_state_text, past_end_text, past_last_text, past_text, full_text, form_text, other_text, sentence};
@@ -22,23 +24,16 @@ fn put_debugger(h: Header, host: u8, from: usize, out: &mut [u8]) -> usize
     ensures put { Put from (debugger_text h host) out.old result out.new }
     ensures upper_bound { result ≤ from + sentence_room }
 {
-    let n = host as u64;
-    if h.cmd == END_WATCH {
-        return put_filled(h, n, b"host @ does not watch process #", from, out);
-    }
-    if host == 0 {
-        return put_filled(h, n, b"nobody debugs process #", from, out);
-    }
-    if host == h.host {
-        return put_filled(
-            h,
-            n,
-            b"host $ debugs process # itself: WATCH is for another host",
-            from,
-            out,
-        );
-    }
-    put_filled(h, n, b"host $ debugs process #", from, out)
+    let pattern: &[u8] = if h.cmd == END_WATCH {
+        b"host @ does not watch process #"
+    } else if host == 0 {
+        b"nobody debugs process #"
+    } else if host == h.host {
+        b"host $ debugs process # itself: WATCH is for another host"
+    } else {
+        b"host $ debugs process #"
+    };
+    put_filled(h, host as u64, pattern, from, out)
 }
 
 // The run state of the process.
@@ -47,12 +42,12 @@ fn put_state(run: u8, from: usize, out: &mut [u8]) -> usize
     ensures put { Put from (state_text run) out.old result out.new }
     ensures upper_bound { result ≤ from + 36 }
 {
-    if run == ENDED {
-        let has = put(b"the process has ", from, out);
-        return put_run_name(run, has, out);
-    }
-    let is = put(b"the process is ", from, out);
-    put_run_name(run, is, out)
+    let at = if run == ENDED {
+        put(b"the process has ", from, out)
+    } else {
+        put(b"the process is ", from, out)
+    };
+    put_run_name(run, at, out)
 }
 
 // The run states that the op code wants.
@@ -61,10 +56,12 @@ fn put_want(h: Header, from: usize, out: &mut [u8]) -> usize
     ensures put { Put from (want_text h) out.old result out.new }
     ensures upper_bound { result ≤ from + 58 }
 {
-    if h.cmd == PROCEED {
-        return put_filled(h, 0, b": ! wants it at a breakpoint", from, out);
-    }
-    put_filled(h, 0, b": ! wants it stopped or at a breakpoint", from, out)
+    let pattern: &[u8] = if h.cmd == PROCEED {
+        b": ! wants it at a breakpoint"
+    } else {
+        b": ! wants it stopped or at a breakpoint"
+    };
+    put_filled(h, 0, pattern, from, out)
 }
 
 // The run state of the process, and those that the op code wants.
@@ -83,22 +80,12 @@ fn put_past_end(h: Header, n: u64, from: usize, out: &mut [u8]) -> usize
     ensures put { Put from (past_end_text h n) out.old result out.new }
     ensures upper_bound { result ≤ from + sentence_room }
 {
-    if h.cmd == DEPOSIT_VECTOR {
-        return put_filled(
-            h,
-            n,
-            b"! of % at ^ of process #: + past the end of the vector (=)",
-            from,
-            out,
-        );
-    }
-    put_filled(
-        h,
-        n,
-        b"! of % at ^ of process #: + past its end (=)",
-        from,
-        out,
-    )
+    let pattern: &[u8] = if h.cmd == DEPOSIT_VECTOR {
+        b"! of % at ^ of process #: + past the end of the vector (=)"
+    } else {
+        b"! of % at ^ of process #: + past its end (=)"
+    };
+    put_filled(h, n, pattern, from, out)
 }
 
 // By how much the last address of a breakpoint is passed, or that the address is odd.
@@ -107,19 +94,16 @@ fn put_past_last(h: Header, n: u64, from: usize, out: &mut [u8]) -> usize
     ensures put { Put from (past_last_text h n) out.old result out.new }
     ensures upper_bound { result ≤ from + sentence_room }
 {
-    if n == 0 {
-        return put_filled(h, n, b"! at ^ of process #: the address is odd", from, out);
-    }
-    put_filled(
-        h,
-        n,
-        b"! at ^ of process #: + past the last address for a breakpoint (<)",
-        from,
-        out,
-    )
+    let pattern: &[u8] = if n == 0 {
+        b"! at ^ of process #: the address is odd"
+    } else {
+        b"! at ^ of process #: + past the last address for a breakpoint (<)"
+    };
+    put_filled(h, n, pattern, from, out)
 }
 
 // Which limit is passed, and by how much.
+#[tactic(auto, unfolding(crate::specs::Sentence::past_text, crate::specs::Pattern::room, crate::specs::Pattern::widest))]
 fn put_past(h: Header, limit: Limit, n: u64, from: usize, out: &mut [u8]) -> usize
     requires { from + sentence_room ≤ length out.old }
     ensures put { Put from (past_text h limit n) out.old result out.new }
@@ -138,17 +122,12 @@ fn put_full(h: Header, entries: u8, from: usize, out: &mut [u8]) -> usize
     ensures put { Put from (full_text h entries) out.old result out.new }
     ensures upper_bound { result ≤ from + sentence_room }
 {
-    let n = entries as u64;
-    if entries == 8 {
-        return put_filled(h, n, b"all 8 breakpoints of process # are set", from, out);
-    }
-    put_filled(
-        h,
-        n,
-        b"host @ may set no more than $ breakpoints in process # while it is watched",
-        from,
-        out,
-    )
+    let pattern: &[u8] = if entries == 8 {
+        b"all 8 breakpoints of process # are set"
+    } else {
+        b"host @ may set no more than $ breakpoints in process # while it is watched"
+    };
+    put_filled(h, entries as u64, pattern, from, out)
 }
 
 // What is wrong with the fields or the string.
@@ -157,25 +136,16 @@ fn put_form(h: Header, from: usize, out: &mut [u8]) -> usize
     ensures put { Put from (form_text h) out.old result out.new }
     ensures upper_bound { result ≤ from + sentence_room }
 {
-    if h.cmd == CREATE {
-        return put_filled(
-            h,
-            0,
-            b"a field that ! does not use is not 0, its size is odd or over 4096, or it has a string",
-            from,
-            out,
-        );
-    }
-    put_filled(
-        h,
-        0,
-        b"a field that ! does not use is not 0, or its string has a wrong length",
-        from,
-        out,
-    )
+    let pattern: &[u8] = if h.cmd == CREATE {
+        b"a field that ! does not use is not 0, its size is odd or over 4096, or it has a string"
+    } else {
+        b"a field that ! does not use is not 0, or its string has a wrong length"
+    };
+    put_filled(h, 0, pattern, from, out)
 }
 
 // A test by its number alone.
+#[tactic(auto, unfolding(crate::specs::Sentence::other_text, crate::specs::Pattern::room, crate::specs::Pattern::widest))]
 fn put_other(h: Header, number: u8, from: usize, out: &mut [u8]) -> usize
     requires { from + sentence_room ≤ length out.old }
     ensures put { Put from (other_text h number) out.old result out.new }
@@ -206,6 +176,7 @@ fn put_other(h: Header, number: u8, from: usize, out: &mut [u8]) -> usize
 }
 
 // The sentence of a request's header and a reason; the index after it.
+#[tactic(auto, unfolding(crate::specs::Sentence::sentence, crate::specs::Pattern::room, crate::specs::Pattern::widest))]
 pub fn put_sentence(h: Header, reason: Reason, from: usize, out: &mut [u8]) -> usize
     requires { from + sentence_room ≤ length out.old }
     ensures put { Put from (sentence h reason) out.old result out.new }

@@ -7,21 +7,19 @@ use Rattle.display.specs.Line.{entry_text}
 use Rattle.breakpoints.specs.Entry.{free}
 use Rattle.display.proofs.entry.put_entries.Goals as goal
 
-pub loop-i-init : goal.loop-i-init
-loop-i-init c = (omega arith, search rules, omega arith, refl, put-joined-none entry_text c.args.from c.args.out.now)
+pub loop-b-init : goal.loop-b-init
+loop-b-init c = (omega arith, refl, put-joined-none entry_text c.args.from c.args.out.now)
 
-pub loop-i-preserved : goal.loop-i-preserved
-loop-i-preserved c = (
-  omega arith,
-  c.loop-i.invariant.1,
+pub loop-b-preserved : goal.loop-b-preserved
+loop-b-preserved c = (
   omega (arith, c.put_entry-at.ensures.upper_bound),
   search rules,
-  put-more entry_text free c.args.breaks c.loop-i.i c.args.from c.loop-i.at c.put_entry-at.result c.args.out.now c.loop-i.out c.put_entry-at.new.out (omega arith) c.loop-i.invariant.4 c.put_entry-at.ensures.put,
+  put-more entry_text free c.args.breaks.now c.loop-b.b-index c.args.from c.loop-b.at c.put_entry-at.result c.args.out.now c.loop-b.out c.put_entry-at.new.out (omega arith) c.loop-b.invariant.2 c.put_entry-at.ensures.put,
 )
 
 pub returns : goal.returns
 returns c =
     record {
-      put = put-joined-all entry_text c.args.breaks c.loop-i.i c.args.from c.loop-i.at c.args.out.now c.loop-i.out (omega arith) c.loop-i.invariant.4;
+      put = put-joined-all entry_text c.args.breaks.now c.loop-b.b-index c.args.from c.loop-b.at c.args.out.now c.loop-b.out (omega arith) c.loop-b.invariant.2;
       upper_bound = omega arith;
     }

@@ -9,7 +9,7 @@ pub returns : goal.returns
 unfolding past_text
 returns c =
     let out1 = c.put_limit-at.new.out in
-    let out2 = c.put_wide_field.new.out in record {
-      put = put_then c.args.from c.put_limit-at.result c.put_wide_field.result (limit_name c.args.limit) (field 32 c.args.excess) c.args.out.now out1 out2 c.put_limit-at.ensures.put c.put_wide_field.ensures.put;
-      upper_bound = omega (arith, c.put_limit-at.ensures.upper_bound, c.put_wide_field.ensures.upper_bound);
+    let out2 = c.put_field.new.out in record {
+      put = put_then c.args.from c.put_limit-at.result c.put_field.result (limit_name c.args.limit) (field 32 c.args.excess) c.args.out.now out1 out2 c.put_limit-at.ensures.put c.put_field.ensures.put;
+      upper_bound = omega (arith, c.put_limit-at.ensures.upper_bound, c.put_field.ensures.upper_bound);
     }

@@ -6,6 +6,6 @@ pub returns-then-owes : goal.returns-then-owes
 unfolding owed_shown
 returns-then-owes c = rw (← c.owes.ensures, c.if-owes.true) c.letter.ensures
 
-pub returns : goal.returns
+pub returns-else-owes : goal.returns-else-owes
 unfolding owed_shown
-returns c = rw (← c.owes.ensures, c.if-owes.false)
+returns-else-owes c = rw (← c.owes.ensures, c.if-owes.false)

@@ -1,55 +1,19 @@
 -- `sentence::sentence::put_debugger` meets its contract, by the op code and the host. Assumes nothing.
-use native.Mathlib.Omega.{arith}
 use borrow.Author.Tests.{eq-eqb, ne_eqb}
 use Rattle.ops.specs.Codes.{END-WATCH}
-use Rattle.sentence.specs.Pattern.{widest, room}
 use Rattle.sentence.specs.Sentence.{debugger_text}
 use Rattle.sentence.proofs.sentence.put_debugger.Goals as goal
+use Rattle.sentence.proofs.sentence.put_debugger.Goals.{then-h-eq-END_WATCH, else-h-eq-END_WATCH+then-host-eq0, else-h-eq-END_WATCH+else-host-eq0+then-host-h, else-h-eq-END_WATCH+else-host-eq0+else-host-h}
 
-pub put_filled-requires : goal.put_filled-requires
-unfolding room widest
-put_filled-requires c = omega arith
-
-pub returns-then-h-eq-END_WATCH : goal.returns-then-h-eq-END_WATCH
-unfolding debugger_text room widest
-returns-then-h-eq-END_WATCH c =
-    record {
-      put = rw (eq-eqb c.args.h.cmd END-WATCH c.if-h-eq-END_WATCH.true) c.put_filled.ensures.put;
-      upper_bound = omega (arith, c.put_filled.ensures.upper_bound);
-    }
-
-pub put_filled-requires-then-host-eq0 : goal.put_filled-requires-then-host-eq0
-unfolding room widest
-put_filled-requires-then-host-eq0 c = omega arith
-
-pub returns-then-host-eq0 : goal.returns-then-host-eq0
-unfolding debugger_text room widest
-returns-then-host-eq0 c =
-    record {
-      put = rw (ne_eqb c.args.h.cmd END-WATCH c.if-h-eq-END_WATCH.false, eq-eqb c.args.host 0 c.if-host-eq0.true) c.put_filled-then-host-eq0.ensures.put;
-      upper_bound = omega (arith, c.put_filled-then-host-eq0.ensures.upper_bound);
-    }
-
-pub put_filled-requires-then-host-h : goal.put_filled-requires-then-host-h
-unfolding room widest
-put_filled-requires-then-host-h c = omega arith
-
-pub returns-then-host-h : goal.returns-then-host-h
-unfolding debugger_text room widest
-returns-then-host-h c =
-    record {
-      put = rw (ne_eqb c.args.h.cmd END-WATCH c.if-h-eq-END_WATCH.false, ne_eqb c.args.host 0 c.if-host-eq0.false, eq-eqb c.args.host c.args.h.host c.if-host-h.true) c.put_filled-then-host-h.ensures.put;
-      upper_bound = omega (arith, c.put_filled-then-host-h.ensures.upper_bound);
-    }
-
-pub put_filled-requires-2 : goal.put_filled-requires-2
-unfolding room widest
-put_filled-requires-2 c = omega arith
-
-pub returns : goal.returns
-unfolding debugger_text room widest
-returns c =
-    record {
-      put = rw (ne_eqb c.args.h.cmd END-WATCH c.if-h-eq-END_WATCH.false, ne_eqb c.args.host 0 c.if-host-eq0.false, ne_eqb c.args.host c.args.h.host c.if-host-h.false) c.put_filled-2.ensures.put;
-      upper_bound = omega (arith, c.put_filled-2.ensures.upper_bound);
-    }
+pub returns-clause-put : goal.returns-clause-put
+unfolding debugger_text
+returns-clause-put c =
+    let h = c.args.h in
+    let host = c.args.host in
+    let put = c.put_filled.ensures.put in
+    elim c.if-h-eq-END_WATCH.branch [
+      | then-h-eq-END_WATCH w ↦ rw (eq-eqb h.cmd END-WATCH w.if-h-eq-END_WATCH.true) (rw w.pattern-is at put)
+      | else-h-eq-END_WATCH+then-host-eq0 w ↦ rw (ne_eqb h.cmd END-WATCH w.if-h-eq-END_WATCH.false, eq-eqb host 0 w.if-host-eq0.true) (rw w.pattern-is at put)
+      | else-h-eq-END_WATCH+else-host-eq0+then-host-h w ↦ rw (ne_eqb h.cmd END-WATCH w.if-h-eq-END_WATCH.false, ne_eqb host 0 w.if-host-eq0.false, eq-eqb host h.host w.if-host-h.true) (rw w.pattern-is at put)
+      | else-h-eq-END_WATCH+else-host-eq0+else-host-h w ↦ rw (ne_eqb h.cmd END-WATCH w.if-h-eq-END_WATCH.false, ne_eqb host 0 w.if-host-eq0.false, ne_eqb host h.host w.if-host-h.false) (rw w.pattern-is at put)
+    ]
