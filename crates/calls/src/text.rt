@@ -45,7 +45,7 @@ pub(crate) fn put_beside(shown: Shown, line: &[u8], at: usize, out: &mut [u8]) -
     requires { at + 3 + length line.now ≤ length out.old }
     ensures { Put at (beside_notice shown line.now) out.old result out.new }
 {
-    if line.len() == 0 {
+    if line.is_empty() {
         return put(b"\n", at, out);
     }
     let next = put_between(shown, at, out);
@@ -58,7 +58,7 @@ fn put_recorded(number: u8, line: &[u8], out: &mut [u8]) -> usize
     ensures { Put 0 (text_shown Shown.Recorded number line.now) out.old result out.new }
 {
     let at = put_number(number as u16, 0, out);
-    if line.len() == 0 {
+    if line.is_empty() {
         return put(b" -\n", at, out);
     }
     let next = put(b" ", at, out);

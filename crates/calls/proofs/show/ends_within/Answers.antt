@@ -3,10 +3,10 @@ use mathlib.Core.Path.{refl, sym, ◌∙◌}
 use Rattle.calls.specs.Meaning.{ends_within}
 use Rattle.calls.proofs.show.ends_within.Goals as goal
 
-pub returns-then-not-ends : goal.returns-then-not-ends
+pub returns-then-ends : goal.returns-then-ends
 unfolding ends_within
-returns-then-not-ends c = rw (sym c.ends.ensures ∙ c.if-not-ends.true) refl
+returns-then-ends c = rw (sym c.ends.ensures ∙ c.if-ends.true) refl
 
-pub returns : goal.returns
+pub returns-else-ends : goal.returns-else-ends
 unfolding ends_within
-returns c = rw (sym c.ends.ensures ∙ c.if-not-ends.false) refl
+returns-else-ends c = rw (sym c.ends.ensures ∙ c.if-ends.false) c.if-ends.false
