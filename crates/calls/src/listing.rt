@@ -11,7 +11,7 @@ const MOST_SIZE: u16 = 65535;
 pub const NO_DOOR: u8 = 255;
 
 // Where in the line the reading stands.
-#[derive(Clone, Copy, PartialEq, Eq)]
+#[derive(Clone, Copy)]
 pub enum Place {
     // After the word: a blank may follow.
     Behind,
