@@ -1,12 +1,11 @@
 -- Laws of the processes that a start lists and of the process of the Pup door, read character by character. Assumes nothing.
 use mathlib.Core.Path.{◌≡◌, refl, sym, ap, ◌∙◌}
-use mathlib.Core.Bool.{Bool, true, false, not, cond, ◌&&◌}
+use mathlib.Core.Bool.{Bool, true, false, cond, ◌&&◌}
 use mathlib.Core.List.{List}
-use mathlib.Core.Logic.{◌⊎◌, inl, inr}
 use Prim.Native.Nat.{ℕ, ◌+◌, ◌-◌, ◌*◌, ◌≤◌, ◌<◌}
 use native.Mathlib.Numerals.{add-one}
 use native.Mathlib.Omega.{arith}
-use borrow.Author.Tests.{eq-eqb, lt-ltb, le-ltb, leb-true}
+use borrow.Author.Tests.{leb-true}
 use lib.ListN.{length, drop, get_or, drop_of_length-le}
 use lib.Seq.{drop-cons}
 use lib.Dec.{eqb, leb, ltb}
@@ -14,28 +13,13 @@ use Rattle.lists.proofs.Bool.{&&-left, &&-right}
 use Rattle.calls.specs.declared.listing.Place.{Place}
 use Rattle.calls.specs.declared.listing.Place.TheVariants.{Behind, Before, Named, Colon, Sized, P, Pu, Pup, AtDoor, Door, Wrong}
 use Rattle.calls.specs.declared.listing.Listing.{Listing}
-use Rattle.calls.specs.Listing.{is_digit, goes_on, most_size, no_door, at, named, size_of, sized, doored, only, next_in, next_listing, listed, complete}
+use Rattle.calls.specs.Listing.{is_digit, goes_on, most_size, no_door, at, named, size_of, sized, doored, only, next_in, next_listing, listed}
 
 pub digit-range : (last c : ℕ) → is_digit last c ≡ true → (48 ≤ c) × (c ≤ last)
 unfolding is_digit
 digit-range last c e = (leb-true 48 c (&&-left (leb 48 c) (leb c last) e), leb-true c last (&&-right (leb 48 c) (leb c last) e))
 
 -- ---- whether a number goes on
-
--- by the first two tests together
-pub both-tests : (n c : ℕ) (t d : Bool) → (n ≡ 0 → ⊥) → t ≡ d → d ≡ is_digit 57 c → t ≡ (ltb 0 n && is_digit 57 c)
-both-tests n c t d h e f = e ∙ f ∙ rw (lt-ltb 0 n (omega (arith, h)))
-
-pub first-fails : (n c : ℕ) (t : Bool) → n ≡ 0 → t ≡ not (eqb n 0) → t ≡ (ltb 0 n && is_digit 57 c)
-first-fails n c t h e = e ∙ rw (eq-eqb n 0 h, le-ltb 0 n (omega (arith, h)))
-
-pub goes-both : (most n c : ℕ) (t : Bool) → t ≡ (ltb 0 n && is_digit 57 c) → goes_on most n c ≡ (t && leb (10 * n + (c - 48)) most)
-unfolding goes_on
-goes-both most n c t e = rw e (go (ltb 0 n))
-  where
-    go : (a : Bool) → (a && (is_digit 57 c && leb (10 * n + (c - 48)) most)) ≡ ((a && is_digit 57 c) && leb (10 * n + (c - 48)) most)
-    go true = refl
-    go false = refl
 
 pub goes-range : (most n c : ℕ) → goes_on most n c ≡ true → (48 ≤ c) × (10 * n + (c - 48) ≤ most)
 unfolding goes_on
@@ -107,26 +91,3 @@ module _ (r : Listing) (text : List ℕ) (i : ℕ) where
   pub listed-end : length text ≤ i → listed r (drop i text) ≡ r
   unfolding listed
   listed-end h = ap (listed r) (drop_of_length-le text h)
-
--- ---- where the line may end
-
-pub complete-there : (p : Place) → (p ≡ Behind) ⊎ ((p ≡ Named) ⊎ ((p ≡ Sized) ⊎ (p ≡ Door))) → true ≡ complete p
-unfolding complete
-complete-there p h = elim h [
-  | inl e ↦ rw e refl
-  | inr g ↦ elim g [ inl e ↦ rw e refl | inr f ↦ elim f [ inl e ↦ rw e refl | inr e ↦ rw e refl ] ]
-]
-
-pub complete-nowhere : (p : Place) → (p ≡ Behind → ⊥) → (p ≡ Named → ⊥) → (p ≡ Sized → ⊥) → (p ≡ Door → ⊥) → false ≡ complete p
-unfolding complete
-complete-nowhere Behind b n s d = absurd (b refl)
-complete-nowhere Before b n s d = refl
-complete-nowhere Named b n s d = absurd (n refl)
-complete-nowhere Colon b n s d = refl
-complete-nowhere Sized b n s d = absurd (s refl)
-complete-nowhere P b n s d = refl
-complete-nowhere Pu b n s d = refl
-complete-nowhere Pup b n s d = refl
-complete-nowhere AtDoor b n s d = refl
-complete-nowhere Door b n s d = absurd (d refl)
-complete-nowhere Wrong b n s d = refl

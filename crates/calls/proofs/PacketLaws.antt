@@ -5,7 +5,6 @@ use mathlib.Core.List.{List, [], ◌∷◌, ◌++◌, append_assoc, append-nil}
 use Prim.Native.Nat.{ℕ, zero, suc, ◌+◌, ◌-◌, ◌≤◌, ◌<◌, min}
 use native.Mathlib.Numerals.{add-one}
 use native.Mathlib.Omega.{arith}
-use borrow.Author.Tests.{eq-eqb}
 use lib.ListN.{length, take, set}
 use lib.Seq.{take-suc-set}
 use Rattle.format.specs.declared.outcome.Outcome.{Outcome}
@@ -77,17 +76,6 @@ pub all-passed : (passed rest all : List ℕ) → rest ≡ [] → passed ++ rest
 all-passed passed rest all none h = sym (ap (λ (l : List ℕ). passed ++ l) none ∙ append-nil passed) ∙ h
 
 -- ---- the answers
-
--- the three types that are acknowledged stand after another
-pub acked-range : (kind number : ℕ) → number ≡ 0 → 128 ≤ kind → kind ≤ 130 → true ≡ acknowledged kind number
-unfolding acknowledged
-acked-range kind number z low high = go (kind - 128) (omega (arith, low))
-  where
-    go : (d : ℕ) → kind ≡ 128 + d → true ≡ acknowledged kind number
-    go zero e = rw (eq-eqb number 0 z, e) refl
-    go (suc zero) e = rw (eq-eqb number 0 z, e) refl
-    go (suc (suc zero)) e = rw (eq-eqb number 0 z, e) refl
-    go (suc (suc (suc d))) e = absurd (omega (arith, e, high))
 
 -- what is put is the number of a tick
 module _ (o : Outcome) (s m : List ℕ) (x : Called) (X : called o s m [] ≡ x) (number len : ℕ) (before after : List ℕ) where

@@ -18,6 +18,7 @@ use lines::{Phase, Scan, at_most, put};
 use state_bytes::read_extent_at;
 
 // The buffer that is lent to a call for a reply or a notice.
+#[tactic(auto, unfolding(crate::specs::Meaning::zero_buffer))]
 fn zero_buffer() -> [u8; MESSAGE]
     ensures { result ≡ zero_buffer }
 {

@@ -48,6 +48,7 @@ pub struct Listing {
 }
 
 // Whether a character is a digit, and not after this last one.
+#[tactic(auto, unfolding(crate::specs::Listing::is_digit))]
 fn is_digit(last: u8, c: u8) -> bool
     ensures { result ≡ is_digit last c }
 {
@@ -55,6 +56,7 @@ fn is_digit(last: u8, c: u8) -> bool
 }
 
 // Whether a number of at most so much goes on with this digit.
+#[tactic(auto, unfolding(crate::specs::Listing::goes_on, crate::specs::Listing::is_digit))]
 fn goes_on(most: u16, n: u16, c: u8) -> bool
     ensures { result ≡ goes_on most n c }
 {
@@ -116,6 +118,7 @@ impl Listing {
     }
 
     // This one character may follow, and nothing else.
+    #[tactic(auto, unfolding(crate::specs::Listing::only))]
     fn only(self, mark: u8, place: Place, c: u8) -> Listing
         ensures { result ≡ only mark place c self }
     {
@@ -126,6 +129,7 @@ impl Listing {
     }
 
     // After a blank.
+    #[tactic(auto, unfolding(crate::specs::Listing::next_in, crate::specs::Listing::is_digit))]
     fn after_blank(self, c: u8) -> Listing
         ensures { result ≡ next_in Place.Before c self }
     {
@@ -136,6 +140,7 @@ impl Listing {
     }
 
     // After a process.
+    #[tactic(auto, unfolding(crate::specs::Listing::next_in))]
     fn after_process(self, c: u8) -> Listing
         ensures { result ≡ next_in Place.Named c self }
     {
@@ -146,6 +151,7 @@ impl Listing {
     }
 
     // After a colon.
+    #[tactic(auto, unfolding(crate::specs::Listing::next_in, crate::specs::Listing::is_digit))]
     fn after_colon(self, c: u8) -> Listing
         requires { self.process < 8 }
         ensures { result ≡ next_in Place.Colon c self }
@@ -169,6 +175,7 @@ impl Listing {
     }
 
     // After the word `pup` and its blank.
+    #[tactic(auto, unfolding(crate::specs::Listing::next_in, crate::specs::Listing::is_digit))]
     fn after_pup(self, c: u8) -> Listing
         ensures { result ≡ next_in Place.AtDoor c self }
     {
@@ -222,6 +229,7 @@ impl Listing {
     }
 
     // Whether the line may end here.
+    #[tactic(auto, unfolding(crate::specs::Listing::complete))]
     pub fn is_complete(self) -> bool
         ensures { result ≡ complete self.place }
     {

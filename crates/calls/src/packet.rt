@@ -78,6 +78,7 @@ fn read_packet(line: &[u8]) -> Option<Packet>
 }
 
 // Whether a packet of this type that got this number is acknowledged: a Store, a Fetch or a Go that is granted.
+#[tactic(auto, unfolding(crate::specs::Packet::acknowledged))]
 fn is_acknowledged(kind: u8, number: u8) -> bool
     ensures { result ≡ acknowledged kind number }
 {
@@ -111,6 +112,7 @@ fn put_ack(number: u8, id: u32, words: &[u16], out: &mut [u8]) -> usize
 }
 
 // The number of a packet, and its acknowledgement or a dash, as a line.
+#[tactic(auto, unfolding(crate::specs::Packet::packet_shown, crate::specs::Packet::silent_line))]
 fn put_packet(acked: bool, number: u8, id: u32, words: &[u16], out: &mut [u8]) -> usize
     requires { 23 + 6 * length words.now ≤ length out.old }
     ensures { Prints (packet_shown acked number id words.now) result out.old out.new }
@@ -122,6 +124,7 @@ fn put_packet(acked: bool, number: u8, id: u32, words: &[u16], out: &mut [u8]) -
 }
 
 // The buffer that is lent to a call for an acknowledgement.
+#[tactic(auto, unfolding(crate::specs::Meaning::zero_ack))]
 fn zero_ack() -> [u16; ACK_WORDS]
     ensures { result ≡ zero_ack }
 {
