@@ -3,6 +3,9 @@ ghost use Rattle.std.specs.Prelude.{◌≡◌, ◌-◌, ◌<◌, ◌≤◌, leng
 ghost use Rattle.decimal.specs.Numeral.{digit_of, plain};
 ghost use Rattle.decimal.specs.Read.{wrong, begun, checked, number_at, behind, ends_line};
 
+// What stands before a number.
+const BLANK: u8 = b' ';
+
 // A number, or nothing where it or one before it was wrong; and the index after it.
 // A flag and no Option: ReadsNumbers and the definitions of Read.antt speak of `ok`, `value` and `next` of a number that is wrong too.
 #[derive(Clone, Copy)]
@@ -93,7 +96,7 @@ impl Number {
         ensures value_le_most { result.value ≤ most }
     {
         let at = self.next;
-        if !self.ok || line.len() <= at || line[at] != b' ' {
+        if !self.ok || line.len() <= at || line[at] != BLANK {
             return Number::wrong();
         }
         Number::digits(line, at + 1, most)
