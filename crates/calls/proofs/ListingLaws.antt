@@ -5,7 +5,7 @@ use mathlib.Core.List.{List}
 use Prim.Native.Nat.{ℕ, ◌+◌, ◌-◌, ◌*◌, ◌≤◌, ◌<◌}
 use native.Mathlib.Numerals.{add-one}
 use native.Mathlib.Omega.{arith}
-use borrow.Author.Tests.{lt-ltb, le-ltb, leb-true}
+use borrow.Author.Tests.{leb-true}
 use lib.ListN.{length, drop, get_or, drop_of_length-le}
 use lib.Seq.{drop-cons}
 use lib.Dec.{eqb, leb, ltb}
@@ -20,22 +20,6 @@ unfolding is_digit
 digit-range last c e = (leb-true 48 c (&&-left (leb 48 c) (leb c last) e), leb-true c last (&&-right (leb 48 c) (leb c last) e))
 
 -- ---- whether a number goes on
-
-pub zero-ends : (most n c : ℕ) → n ≡ 0 → goes_on most n c ≡ false
-unfolding goes_on
-zero-ends most n c e = rw (le-ltb 0 n (omega (arith, e)))
-
-pub other-ends : (most n c : ℕ) → is_digit 57 c ≡ false → goes_on most n c ≡ false
-unfolding goes_on
-other-ends most n c e = rw e (go (ltb 0 n))
-  where
-    go : (t : Bool) → (t && false) ≡ false
-    go true = refl
-    go false = refl
-
-pub digit-goes : (most n c : ℕ) → 0 < n → is_digit 57 c ≡ true → goes_on most n c ≡ leb (10 * n + (c - 48)) most
-unfolding goes_on
-digit-goes most n c h e = rw (lt-ltb 0 n h, e)
 
 pub goes-range : (most n c : ℕ) → goes_on most n c ≡ true → (48 ≤ c) × (10 * n + (c - 48) ≤ most)
 unfolding goes_on

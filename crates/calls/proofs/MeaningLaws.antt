@@ -6,11 +6,11 @@ use mathlib.Core.List.{List}
 use Prim.Native.Nat.{ℕ, ◌+◌, ◌-◌, ◌≤◌, ◌<◌, min}
 use native.Mathlib.Omega.{arith}
 use borrow.Author.Tests.{lt-ltb, le-ltb, leb-true, leb-false, eq-eqb, ne_eqb}
-use lib.ListN.{length, take, drop, set, replicate, length-take, length-drop, length-replicate, replicate-append-replicate, drop_of_length-le}
+use lib.ListN.{length, take, drop, replicate, length-take, length-drop, drop_of_length-le}
 use lib.Seq.{take_all}
 use lib.Dec.{leb}
 use Rattle.lists.specs.Buffer.{overlay}
-use Rattle.lists.proofs.Buffer.{take-overlay, overlay-snoc, overlay-all}
+use Rattle.lists.proofs.Buffer.{take-overlay}
 use Rattle.format.specs.Outcome.{Outcome}
 use Rattle.format.specs.Outcome.{outcome, number_of, first_failing}
 use Rattle.format.specs.Refusal.{wrong_length}
@@ -91,21 +91,6 @@ part-slot from count start end m S E =
     let rest : List ℕ = drop start m in
     let many : end - start ≡ min count (length rest) = omega (arith, length-drop start m, S, E) in
     ap (λ (n : ℕ). take n rest) many ∙ take-at-most count rest ∙ ap (take count) (ap (λ (n : ℕ). drop n m) S ∙ drop-at-most from m)
-
--- ---- zeros one after another
-
-abbrev zeros : ℕ → List ℕ
-zeros n = replicate n 0
-
-pub zero_turn : (m : List ℕ) (i : ℕ) → i < length m → set (overlay (zeros i) m) i 0 ≡ overlay (zeros (i + 1)) m
-zero_turn m i h =
-    let size : length (zeros i) ≡ i = length-replicate {A = ℕ} i 0 in
-    ap (λ (n : ℕ). set (overlay (zeros i) m) n 0) (sym size)
-    ∙ overlay-snoc (zeros i) m 0 (omega (arith, size, h))
-    ∙ ap (λ (l : List ℕ). overlay l m) (replicate-append-replicate {A = ℕ} i 1 0)
-
-pub zero-all : (m : List ℕ) (i : ℕ) → i ≡ length m → overlay (zeros i) m ≡ zeros (length m)
-zero-all m i e = overlay-all (zeros i) m (omega (arith, length-replicate {A = ℕ} i 0, e)) ∙ ap zeros e
 
 -- ---- the answer of a call
 

@@ -1,9 +1,10 @@
 -- The numbers of a packet, read one after another, and the lines that answer packets and ticks.
-use Rattle.std.specs.Prelude.{Bool, cond, ◌&&◌, ◌||◌, List, [], ◌∷◌, ◌++◌, ℕ, zero, suc, eqb}
+use Rattle.std.specs.Prelude.{◌≡◌, ◌≤◌, take, true, Bool, cond, ◌&&◌, ◌||◌, List, [], ◌∷◌, ◌++◌, ℕ, zero, suc, eqb}
 use Rattle.lists.specs.Joined.{joined}
 use Rattle.packets.specs.Types.{STORE, FETCH, GO, ACK}
 use Rattle.decimal.specs.declared.number.Number.{Number}
 use Rattle.decimal.specs.Numeral.{numeral, field}
+use Rattle.calls.specs.declared.packet.Packet.{Packet}
 use Rattle.decimal.specs.Read.{begun, behind, ends_line}
 
 -- ---- reading
@@ -41,6 +42,14 @@ words_in line = data_in most_words line (id_in line)
 -- all numbers of a packet are right, and the line ends after them
 unfoldable pub packet_in : List ℕ → Bool
 packet_in line = ends_line line (last_in most_words line (id_in line))
+
+-- the line is right, and these are its numbers
+pub record IsPacket (line : List ℕ) (p : Packet) : Type 0 where
+  pub right : packet_in line ≡ true
+  pub kind : p.kind ≡ (type_in line).value
+  pub id : p.id ≡ (id_in line).value
+  pub words : take p.data.len p.data.words ≡ words_in line
+  pub fits : p.data.len ≤ most_words
 
 -- ---- answering
 

@@ -1,5 +1,5 @@
 // The calls that change state or memory, each with the line that it prints.
-ghost use Rattle.std.specs.Prelude.{◌≡◌, ◌++◌, ◌+◌, ◌*◌, ◌≤◌, ◌<◌, length, set, replicate};
+ghost use Rattle.std.specs.Prelude.{◌≡◌, ◌++◌, ◌+◌, ◌*◌, ◌≤◌, ◌<◌, length, set};
 ghost use Rattle.lines.specs.declared.scan.Phase.TheVariants.{Open};
 ghost use Rattle.lines.specs.Scan.{bytes_of};
 ghost use Rattle.decimal.specs.Numeral.{numeral};
@@ -7,7 +7,7 @@ ghost use Rattle.calls.specs.Effect.{longest_text, Prints, Does};
 ghost use Rattle.calls.specs.Meaning.{zero_buffer, request_made, request_effect, report_made, report_effect, start_made, start_effect, store_effect};
 
 use crate::listing::Listing;
-use crate::number::read_report;
+use crate::number::{Report, read_report};
 use crate::show::{answer_unknown, ends_within, place};
 use crate::text::{Shown, put_beside, zero_line};
 use crate::{KEPT, MEMORY, MESSAGE, STATE};
@@ -18,6 +18,7 @@ use lines::{Phase, Scan, at_most, put};
 use state_bytes::read_extent_at;
 
 // The buffer that is lent to a call for a reply or a notice.
+#[tactic(auto, unfolding(crate::specs::Meaning::zero_buffer))]
 fn zero_buffer() -> [u8; MESSAGE]
     ensures { result ≡ zero_buffer }
 {
@@ -65,24 +66,21 @@ fn make_report(
     shown: Shown,
     state: &mut [u8; STATE],
     memory: &mut [u8; MEMORY],
-    pid: u8,
-    kind: u8,
-    reason: u16,
-    words: [u16; 9],
+    read: Report,
     out: &mut [u8],
 ) -> usize
     requires { longest_text ≤ length out.old }
-    ensures { Does (report_made shown pid kind reason words state.old memory.old) result state.new memory.new out.old out.new }
+    ensures { Does (report_made shown read.process read.kind read.reason read.words state.old memory.old) result state.new memory.new out.old out.new }
 {
     let mut notice = zero_buffer();
     let mut line = zero_line();
     let told = report(
         state,
         memory,
-        pid,
-        kind,
-        reason,
-        words,
+        read.process,
+        read.kind,
+        read.reason,
+        read.words,
         &mut notice,
         &mut line,
     );
@@ -104,32 +102,10 @@ pub fn answer_report(
     requires { longest_text ≤ length out.old }
     ensures { Does (report_effect shown line.now state.old memory.old) result state.new memory.new out.old out.new }
 {
-    let read = read_report(line);
-    let words = read.words;
-    if !read.ok {
+    let Some(read) = read_report(line) else {
         return answer_unknown(state, memory, out);
-    }
-    make_report(
-        shown,
-        state,
-        memory,
-        read.process,
-        read.kind,
-        read.reason,
-        words,
-        out,
-    )
-}
-
-// Makes all bytes zero.
-fn clear(memory: &mut [u8])
-    ensures { memory.new ≡ replicate (length memory.old) 0 }
-{
-    let mut i = 0;
-    while i < memory.len() {
-        memory[i] = 0;
-        i += 1;
-    }
+    };
+    make_report(shown, state, memory, read, out)
 }
 
 // The number of a call, and what follows it.
@@ -145,19 +121,17 @@ pub(crate) fn put_numbered(number: u8, rest: &[u8], out: &mut [u8]) -> usize
 fn make_start(
     state: &mut [u8; STATE],
     memory: &mut [u8; MEMORY],
-    there: [bool; 8],
-    sizes: [u16; 8],
-    door: u8,
+    listing: Listing,
     out: &mut [u8],
 ) -> usize
     requires { longest_text ≤ length out.old }
-    ensures { Does (start_made there sizes door state.old memory.old) result state.new memory.new out.old out.new }
+    ensures { Does (start_made listing.there listing.sizes listing.door state.old memory.old) result state.new memory.new out.old out.new }
 {
-    let number = fresh_start(there, sizes, door, state).number();
+    let number = fresh_start(listing.there, listing.sizes, listing.door, state).number();
     if number != 0 {
         return put_numbered(number, b"\n", out);
     }
-    clear(memory);
+    memory.fill(0);
     0
 }
 
@@ -173,12 +147,10 @@ pub fn answer_start(
 {
     let word = at_most(5, line);
     let listing = Listing::new().part(&line[word..]);
-    let there = listing.there;
-    let sizes = listing.sizes;
     if !listing.is_complete() {
         return answer_unknown(state, memory, out);
     }
-    make_start(state, memory, there, sizes, listing.door, out)
+    make_start(state, memory, listing, out)
 }
 
 // Stores a byte at an index, if memory reaches so far.

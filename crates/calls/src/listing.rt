@@ -48,23 +48,19 @@ pub struct Listing {
 }
 
 // Whether a character is a digit, and not after this last one.
+#[tactic(auto, unfolding(crate::specs::Listing::is_digit))]
 fn is_digit(last: u8, c: u8) -> bool
     ensures { result ≡ is_digit last c }
 {
-    48 <= c && c <= last
+    b'0' <= c && c <= last
 }
 
 // Whether a number of at most so much goes on with this digit.
+#[tactic(auto, unfolding(crate::specs::Listing::goes_on, crate::specs::Listing::is_digit))]
 fn goes_on(most: u16, n: u16, c: u8) -> bool
     ensures { result ≡ goes_on most n c }
 {
-    if n == 0 {
-        return false;
-    }
-    if !is_digit(57, c) {
-        return false;
-    }
-    10 * (n as usize) + ((c - 48) as usize) <= most as usize
+    n != 0 && is_digit(b'9', c) && 10 * (n as usize) + ((c - b'0') as usize) <= most as usize
 }
 
 impl Listing {
@@ -72,9 +68,8 @@ impl Listing {
     pub fn new() -> Listing
         ensures { result ≡ empty }
     {
-        let place = Place::Behind;
         Listing {
-            place: place,
+            place: Place::Behind,
             process: 0,
             there: [false; 8],
             sizes: [MEMORY_BYTES as u16; 8],
@@ -86,72 +81,44 @@ impl Listing {
     fn at(self, place: Place) -> Listing
         ensures { result ≡ at place self }
     {
-        let there = self.there;
-        let sizes = self.sizes;
-        Listing {
-            place: place,
-            process: self.process,
-            there: there,
-            sizes: sizes,
-            door: self.door,
-        }
+        Listing { place, ..self }
     }
 
     // A process is named.
-    fn named(self, p: usize) -> Listing
+    fn named(mut self, p: usize) -> Listing
         requires { p < 8 }
         ensures { result ≡ named p self }
     {
-        let place = Place::Named;
-        let mut there = self.there;
-        let mut sizes = self.sizes;
-        there[p] = true;
-        sizes[p] = MEMORY_BYTES as u16;
-        Listing {
-            place: place,
-            process: p,
-            there: there,
-            sizes: sizes,
-            door: self.door,
-        }
+        self.place = Place::Named;
+        self.process = p;
+        self.there[p] = true;
+        self.sizes[p] = MEMORY_BYTES as u16;
+        self
     }
 
     // This is the size so far of the process that was named last.
-    fn sized(self, size: u16) -> Listing
+    fn sized(mut self, size: u16) -> Listing
         requires { self.process < 8 }
         ensures { result ≡ sized size self }
     {
-        let place = Place::Sized;
-        let there = self.there;
-        let mut sizes = self.sizes;
-        let p = self.process;
-        sizes[p] = size;
-        Listing {
-            place: place,
-            process: p,
-            there: there,
-            sizes: sizes,
-            door: self.door,
-        }
+        self.place = Place::Sized;
+        self.sizes[self.process] = size;
+        self
     }
 
     // This is the process of the Pup door so far.
     fn doored(self, door: u8) -> Listing
         ensures { result ≡ doored door self }
     {
-        let place = Place::Door;
-        let there = self.there;
-        let sizes = self.sizes;
         Listing {
-            place: place,
-            process: self.process,
-            there: there,
-            sizes: sizes,
-            door: door,
+            place: Place::Door,
+            door,
+            ..self
         }
     }
 
     // This one character may follow, and nothing else.
+    #[tactic(auto, unfolding(crate::specs::Listing::only))]
     fn only(self, mark: u8, place: Place, c: u8) -> Listing
         ensures { result ≡ only mark place c self }
     {
@@ -162,32 +129,35 @@ impl Listing {
     }
 
     // After a blank.
+    #[tactic(auto, unfolding(crate::specs::Listing::next_in, crate::specs::Listing::is_digit))]
     fn after_blank(self, c: u8) -> Listing
         ensures { result ≡ next_in Place.Before c self }
     {
-        if is_digit(55, c) {
-            return self.named((c - 48) as usize);
+        if is_digit(b'7', c) {
+            return self.named((c - b'0') as usize);
         }
         self.only(b'p', Place::P, c)
     }
 
     // After a process.
+    #[tactic(auto, unfolding(crate::specs::Listing::next_in))]
     fn after_process(self, c: u8) -> Listing
         ensures { result ≡ next_in Place.Named c self }
     {
-        if c == 58 {
+        if c == b':' {
             return self.at(Place::Colon);
         }
-        self.only(32, Place::Before, c)
+        self.only(b' ', Place::Before, c)
     }
 
     // After a colon.
+    #[tactic(auto, unfolding(crate::specs::Listing::next_in, crate::specs::Listing::is_digit))]
     fn after_colon(self, c: u8) -> Listing
         requires { self.process < 8 }
         ensures { result ≡ next_in Place.Colon c self }
     {
-        if is_digit(57, c) {
-            return self.sized((c - 48) as u16);
+        if is_digit(b'9', c) {
+            return self.sized((c - b'0') as u16);
         }
         self.at(Place::Wrong)
     }
@@ -197,21 +167,20 @@ impl Listing {
         requires { self.process < 8 }
         ensures { result ≡ next_in Place.Sized c self }
     {
-        let sizes = self.sizes;
-        let p = self.process;
-        let size = sizes[p];
+        let size = self.sizes[self.process];
         if goes_on(MOST_SIZE, size, c) {
-            return self.sized(10 * size + ((c - 48) as u16));
+            return self.sized(10 * size + ((c - b'0') as u16));
         }
-        self.only(32, Place::Before, c)
+        self.only(b' ', Place::Before, c)
     }
 
     // After the word `pup` and its blank.
+    #[tactic(auto, unfolding(crate::specs::Listing::next_in, crate::specs::Listing::is_digit))]
     fn after_pup(self, c: u8) -> Listing
         ensures { result ≡ next_in Place.AtDoor c self }
     {
-        if is_digit(57, c) {
-            return self.doored(c - 48);
+        if is_digit(b'9', c) {
+            return self.doored(c - b'0');
         }
         self.at(Place::Wrong)
     }
@@ -220,9 +189,8 @@ impl Listing {
     fn after_door(self, c: u8) -> Listing
         ensures { result ≡ next_in Place.Door c self }
     {
-        let door = self.door;
-        if goes_on(NO_DOOR as u16, door as u16, c) {
-            return self.doored(10 * door + (c - 48));
+        if goes_on(NO_DOOR as u16, self.door as u16, c) {
+            return self.doored(10 * self.door + (c - b'0'));
         }
         self.at(Place::Wrong)
     }
@@ -233,16 +201,15 @@ impl Listing {
         ensures value { result ≡ next_listing self c }
         ensures process_bound { result.process < 8 }
     {
-        let place = self.place;
-        match place {
-            Place::Behind => self.only(32, Place::Before, c),
+        match self.place {
+            Place::Behind => self.only(b' ', Place::Before, c),
             Place::Before => self.after_blank(c),
             Place::Named => self.after_process(c),
             Place::Colon => self.after_colon(c),
             Place::Sized => self.after_digit(c),
             Place::P => self.only(b'u', Place::Pu, c),
             Place::Pu => self.only(b'p', Place::Pup, c),
-            Place::Pup => self.only(32, Place::AtDoor, c),
+            Place::Pup => self.only(b' ', Place::AtDoor, c),
             Place::AtDoor => self.after_pup(c),
             Place::Door => self.after_door(c),
             Place::Wrong => self,
@@ -255,31 +222,20 @@ impl Listing {
         ensures { result ≡ listed self text.now }
     {
         let mut listing = self;
-        let mut i = 0;
-        while i < text.len() {
-            listing = listing.push(text[i]);
-            i += 1;
+        for c in text {
+            listing = listing.push(*c);
         }
         listing
     }
 
     // Whether the line may end here.
+    #[tactic(auto, unfolding(crate::specs::Listing::complete))]
     pub fn is_complete(self) -> bool
         ensures { result ≡ complete self.place }
     {
-        let place = self.place;
-        match place {
-            Place::Behind => true,
-            Place::Before => false,
-            Place::Named => true,
-            Place::Colon => false,
-            Place::Sized => true,
-            Place::P => false,
-            Place::Pu => false,
-            Place::Pup => false,
-            Place::AtDoor => false,
-            Place::Door => true,
-            Place::Wrong => false,
-        }
+        matches!(
+            self.place,
+            Place::Behind | Place::Named | Place::Sized | Place::Door
+        )
     }
 }

@@ -1,6 +1,6 @@
 // The numbers of a report.
-ghost use Rattle.std.specs.Prelude.{◌≡◌};
-ghost use Rattle.calls.specs.Words.{last_of, words_of, process_in, kind_in, reason_in, report_in};
+ghost use Rattle.std.specs.Prelude.{◌≡◌, false, MatchOption};
+ghost use Rattle.calls.specs.Words.{last_of, words_of, report_in, IsReport};
 
 use decimal::Number;
 
@@ -18,47 +18,37 @@ pub(crate) fn words_behind(number: Number, line: &[u8]) -> Words
 {
     let mut last = number;
     let mut words = [0u16; 9];
-    let mut i = 0;
-    while i < 9 {
+    for word in &mut words {
         last = last.then(line, 65535);
-        words[i] = last.value as u16;
-        i += 1;
+        *word = last.value as u16;
     }
-    Words {
-        last: last,
-        words: words,
-    }
+    Words { last, words }
 }
 
-// The numbers of a report, if they are right.
+// The numbers of a report.
 #[derive(Clone, Copy)]
 pub struct Report {
-    pub ok: bool,
     pub process: u8,
     pub kind: u8,
     pub reason: u16,
     pub words: [u16; 9],
 }
 
-// The numbers after the word.
-pub(crate) fn read_report(line: &[u8]) -> Report
-    ensures ok_value { result.ok ≡ report_in line.now }
-    ensures process_value { result.process ≡ (process_in line.now).value }
-    ensures kind_value { result.kind ≡ (kind_in line.now).value }
-    ensures reason_value { result.reason ≡ (reason_in line.now).value }
-    ensures words_value { result.words ≡ words_of 9 line.now (reason_in line.now) }
+// The numbers after the word, if they are right.
+pub(crate) fn read_report(line: &[u8]) -> Option<Report>
+    ensures { MatchOption result (report_in line.now ≡ false) (IsReport line.now) }
 {
     let process = Number::start(6).then(line, 255);
     let kind = process.then(line, 255);
     let reason = kind.then(line, 65535);
-    let all = words_behind(reason, line);
-    let last = all.last;
-    let words = all.words;
-    Report {
-        ok: last.ends(line),
+    let Words { last, words } = words_behind(reason, line);
+    if !last.ends(line) {
+        return None;
+    }
+    Some(Report {
         process: process.value as u8,
         kind: kind.value as u8,
         reason: reason.value as u16,
-        words: words,
-    }
+        words,
+    })
 }

@@ -1,11 +1,10 @@
 // A packet, which goes to the process of the Pup door, and its acknowledgement.
-ghost use Rattle.std.specs.Prelude.{◌≡◌, ◌+◌, ◌*◌, ◌≤◌, length, take};
+ghost use Rattle.std.specs.Prelude.{◌≡◌, ◌+◌, ◌*◌, ◌≤◌, false, length, take, MatchOption};
 ghost use Rattle.lists.specs.Joined.{joined};
 ghost use Rattle.format.specs.Outcome.{length_of};
-ghost use Rattle.lines.specs.Count.{AtMost};
 ghost use Rattle.lines.specs.Scan.{Put};
 ghost use Rattle.calls.specs.Effect.{longest_text, Prints, Does};
-ghost use Rattle.calls.specs.Packet.{most_words, last_in, data_in, type_in, id_in, words_in, packet_in, acknowledged, word_text, ack_line, packet_shown};
+ghost use Rattle.calls.specs.Packet.{most_words, last_in, data_in, packet_in, IsPacket, acknowledged, word_text, ack_line, packet_shown};
 ghost use Rattle.calls.specs.Meaning.{zero_ack, packet_made, packet_effect};
 
 use crate::call::put_numbered;
@@ -22,7 +21,8 @@ const MOST_WORDS: usize = 64;
 // The greatest ID, of 32 bits.
 const MOST_ID: usize = 4294967295;
 
-// The data words, of which so many stand at the start, and the last number of the line as it was read.
+// The data words, of which so many stand at the start, and the last number of the line as it was read. A buffer and a length, and no Vec:
+// there is no heap.
 #[derive(Clone, Copy)]
 pub struct Data {
     pub last: Number,
@@ -34,73 +34,55 @@ pub struct Data {
 fn data_behind(number: Number, line: &[u8]) -> Data
     ensures last_value { result.last ≡ last_in most_words line.now number }
     ensures words_value { take result.len result.words ≡ data_in most_words line.now number }
+    ensures fits { result.len ≤ most_words }
 {
     let mut last = number;
     let mut words = [0u16; MOST_WORDS];
-    let mut i = 0;
-    while i < MOST_WORDS {
+    for len in 0..MOST_WORDS {
         if last.ends(line) {
-            return Data {
-                last: last,
-                words: words,
-                len: i,
-            };
+            return Data { last, words, len };
         }
         last = last.then(line, 65535);
-        words[i] = last.value as u16;
-        i += 1;
+        words[len] = last.value as u16;
     }
     Data {
-        last: last,
-        words: words,
-        len: i,
+        last,
+        words,
+        len: MOST_WORDS,
     }
 }
 
-// The numbers of a packet, if they are right.
+// The numbers of a packet.
 #[derive(Clone, Copy)]
 pub struct Packet {
-    pub ok: bool,
     pub kind: u8,
     pub id: u32,
-    pub words: [u16; MOST_WORDS],
-    pub len: usize,
+    pub data: Data,
 }
 
-// The numbers after the word.
-fn read_packet(line: &[u8]) -> Packet
-    ensures ok_value { result.ok ≡ packet_in line.now }
-    ensures kind_value { result.kind ≡ (type_in line.now).value }
-    ensures id_value { result.id ≡ (id_in line.now).value }
-    ensures words_value { take result.len result.words ≡ words_in line.now }
+// The numbers after the word, if they are right.
+fn read_packet(line: &[u8]) -> Option<Packet>
+    ensures { MatchOption result (packet_in line.now ≡ false) (IsPacket line.now) }
 {
     let kind = Number::start(6).then(line, 255);
     let id = kind.then(line, MOST_ID);
     let data = data_behind(id, line);
-    let last = data.last;
-    let words = data.words;
-    Packet {
-        ok: last.ends(line),
+    if !data.last.ends(line) {
+        return None;
+    }
+    Some(Packet {
         kind: kind.value as u8,
         id: id.value as u32,
-        words: words,
-        len: data.len,
-    }
+        data,
+    })
 }
 
 // Whether a packet of this type that got this number is acknowledged: a Store, a Fetch or a Go that is granted.
+#[tactic(auto, unfolding(crate::specs::Packet::acknowledged))]
 fn is_acknowledged(kind: u8, number: u8) -> bool
     ensures { result ≡ acknowledged kind number }
 {
-    if number != 0 {
-        return false;
-    }
-    match kind {
-        STORE => true,
-        FETCH => true,
-        GO => true,
-        _ => false,
-    }
+    number == 0 && matches!(kind, STORE | FETCH | GO)
 }
 
 // Words, each after a blank, from an index on; the index after them.
@@ -110,10 +92,8 @@ fn put_words(words: &[u16], from: usize, out: &mut [u8]) -> usize
     ensures upper_bound { result ≤ from + 6 * length words.now }
 {
     let mut at = from;
-    let mut i = 0;
-    while i < words.len() {
-        at = put_field(32, words[i], at, out);
-        i += 1;
+    for word in words {
+        at = put_field(b' ', *word, at, out);
     }
     at
 }
@@ -124,14 +104,15 @@ fn put_ack(number: u8, id: u32, words: &[u16], out: &mut [u8]) -> usize
     ensures { Prints (ack_line number id words.now) result out.old out.new }
 {
     let first = put_number(number as u16, 0, out);
-    let second = put_field(32, ACK as u16, first, out);
-    put_mark(32, second, out);
+    let second = put_field(b' ', ACK as u16, first, out);
+    put_mark(b' ', second, out);
     let third = put_long(id, second + 1, out);
     let end = put_words(words, third, out);
     put(b"\n", end, out)
 }
 
 // The number of a packet, and its acknowledgement or a dash, as a line.
+#[tactic(auto, unfolding(crate::specs::Packet::packet_shown, crate::specs::Packet::silent_line))]
 fn put_packet(acked: bool, number: u8, id: u32, words: &[u16], out: &mut [u8]) -> usize
     requires { 23 + 6 * length words.now ≤ length out.old }
     ensures { Prints (packet_shown acked number id words.now) result out.old out.new }
@@ -143,6 +124,7 @@ fn put_packet(acked: bool, number: u8, id: u32, words: &[u16], out: &mut [u8]) -
 }
 
 // The buffer that is lent to a call for an acknowledgement.
+#[tactic(auto, unfolding(crate::specs::Meaning::zero_ack))]
 fn zero_ack() -> [u16; ACK_WORDS]
     ensures { result ≡ zero_ack }
 {
@@ -159,16 +141,6 @@ fn ack_length(outcome: Outcome) -> usize
     }
 }
 
-// So many of the words, or all where there are fewer.
-fn most_words(n: usize, words: &[u16]) -> usize
-    ensures { AtMost result n words.now }
-{
-    if n < words.len() {
-        return n;
-    }
-    words.len()
-}
-
 // Hands over a packet, and puts its answer as a line.
 fn make_packet(
     state: &mut [u8; STATE],
@@ -183,7 +155,7 @@ fn make_packet(
 {
     let mut ack = zero_ack();
     let outcome = packet(state, memory, kind, id, words, &mut ack);
-    let n = most_words(ack_length(outcome), &ack);
+    let n = ack_length(outcome).min(ACK_WORDS);
     let number = outcome.number();
     put_packet(is_acknowledged(kind, number), number, id, &ack[..n], out)
 }
@@ -198,11 +170,8 @@ pub fn answer_packet(
     requires { longest_text ≤ length out.old }
     ensures { Does (packet_effect line.now state.old memory.old) result state.new memory.new out.old out.new }
 {
-    let read = read_packet(line);
-    let words = read.words;
-    if !read.ok {
+    let Some(Packet { kind, id, data }) = read_packet(line) else {
         return answer_unknown(state, memory, out);
-    }
-    let n = most_words(read.len, &words);
-    make_packet(state, memory, read.kind, read.id, &words[..n], out)
+    };
+    make_packet(state, memory, kind, id, &data.words[..data.len], out)
 }

@@ -12,7 +12,9 @@ use gateway::why;
 use lines::{Phase, Scan, at_most};
 use reasons::Reason;
 
-// A reason for a message of so many bytes: where it is 3, the length, it tells their number.
+// A reason for a message of so many bytes: where it is 3, the length, it tells their number. By its number, and no match on Length: Other(3)
+// has it too.
+#[tactic(auto, unfolding(crate::specs::Meaning::recounted))]
 fn recounted(count: usize, reason: Reason) -> Reason
     ensures { result ≡ recounted count reason }
 {

@@ -27,13 +27,11 @@ pub fn answer_unknown(state: &[u8], memory: &[u8], out: &mut [u8]) -> usize
 }
 
 // Whether a line ends after this number, and the bytes that it names end at this address, at most here.
+#[tactic(auto, unfolding(crate::specs::Meaning::ends_within))]
 pub(crate) fn ends_within(number: Number, line: &[u8], end: usize, most: usize) -> bool
     ensures { result ≡ ends_within line.now number end most }
 {
-    if !number.ends(line) {
-        return false;
-    }
-    end <= most
+    number.ends(line) && end <= most
 }
 
 // Where in memory the byte of process p with this address lies.

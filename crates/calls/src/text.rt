@@ -22,6 +22,7 @@ pub enum Shown {
 }
 
 // The buffer that is lent to a call for a text line.
+#[tactic(auto, unfolding(crate::specs::Meaning::zero_line))]
 pub(crate) fn zero_line() -> [u8; LINE]
     ensures { result ≡ zero_line }
 {
@@ -29,6 +30,7 @@ pub(crate) fn zero_line() -> [u8; LINE]
 }
 
 // What stands before a line that a report answers, from an index on; the index after it.
+#[tactic(auto, unfolding(crate::specs::Shown::mark_of))]
 fn put_between(shown: Shown, at: usize, out: &mut [u8]) -> usize
     requires { at + 3 ≤ length out.old }
     ensures put { Put at (mark_of shown) out.old result out.new }
@@ -45,7 +47,7 @@ pub(crate) fn put_beside(shown: Shown, line: &[u8], at: usize, out: &mut [u8]) -
     requires { at + 3 + length line.now ≤ length out.old }
     ensures { Put at (beside_notice shown line.now) out.old result out.new }
 {
-    if line.len() == 0 {
+    if line.is_empty() {
         return put(b"\n", at, out);
     }
     let next = put_between(shown, at, out);
@@ -58,7 +60,7 @@ fn put_recorded(number: u8, line: &[u8], out: &mut [u8]) -> usize
     ensures { Put 0 (text_shown Shown.Recorded number line.now) out.old result out.new }
 {
     let at = put_number(number as u16, 0, out);
-    if line.len() == 0 {
+    if line.is_empty() {
         return put(b" -\n", at, out);
     }
     let next = put(b" ", at, out);
@@ -66,6 +68,7 @@ fn put_recorded(number: u8, line: &[u8], out: &mut [u8]) -> usize
 }
 
 // What answers a text line; its length.
+#[tactic(auto, unfolding(crate::specs::Shown::text_shown))]
 fn put_text(shown: Shown, number: u8, line: &[u8], out: &mut [u8]) -> usize
     requires { 8 + length line.now ≤ length out.old }
     ensures { Put 0 (text_shown shown number line.now) out.old result out.new }

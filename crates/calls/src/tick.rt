@@ -18,6 +18,7 @@ fn make_tick(state: &mut [u8; STATE], memory: &[u8], out: &mut [u8]) -> usize
 }
 
 // tick
+#[tactic(auto, unfolding(crate::specs::Meaning::tick_effect, crate::specs::Meaning::if_right))]
 pub fn answer_tick(state: &mut [u8; STATE], memory: &[u8], line: &[u8], out: &mut [u8]) -> usize
     requires { longest_text ≤ length out.old }
     ensures { Does (tick_effect line.now state.old memory.now) result state.new memory.now out.old out.new }

@@ -1,9 +1,13 @@
 // The numbers of a line: decimal, without sign or leading zeros, each after a single blank.
-ghost use Rattle.std.specs.Prelude.{◌≡◌, ◌-◌, ◌≤◌, length, take, drop};
+ghost use Rattle.std.specs.Prelude.{◌≡◌, ◌-◌, ◌<◌, ◌≤◌, length, take, drop, MatchOption};
 ghost use Rattle.decimal.specs.Numeral.{digit_of, plain};
 ghost use Rattle.decimal.specs.Read.{wrong, begun, checked, number_at, behind, ends_line};
 
+// What stands before a number.
+const BLANK: u8 = b' ';
+
 // A number, or nothing where it or one before it was wrong; and the index after it.
+// A flag and no Option: ReadsNumbers and the definitions of Read.antt speak of `ok`, `value` and `next` of a number that is wrong too.
 #[derive(Clone, Copy)]
 pub struct Number {
     pub ok: bool,
@@ -11,18 +15,14 @@ pub struct Number {
     pub next: usize,
 }
 
-// The value of a digit, or 10.
-fn digit(c: u8) -> usize
-    ensures value { result ≡ digit_of c }
-    ensures upper_bound { result ≤ 10 }
+// The value of a digit.
+fn digit(c: u8) -> Option<usize>
+    ensures { MatchOption result (digit_of c ≡ 10) (λ v. (v ≡ digit_of c) × (v < 10)) }
 {
-    if c < 48 {
-        return 10;
+    match c {
+        b'0'..=b'9' => Some((c - b'0') as usize),
+        _ => None,
     }
-    if 57 < c {
-        return 10;
-    }
-    (c - 48) as usize
 }
 
 // Whether digits between two indices are a numeral: one at least, and no zero before others.
@@ -30,13 +30,7 @@ fn is_plain(line: &[u8], at: usize, end: usize) -> bool
     requires { end ≤ length line.now }
     ensures { result ≡ plain (take (end - at) (drop at line.now)) }
 {
-    if end <= at {
-        return false;
-    }
-    if end - at == 1 {
-        return true;
-    }
-    line[at] != 48
+    at < end && (end - at == 1 || line[at] != b'0')
 }
 
 impl Number {
@@ -71,7 +65,7 @@ impl Number {
         }
         Number {
             ok: true,
-            value: value,
+            value,
             next: end,
         }
     }
@@ -83,19 +77,16 @@ impl Number {
         ensures { result ≡ number_at most line.now at }
     {
         let mut value = 0;
-        let mut i = at;
-        while i < line.len() {
-            let v = digit(line[i]);
-            if v == 10 {
+        for i in at..line.len() {
+            let Some(v) = digit(line[i]) else {
                 return Number::checked(line, at, i, value);
-            }
+            };
             value = 10 * value + v;
             if most < value {
                 return Number::wrong();
             }
-            i += 1;
         }
-        Number::checked(line, at, i, value)
+        Number::checked(line, at, line.len(), value)
     }
 
     // The next number: a blank and digits.
@@ -105,13 +96,7 @@ impl Number {
         ensures value_le_most { result.value ≤ most }
     {
         let at = self.next;
-        if !self.ok {
-            return Number::wrong();
-        }
-        if line.len() <= at {
-            return Number::wrong();
-        }
-        if line[at] != 32 {
+        if !self.ok || line.len() <= at || line[at] != BLANK {
             return Number::wrong();
         }
         Number::digits(line, at + 1, most)
@@ -121,9 +106,6 @@ impl Number {
     pub fn ends(self, line: &[u8]) -> bool
         ensures { result ≡ ends_line line.now self }
     {
-        if !self.ok {
-            return false;
-        }
-        self.next == line.len()
+        self.ok && self.next == line.len()
     }
 }

@@ -1,14 +1,13 @@
--- Laws of the word that a line begins with: the loop that compares, and the front of a long line. Assumes nothing.
+-- Laws of the word that a line begins with: the test of it, and the front of a long line. Assumes nothing.
 use mathlib.Core.Path.{◌≡◌, refl, sym, ap, ◌∙◌}
 use mathlib.Core.Bool.{Bool, true, false, ◌&&◌, true≢false}
 use mathlib.Core.List.{List, [], ◌∷◌, ◌++◌}
-use Prim.Native.Nat.{ℕ, zero, suc, ◌+◌, ◌≤◌, ◌<◌}
-use native.Mathlib.Numerals.{add-one}
+use Prim.Native.Nat.{ℕ, zero, suc, ◌≤◌, ◌<◌}
 use native.Mathlib.Omega.{arith}
-use borrow.Author.Tests.{eq-eqb, ne_eqb, eqb-true}
-use lib.ListN.{length, take, drop, get_or, drop_of_length-le}
-use lib.Seq.{drop-cons}
+use borrow.Author.Tests.{eq-eqb, ne_eqb, eqb-true, eqb-false}
+use lib.ListN.{length, take}
 use lib.Dec.{eqb}
+use Rattle.std.specs.List.{starts_with}
 use Rattle.lists.proofs.Bool.{&&-left, &&-right}
 use Rattle.recording.specs.declared.command.Command.{Command}
 use Rattle.recording.specs.Command.{begins, request_word, line_word, raw_word, why_word, any_length}
@@ -23,24 +22,19 @@ begins-short (c ∷ text) (d ∷ line) h = go (eqb d c) (begins-short text line 
     go true e = e
     go false e = refl
 
--- a turn of the loop that compares
-module _ (text line : List ℕ) (i : ℕ) (h : i < length text) (k : i < length line) where
-  here : (xs : List ℕ) → i < length xs → drop i xs ≡ get_or xs i 0 ∷ drop (i + 1) xs
-  here xs l = drop-cons xs i 0 l ∙ ap (λ (n : ℕ). get_or xs i 0 ∷ drop n xs) (sym (add-one i))
+eqb-sym : (a b : ℕ) → eqb a b ≡ eqb b a
+eqb-sym a b = go (eqb a b) refl
+  where
+    go : (t : Bool) → eqb a b ≡ t → eqb a b ≡ eqb b a
+    go true e = e ∙ sym (eq-eqb b a (sym (eqb-true a b e)))
+    go false e = e ∙ sym (ne_eqb b a (λ f. eqb-false a b e (sym f)))
 
-  turn : begins (drop i text) (drop i line) ≡ eqb (get_or line i 0) (get_or text i 0) && begins (drop (i + 1) text) (drop (i + 1) line)
-  unfolding begins
-  turn = rw (here text h, here line k)
-
-  pub begins-next : get_or line i 0 ≡ get_or text i 0 → begins (drop (i + 1) text) (drop (i + 1) line) ≡ begins (drop i text) (drop i line)
-  begins-next e = sym (turn ∙ ap (λ (t : Bool). t && begins (drop (i + 1) text) (drop (i + 1) line)) (eq-eqb (get_or line i 0) (get_or text i 0) e))
-
-  pub begins-other : (get_or line i 0 ≡ get_or text i 0 → ⊥) → false ≡ begins (drop i text) (drop i line)
-  begins-other n = sym (turn ∙ ap (λ (t : Bool). t && begins (drop (i + 1) text) (drop (i + 1) line)) (ne_eqb (get_or line i 0) (get_or text i 0) n))
-
-pub begins-end : (text line : List ℕ) (i : ℕ) → length text ≤ i → true ≡ begins (drop i text) line
+-- as std's `starts_with` tests it
+pub begins-starts : (text line : List ℕ) → starts_with eqb line text ≡ begins text line
 unfolding begins
-begins-end text line i h = rw (drop_of_length-le text h)
+begins-starts [] line = refl
+begins-starts (c ∷ text) [] = refl
+begins-starts (c ∷ text) (d ∷ line) = rw (eqb-sym c d) (ap (λ (t : Bool). eqb d c && t) (begins-starts text line))
 
 -- a word is found in the front of a line that is long enough for it
 pub begins-take : (text line : List ℕ) (n : ℕ) → length text ≤ n → begins text (take n line) ≡ begins text line

@@ -157,7 +157,7 @@ module _ (l : Language) (block : List ℕ) (at len : ℕ) (x : Session) (out out
 
   -- the block is at its end
   pub feeds-all : (partial : Partial) (line s m : List ℕ) (start : Fed) → x ≡ session (reading partial line) s m → at ≡ length block
-      → fed l (length out₀) x (take len out) (drop at block) ≡ start → Feeds start (record { partial = partial; used = at; len = len }) block line s m out₀ out
+      → fed l (length out₀) x (take len out) (drop at block) ≡ start → Feeds start (record { partial = partial; used = length block; len = len }) block line s m out₀ out
   unfolding fed
   feeds-all partial line s m start X b G =
       let none : drop at block ≡ [] = drop_of_length-le block {i = at} (omega (arith, b)) in

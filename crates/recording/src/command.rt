@@ -26,68 +26,51 @@ pub enum Command {
 pub(crate) fn begins(line: &[u8], text: &[u8]) -> bool
     ensures { result ≡ begins text.now line.now }
 {
-    if line.len() < text.len() {
-        return false;
-    }
-    let mut i = 0;
-    while i < text.len() {
-        if line[i] != text[i] {
-            return false;
-        }
-        i += 1;
-    }
-    true
+    line.starts_with(text)
 }
 
 // The call that a line of the right length begins with. What stands after the word is not looked at.
+#[tactic(auto, unfolding(crate::specs::Command::short_command))]
 fn short_command(line: &[u8]) -> Command
     ensures { result ≡ short_command line.now }
 {
     if begins(line, b"start") {
-        return Command::Start;
+        Command::Start
+    } else if begins(line, b"report") {
+        Command::Report
+    } else if begins(line, b"store") {
+        Command::Store
+    } else if begins(line, b"memory") {
+        Command::Memory
+    } else if begins(line, b"whole") {
+        Command::Whole
+    } else if begins(line, b"process") {
+        Command::Process
+    } else if begins(line, b"packet") {
+        Command::Packet
+    } else if begins(line, b"tick") {
+        Command::Tick
+    } else {
+        Command::Unknown
     }
-    if begins(line, b"report") {
-        return Command::Report;
-    }
-    if begins(line, b"store") {
-        return Command::Store;
-    }
-    if begins(line, b"memory") {
-        return Command::Memory;
-    }
-    if begins(line, b"whole") {
-        return Command::Whole;
-    }
-    if begins(line, b"process") {
-        return Command::Process;
-    }
-    if begins(line, b"packet") {
-        return Command::Packet;
-    }
-    if begins(line, b"tick") {
-        return Command::Tick;
-    }
-    Command::Unknown
 }
 
 // Which call a line is: one that stands for bytes may be of any length, and another call has at most 1,024 bytes.
+#[tactic(auto, unfolding(crate::specs::Command::command_of, crate::specs::Command::any_length))]
 pub(crate) fn command_of(line: &[u8]) -> Command
     ensures { result ≡ command_of line.now }
 {
     if begins(line, b"request ") {
-        return Command::Request;
+        Command::Request
+    } else if begins(line, b"line ") {
+        Command::Text
+    } else if begins(line, b"raw ") {
+        Command::Raw
+    } else if begins(line, b"why ") {
+        Command::Why
+    } else if LONGEST_LINE < line.len() {
+        Command::Unknown
+    } else {
+        short_command(line)
     }
-    if begins(line, b"line ") {
-        return Command::Text;
-    }
-    if begins(line, b"raw ") {
-        return Command::Raw;
-    }
-    if begins(line, b"why ") {
-        return Command::Why;
-    }
-    if LONGEST_LINE < line.len() {
-        return Command::Unknown;
-    }
-    short_command(line)
 }

@@ -38,11 +38,10 @@ fn end_line(
     requires { longest_text ≤ length out.old }
     ensures { Does (line_effect language partial.phase partial.size (reading partial line.now).line state.old memory.old) result state.new memory.new out.old out.new }
 {
-    let phase = partial.phase;
     let n = at_most(partial.len, line);
     answer_line(
         language,
-        phase,
+        partial.phase,
         partial.size,
         state,
         memory,
@@ -60,10 +59,11 @@ fn pairs_begin(language: Language, partial: Partial, line: &[u8]) -> usize
 }
 
 // Whether a character has to wait until there is room for the text of a line.
+#[tactic(auto, unfolding(crate::specs::Session::waits))]
 fn must_wait(c: u8, room: usize) -> bool
     ensures { result ≡ waits c room }
 {
-    c == 10 && room < LONGEST_TEXT
+    c == b'\n' && room < LONGEST_TEXT
 }
 
 // One character: a newline ends the line, which is then carried out.
@@ -79,7 +79,7 @@ fn read_character(
     requires { waits c (length out.old) ≡ false }
     ensures { Steps (stepped language c (session (reading partial line.old) state.old memory.old)) result line.new state.new memory.new out.old out.new }
 {
-    if c != 10 {
+    if c != b'\n' {
         let first = pairs_begin(language, partial, line);
         return Step {
             partial: partial.push(first, c, line),
@@ -89,7 +89,7 @@ fn read_character(
     let len = end_line(language, partial, state, memory, line, out);
     Step {
         partial: Partial::new(),
-        len: len,
+        len,
     }
 }
 
@@ -108,13 +108,12 @@ pub fn feed(
 {
     let mut now = partial;
     let mut len = 0;
-    let mut at = 0;
-    while at < block.len() {
+    for at in 0..block.len() {
         if must_wait(block[at], out.len() - len) {
             return Fed {
                 partial: now,
                 used: at,
-                len: len,
+                len,
             };
         }
         let step = read_character(
@@ -128,11 +127,10 @@ pub fn feed(
         );
         now = step.partial;
         len += step.len;
-        at += 1;
     }
     Fed {
         partial: now,
-        used: at,
-        len: len,
+        used: block.len(),
+        len,
     }
 }

@@ -19,6 +19,7 @@ pub enum Language {
 }
 
 // Where in a line of a recording the pairs begin.
+#[tactic(auto, unfolding(crate::specs::Line::pairs_behind))]
 fn pairs_behind(line: &[u8]) -> usize
     ensures { result ≡ pairs_behind line.now }
 {
@@ -31,24 +32,24 @@ fn pairs_behind(line: &[u8]) -> usize
 
 impl Language {
     // The processes that are there at first.
+    #[tactic(auto, unfolding(crate::specs::Line::there_at))]
     fn there(self) -> [bool; 8]
         ensures { result ≡ there_at self }
     {
         match self {
             Language::Bench => [false, false, true, false, false, false, false, false],
-            Language::Recording => [false; 8],
-            Language::TextDoor => [false; 8],
+            Language::Recording | Language::TextDoor => [false; 8],
         }
     }
 
     // Where in a line that begins so the pairs begin: in a recording after the word and a blank.
+    #[tactic(auto, unfolding(crate::specs::Line::pairs_from))]
     pub(crate) fn pairs_from(self, line: &[u8]) -> usize
         ensures { result ≡ pairs_from self line.now }
     {
         match self {
             Language::Bench => 0,
-            Language::Recording => pairs_behind(line),
-            Language::TextDoor => pairs_behind(line),
+            Language::Recording | Language::TextDoor => pairs_behind(line),
         }
     }
 }

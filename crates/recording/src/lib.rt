@@ -19,5 +19,3 @@ pub use partial::Partial;
 pub const LONGEST_LINE: usize = 1024;
 // How much is kept of a line: one byte more, which tells that it is longer.
 pub const KEPT: usize = 1025;
-// No more characters of a line are counted.
-const MOST_COUNTED: usize = 18446744073709551615;

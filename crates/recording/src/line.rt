@@ -13,13 +13,11 @@ use calls::{
 use lines::{Phase, at_most};
 
 // How many pairs a line of so many characters has after `why `.
+#[tactic(auto, unfolding(crate::specs::Line::pairs_in))]
 fn pairs_in(size: usize) -> usize
     ensures { result ≡ pairs_in size }
 {
-    if size < 3 {
-        return 0;
-    }
-    (size - 3) / 3
+    size.saturating_sub(3) / 3
 }
 
 // Carries out a line of a recording by its word.

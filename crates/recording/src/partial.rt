@@ -3,7 +3,6 @@ ghost use Rattle.std.specs.Prelude.{◌≡◌, List, ℕ, ◌+◌, ◌≤◌, le
 ghost use Rattle.recording.specs.Line.{capped};
 ghost use Rattle.recording.specs.Session.{reading, nothing_read, phase_after, typed};
 
-use crate::MOST_COUNTED;
 use lines::Phase;
 
 // What was read of a line: how many bytes of it are kept, how many characters it has, kept or not, and where its pairs led.
@@ -18,10 +17,7 @@ pub struct Partial {
 fn one_more(size: usize) -> usize
     ensures { result ≡ capped (size + 1) }
 {
-    if size < MOST_COUNTED {
-        return size + 1;
-    }
-    MOST_COUNTED
+    size.saturating_add(1)
 }
 
 impl Partial {
@@ -29,23 +25,22 @@ impl Partial {
     pub fn new() -> Partial
         ensures { (line : List ℕ) → reading result line ≡ nothing_read }
     {
-        let phase = Phase::Open;
         Partial {
             len: 0,
             size: 0,
-            phase: phase,
+            phase: Phase::Open,
         }
     }
 
     // Where the pairs led after one character more.
+    #[tactic(auto, unfolding(crate::specs::Session::phase_after))]
     fn phase_after(self, first: usize, c: u8) -> Phase
         ensures { result ≡ phase_after self.len first self.phase c }
     {
-        let phase = self.phase;
         if self.len < first {
-            return phase;
+            return self.phase;
         }
-        phase.next(c)
+        self.phase.next(c)
     }
 
     // One character more of a line whose pairs begin after its first so many bytes. It is counted, and kept if there is room.
@@ -53,21 +48,17 @@ impl Partial {
         requires { first ≤ length line.old }
         ensures { reading result line.new ≡ typed first (length line.old) c (reading self line.old) }
     {
-        let next = self.phase_after(first, c);
+        let phase = self.phase_after(first, c);
         let size = one_more(self.size);
         let len = self.len;
         if line.len() <= len {
-            return Partial {
-                len: len,
-                size: size,
-                phase: next,
-            };
+            return Partial { len, size, phase };
         }
         line[len] = c;
         Partial {
             len: len + 1,
-            size: size,
-            phase: next,
+            size,
+            phase,
         }
     }
 }

@@ -1,13 +1,10 @@
 -- `calls::packet::data_behind` meets its contract. The loop's invariant: the words passed, and those that are left, are all. Assumes nothing.
 use mathlib.Core.Path.{◌≡◌}
 use mathlib.Core.List.{◌++◌}
-use Prim.Native.Nat.{◌-◌, ◌≤◌}
+use Prim.Native.Nat.{◌-◌}
 use lib.ListN.{length, take}
 use Rattle.calls.specs.Packet.{last_in, data_in}
 use Rattle.calls.proofs.packet.data_behind.Given as goal
 
-abbrev pub invariant-loop-i : goal.invariant-loop-i
-invariant-loop-i l = (l.i ≤ 64) × (length l.words ≡ 64) × (last_in (64 - l.i) l.line l.last ≡ last_in 64 l.line l.initial.last) × (take l.i l.words ++ data_in (64 - l.i) l.line l.last ≡ data_in 64 l.line l.initial.last)
-
-abbrev pub decreases-loop-i : goal.decreases-loop-i
-decreases-loop-i l = 64 - l.i
+abbrev pub invariant-loop-len : goal.invariant-loop-len
+invariant-loop-len l = (length l.words ≡ 64) × (last_in (64 - l.len) l.line l.last ≡ last_in 64 l.line l.initial.last) × (take l.len l.words ++ data_in (64 - l.len) l.line l.last ≡ data_in 64 l.line l.initial.last)

@@ -6,20 +6,19 @@ use Rattle.lines.proofs.PutLaws.{put-more, put-joined-none, put-joined-all}
 use Rattle.calls.specs.Packet.{word_text}
 use Rattle.calls.proofs.packet.put_words.Goals as goal
 
-pub loop-i-init : goal.loop-i-init
-loop-i-init c = (omega arith, omega arith, refl, put-joined-none word_text c.args.from c.args.out.now)
+pub loop-word-init : goal.loop-word-init
+loop-word-init c = (omega arith, refl, put-joined-none word_text c.args.from c.args.out.now)
 
-pub loop-i-preserved : goal.loop-i-preserved
-loop-i-preserved c = (
-  omega arith,
+pub loop-word-preserved : goal.loop-word-preserved
+loop-word-preserved c = (
   omega (arith, c.put_field-at.ensures.upper_bound),
   search rules,
-  put-more word_text 0 c.args.words.now c.loop-i.i c.args.from c.loop-i.at c.put_field-at.result c.args.out.now c.loop-i.out c.put_field-at.new.out (omega arith) c.loop-i.invariant.3 c.put_field-at.ensures.put,
+  put-more word_text 0 c.args.words.now c.loop-word.word-index c.args.from c.loop-word.at c.put_field-at.result c.args.out.now c.loop-word.out c.put_field-at.new.out (omega arith) c.loop-word.invariant.2 c.put_field-at.ensures.put,
 )
 
 pub returns : goal.returns
 returns c =
     record {
-      put = put-joined-all word_text c.args.words.now c.loop-i.i c.args.from c.loop-i.at c.args.out.now c.loop-i.out (omega arith) c.loop-i.invariant.3;
+      put = put-joined-all word_text c.args.words.now c.loop-word.word-index c.args.from c.loop-word.at c.args.out.now c.loop-word.out (omega arith) c.loop-word.invariant.2;
       upper_bound = omega arith;
     }

@@ -1,14 +1,11 @@
 -- `calls::packet::put_words` meets its contract. The loop's invariant: what was passed is put, in 6 bytes each at most. Assumes nothing.
 use mathlib.Core.Path.{◌≡◌}
-use Prim.Native.Nat.{◌+◌, ◌-◌, ◌*◌, ◌≤◌}
+use Prim.Native.Nat.{◌+◌, ◌*◌, ◌≤◌}
 use lib.ListN.{length, take}
 use Rattle.lists.specs.Joined.{joined}
 use Rattle.lines.specs.Scan.{Put}
 use Rattle.calls.specs.Packet.{word_text}
 use Rattle.calls.proofs.packet.put_words.Given as goal
 
-abbrev pub invariant-loop-i : goal.invariant-loop-i
-invariant-loop-i l = (l.i ≤ length l.words) × (l.at ≤ l.from + 6 * l.i) × (length l.out ≡ length l.initial.out) × Put l.from (joined word_text (take l.i l.words)) l.initial.out l.at l.out
-
-abbrev pub decreases-loop-i : goal.decreases-loop-i
-decreases-loop-i l = length l.words - l.i
+abbrev pub invariant-loop-word : goal.invariant-loop-word
+invariant-loop-word l = (l.at ≤ l.from + 6 * l.word-index) × (length l.out ≡ length l.initial.out) × Put l.from (joined word_text (take l.word-index l.words)) l.initial.out l.at l.out

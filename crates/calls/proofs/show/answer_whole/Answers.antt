@@ -1,23 +1,27 @@
 -- `calls::show::answer_whole` meets its contract, by whether the numbers are right. Assumes nothing.
-use mathlib.Core.Path.{◌≡◌, refl, sym, ap, ◌∙◌}
-use Rattle.decimal.specs.Read.{behind}
+use mathlib.Core.Path.{◌≡◌, refl, sym, ◌∙◌}
+use mathlib.Core.List.{List}
+use Prim.Native.Nat.{ℕ}
+use Rattle.decimal.specs.declared.number.Number.{Number}
+use Rattle.decimal.specs.Read.{begun, behind}
 use Rattle.calls.specs.Meaning.{whole_address, whole_count, whole_memory_effect}
 use Rattle.calls.proofs.MeaningLaws.{does-right, does-wrong}
 use Rattle.calls.proofs.show.answer_whole.Goals as goal
 
+-- the numbers of the line, as they were read one after another
+numbers : (line : List ℕ) (s a n : Number) → s ≡ begun 5 → a ≡ behind 16384 line s → n ≡ behind 256 line a
+    → (a ≡ whole_address line) × (n ≡ whole_count line)
+numbers line s a n S A N = rw (N, A, S) (refl, refl)
+
 pub returns-then-not-ends_within : goal.returns-then-not-ends_within
 unfolding whole_memory_effect
 returns-then-not-ends_within c =
-    let A : c.then-address.result ≡ whole_address c.args.line.now = c.then-address.ensures.value ∙ ap (behind 16384 c.args.line.now) c.start.ensures in
-    let N : c.then-count.result ≡ whole_count c.args.line.now = c.then-count.ensures.value ∙ ap (behind 256 c.args.line.now) A in
-    let wrong = sym c.ends_within.ensures ∙ c.if-not-ends_within.true in
-    rw (← N, ← A) (does-wrong _ _ _ _ _ _ _ _ _ wrong c.answer_unknown.ensures)
+    let is = numbers c.args.line.now _ _ _ c.start.ensures c.then-address.ensures.value c.then-count.ensures.value in
+    rw (← is.1, ← is.0) (does-wrong _ _ _ _ _ _ _ _ _ (sym c.ends_within.ensures ∙ c.if-not-ends_within.true) c.answer_unknown.ensures)
 
 pub returns : goal.returns
 unfolding whole_memory_effect
 returns c =
-    let A : c.then-address.result ≡ whole_address c.args.line.now = c.then-address.ensures.value ∙ ap (behind 16384 c.args.line.now) c.start.ensures in
-    let N : c.then-count.result ≡ whole_count c.args.line.now = c.then-count.ensures.value ∙ ap (behind 256 c.args.line.now) A in
-    let right = sym c.ends_within.ensures ∙ c.if-not-ends_within.false in
-    rw (← N, ← A)
-    (does-right _ _ _ _ _ _ _ _ _ right (record { state = refl; memory = refl; text = c.put_slot.ensures }))
+    let is = numbers c.args.line.now _ _ _ c.start.ensures c.then-address.ensures.value c.then-count.ensures.value in
+    rw (← is.1, ← is.0)
+    (does-right _ _ _ _ _ _ _ _ _ (sym c.ends_within.ensures ∙ c.if-not-ends_within.false) (record { state = refl; memory = refl; text = c.put_slot.ensures }))

@@ -1,13 +1,14 @@
 -- `decimal::number::digit` meets its contract, by the tests of the character. Assumes nothing.
+use mathlib.Core.Path.{sym}
 use native.Mathlib.Omega.{arith}
 use Rattle.decimal.proofs.NumeralLaws.{digit_of-below, digit_of-above, digit_of-among}
 use Rattle.decimal.proofs.number.digit.Goals as goal
 
-pub returns-then-c-lt48 : goal.returns-then-c-lt48
-returns-then-c-lt48 c = record { value = digit_of-below c.args.c c.if-c-lt48.true; upper_bound = omega arith }
+pub returns-in-48-to-57 : goal.returns-in-48-to-57
+returns-in-48-to-57 c = (digit_of-among c.args.c (omega arith) (omega arith), omega arith)
 
-pub returns-then-c-gt57 : goal.returns-then-c-gt57
-returns-then-c-gt57 c = record { value = digit_of-above c.args.c c.if-c-lt48.false c.if-c-gt57.true; upper_bound = omega arith }
+pub returns-in_default : goal.returns-in_default
+returns-in_default c = sym (digit_of-below c.args.c (omega arith))
 
-pub returns : goal.returns
-returns c = record { value = digit_of-among c.args.c c.if-c-lt48.false c.if-c-gt57.false; upper_bound = omega arith }
+pub returns-in_default-2 : goal.returns-in_default-2
+returns-in_default-2 c = sym (digit_of-above c.args.c (omega arith) (omega arith))

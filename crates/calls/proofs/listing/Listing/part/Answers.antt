@@ -9,19 +9,20 @@ use Rattle.calls.specs.Listing.{listed}
 use Rattle.calls.proofs.ListingLaws.{listed-turn, listed-end}
 use Rattle.calls.proofs.listing.Listing.part.Goals as goal
 
-pub loop-i-init : goal.loop-i-init
-loop-i-init c = (omega arith, c.requires, refl)
+pub loop-c-init : goal.loop-c-init
+loop-c-init c = (c.requires, refl)
 
 pub push-listing-requires : goal.push-listing-requires
-push-listing-requires c = c.loop-i.invariant.1
+push-listing-requires c = c.loop-c.invariant.0
 
-pub loop-i-preserved : goal.loop-i-preserved
-loop-i-preserved c =
+pub loop-c-preserved : goal.loop-c-preserved
+loop-c-preserved c =
     let t = c.args.text.now in
-    let h : c.loop-i.i < length t = omega arith in
-    (omega arith, c.push-listing.ensures.process_bound, ap (λ (r : Listing). listed r (drop (c.loop-i.i + 1) t)) c.push-listing.ensures.value ∙ sym (listed-turn c.loop-i.listing t c.loop-i.i h) ∙ c.loop-i.invariant.2)
+    let i = c.loop-c.c-index in
+    let h : i < length t = omega arith in
+    (c.push-listing.ensures.process_bound, ap (λ (r : Listing). listed r (drop (i + 1) t)) c.push-listing.ensures.value ∙ sym (listed-turn c.loop-c.listing t i h) ∙ c.loop-c.invariant.1)
 
 pub returns : goal.returns
 returns c =
     let t = c.args.text.now in
-    sym (listed-end c.loop-i.listing t c.loop-i.i (omega arith)) ∙ c.loop-i.invariant.2
+    sym (listed-end c.loop-c.listing t c.loop-c.c-index (omega arith)) ∙ c.loop-c.invariant.1

@@ -1,17 +1,11 @@
 -- `decimal::number::Number::ends` meets its contract. Assumes nothing.
-use mathlib.Core.Path.{sym, ap}
-use mathlib.Core.Bool.{Bool, ◌&&◌}
-use borrow.Author.Tests.{not-true, not-false}
-use lib.ListN.{length}
-use lib.Dec.{eqb}
 use Rattle.decimal.specs.Read.{ends_line}
 use Rattle.decimal.proofs.number.Number.ends.Goals as goal
 
-pub returns-then-not-self : goal.returns-then-not-self
+pub returns-then-self : goal.returns-then-self
 unfolding ends_line
-returns-then-not-self c = rw (not-true c.args.self.ok c.if-not-self.true)
+returns-then-self c = rw c.if-self.true
 
-pub returns : goal.returns
+pub returns-else-self : goal.returns-else-self
 unfolding ends_line
-returns c =
-    sym (ap (λ (t : Bool). t && eqb c.args.self.next (length c.args.line.now)) (not-false c.args.self.ok c.if-not-self.false))
+returns-else-self c = rw c.if-self.false
