@@ -13,7 +13,7 @@ use ops::{
     BREAK, DEBUG, DEPOSIT, DEPOSIT_VECTOR, END_WATCH, EXAMINE, PROCEED, RESUME, SINGLE_STEP,
     STATUS, UNBREAK, WATCH,
 };
-use process::{FoundEntry, Process, VECTOR_BYTES};
+use process::{Process, VECTOR_BYTES};
 use run_state::Run;
 
 // 8: the asker debugs the process; for DEBUG, no other host does; for EXAMINE, BREAK, UNBREAK and STATUS he may watch it too; for WATCH another host
@@ -114,10 +114,9 @@ fn new_decision(asker: u8, process: Process) -> Decision
     if !process.may_have_more(asker) {
         return Decision::Refuse(11);
     }
-    let found = process.find(EntryQuery::Free);
-    match found {
-        FoundEntry::Index(k) => Decision::Allow(k),
-        FoundEntry::Nowhere => Decision::Refuse(11),
+    match process.find(EntryQuery::Free) {
+        Some(k) => Decision::Allow(k),
+        None => Decision::Refuse(11),
     }
 }
 
@@ -125,10 +124,9 @@ fn new_decision(asker: u8, process: Process) -> Decision
 fn break_decision(asker: u8, a: u16, process: Process) -> Decision
     ensures { result ≡ break_decision asker a process }
 {
-    let found = process.find(EntryQuery::At(a));
-    match found {
-        FoundEntry::Index(k) => own_decision(k, asker, process),
-        FoundEntry::Nowhere => new_decision(asker, process),
+    match process.find(EntryQuery::At(a)) {
+        Some(k) => own_decision(k, asker, process),
+        None => new_decision(asker, process),
     }
 }
 
@@ -136,10 +134,9 @@ fn break_decision(asker: u8, a: u16, process: Process) -> Decision
 fn unbreak_decision(asker: u8, a: u16, process: Process) -> Decision
     ensures { result ≡ unbreak_decision asker a process }
 {
-    let found = process.find(EntryQuery::At(a));
-    match found {
-        FoundEntry::Index(k) => own_decision(k, asker, process),
-        FoundEntry::Nowhere => Decision::Refuse(12),
+    match process.find(EntryQuery::At(a)) {
+        Some(k) => own_decision(k, asker, process),
+        None => Decision::Refuse(12),
     }
 }
 
