@@ -5,6 +5,7 @@ ghost use Rattle.breakpoints.specs.Entry.{free, breakpoint_at, with_count, with_
 // One of the eight entries of a process. A planted breakpoint, that is one in use and not lifted, has 3, 0 stored at its
 // address and the word that was there saved; a lifted one has its word back in memory for one instruction, until the process next
 // stops or reports. The setter is the host that set it; of a free entry it is 0.
+// The setter is a number, and no Option: 0 is what the bytes of a free entry hold, and what the theorems of specs/ say of one.
 #[derive(Clone, Copy)]
 pub struct Breakpoint {
     pub lifted: bool,
@@ -37,8 +38,8 @@ impl Breakpoint {
         Breakpoint {
             lifted: true,
             setter: host,
-            address: address,
-            count: count,
+            address,
+            count,
             low: 0,
             high: 0,
         }
@@ -67,13 +68,11 @@ impl Breakpoint {
     }
 
     // Whether this host set it.
+    #[tactic(auto, unfolding(crate::specs::Entry::is_set_by))]
     pub fn is_set_by(self, host: u8) -> bool
         ensures { result ≡ is_set_by host self }
     {
-        if self.setter == 0 {
-            return false;
-        }
-        self.setter == host
+        self.setter != 0 && self.setter == host
     }
 
     pub(crate) fn with_planted(mut self) -> Self
@@ -85,12 +84,9 @@ impl Breakpoint {
 }
 
 // Whether a breakpoint may stand at this address of a process of this size: it is even, and the word there is inside.
+#[tactic(auto, unfolding(crate::specs::Entry::valid_break_address))]
 pub fn valid_break_address(size: u16, a: u16) -> bool
     ensures { result ≡ valid_break_address size a }
 {
-    if a % 2 == 0 {
-        a as usize + 2 <= size as usize
-    } else {
-        false
-    }
+    a % 2 == 0 && a as usize + 2 <= size as usize
 }

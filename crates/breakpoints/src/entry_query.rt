@@ -14,17 +14,14 @@ pub enum EntryQuery {
 }
 
 impl Breakpoint {
+    #[tactic(auto, unfolding(crate::specs::EntryQuery::matches))]
     pub fn matches(self, query: EntryQuery) -> bool
         ensures { result ≡ matches query self }
     {
         match query {
             EntryQuery::Free => self.setter == 0,
-            EntryQuery::Lifted => if self.setter == 0 { false } else { self.lifted },
-            EntryQuery::At(a) => if self.setter == 0 {
-                false
-            } else {
-                self.address == a
-            },
+            EntryQuery::Lifted => self.setter != 0 && self.lifted,
+            EntryQuery::At(a) => self.setter != 0 && self.address == a,
         }
     }
 

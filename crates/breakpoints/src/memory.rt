@@ -20,6 +20,7 @@ fn put_word(bytes: &mut [u8], a: usize, low: u8, high: u8)
 }
 
 // Stores the byte of address i in a part of memory that starts at address at, if it is in there.
+#[tactic(auto, unfolding(crate::specs::Seen::overlay_saved_byte))]
 fn overlay_saved_byte(out: &mut [u8], at: usize, i: usize, v: u8)
     ensures { out.new ≡ overlay_saved_byte at i v out.old }
 {
@@ -35,10 +36,11 @@ impl Breakpoint {
     pub fn is_planted(self) -> bool
         ensures { result ≡ is_planted self }
     {
-        if self.lifted { false } else { self.setter != 0 }
+        !self.lifted && self.setter != 0
     }
 
     // Puts the saved word back, if the breakpoint is planted.
+    #[tactic(auto, unfolding(crate::specs::Seen::restored))]
     pub fn restore(self, bytes: &mut [u8])
         requires { in_use self ≡ true → self.address + 1 < length bytes.old }
         ensures { bytes.new ≡ restored self bytes.old }
@@ -49,6 +51,7 @@ impl Breakpoint {
     }
 
     // Exchanges the saved word and the word in memory, if the breakpoint is planted.
+    #[tactic(auto, unfolding(crate::specs::Seen::restored, crate::specs::Seen::saved_from))]
     pub fn exchange(self, bytes: &mut [u8]) -> Self
         requires { in_use self ≡ true → self.address + 1 < length bytes.old }
         ensures value { result ≡ saved_from bytes.old self }
@@ -78,6 +81,7 @@ impl Breakpoint {
     }
 
     // Lays the saved word over a part of memory that starts at address at, if the breakpoint is planted.
+    #[tactic(auto, unfolding(crate::specs::Seen::overlay_saved_word))]
     pub fn overlay_saved_word(self, at: usize, out: &mut [u8])
         ensures { out.new ≡ overlay_saved_word at self out.old }
     {

@@ -12,7 +12,7 @@ use ops::{
     BREAK, DEBUG, DEPOSIT, DEPOSIT_VECTOR, END_WATCH, EXAMINE, PROCEED, RESUME, SINGLE_STEP,
     STATUS, UNBREAK, WATCH,
 };
-use process::{FoundEntry, Process, VECTOR_BYTES};
+use process::{Process, VECTOR_BYTES};
 use run_state::Run;
 
 // 8: the asker debugs the process; for DEBUG, no other host does; for EXAMINE, BREAK, UNBREAK and STATUS he may watch it too; for WATCH another host
@@ -94,10 +94,9 @@ fn new_decision(asker: u8, process: Process) -> Result<usize, Refusal>
     if !process.may_have_more(asker) {
         return Err(Refusal::ENTRY);
     }
-    let found = process.find(EntryQuery::Free);
-    match found {
-        FoundEntry::Index(k) => Ok(k),
-        FoundEntry::Nowhere => Err(Refusal::ENTRY),
+    match process.find(EntryQuery::Free) {
+        Some(k) => Ok(k),
+        None => Err(Refusal::ENTRY),
     }
 }
 
@@ -105,10 +104,9 @@ fn new_decision(asker: u8, process: Process) -> Result<usize, Refusal>
 fn break_decision(asker: u8, a: u16, process: Process) -> Result<usize, Refusal>
     ensures { result ≡ break_decision asker a process }
 {
-    let found = process.find(EntryQuery::At(a));
-    match found {
-        FoundEntry::Index(k) => own_decision(k, asker, process),
-        FoundEntry::Nowhere => new_decision(asker, process),
+    match process.find(EntryQuery::At(a)) {
+        Some(k) => own_decision(k, asker, process),
+        None => new_decision(asker, process),
     }
 }
 
@@ -116,10 +114,9 @@ fn break_decision(asker: u8, a: u16, process: Process) -> Result<usize, Refusal>
 fn unbreak_decision(asker: u8, a: u16, process: Process) -> Result<usize, Refusal>
     ensures { result ≡ unbreak_decision asker a process }
 {
-    let found = process.find(EntryQuery::At(a));
-    match found {
-        FoundEntry::Index(k) => own_decision(k, asker, process),
-        FoundEntry::Nowhere => Err(Refusal::BREAKPOINT),
+    match process.find(EntryQuery::At(a)) {
+        Some(k) => own_decision(k, asker, process),
+        None => Err(Refusal::BREAKPOINT),
     }
 }
 

@@ -5,14 +5,15 @@ use mathlib.Core.Logic.{⊎_elim}
 use Prim.Native.Nat.{ℕ, ◌+◌, ◌≤◌, ◌<◌}
 use native.Mathlib.Nat.{eq-or-lt_of_le}
 use native.Mathlib.Omega.{arith}
-use borrow.Author.Tests.{eqb-true, eq-eqb, not-true, ltb-true, ltb-false, lt-ltb, le-ltb}
+use borrow.Author.Tests.{eqb-true, eq-eqb, ne_eqb, not-true, ltb-true, ltb-false, lt-ltb, le-ltb}
 use lib.ListN.{length}
 use lib.Dec.{eqb, ltb}
 use Rattle.lists.proofs.Bool.{&&-left, &&-right, &&-both}
 use Rattle.lists.proofs.First.{first-≤, first-before, first_passes, first-is}
 use Rattle.breakpoints.specs.declared.entry.Breakpoint.{Breakpoint}
 use Rattle.process.specs.declared.record.Process.{Process}
-use Rattle.process.specs.declared.find.FoundEntry.TheVariants.{Index, Nowhere}
+use Rattle.std.specs.Prelude.{Some, None}
+use Rattle.std.specs.Option.{option_eq}
 use Rattle.breakpoints.specs.declared.entry_query.EntryQuery.{EntryQuery}
 use Rattle.breakpoints.specs.declared.entry_query.EntryQuery.TheVariants.{Free, Lifted, At}
 use Rattle.breakpoints.specs.Entry.{free, in_use}
@@ -99,18 +100,27 @@ pub record FoundAt (n k : ℕ) : Type 0 where
   pub same : n ≡ k
   pub low : n < 8
 
-pub found-index : (n k : ℕ) → found_entry n ≡ Index k → FoundAt n k
+pub found-index : (n k : ℕ) → found_entry n ≡ Some k → FoundAt n k
 unfolding found_entry
 found-index n k e = go (ltb n 8) refl e
   where
-    go : (t : Bool) → ltb n 8 ≡ t → cond t (Index n) Nowhere ≡ Index k → FoundAt n k
+    go : (t : Bool) → ltb n 8 ≡ t → cond t (Some n) None ≡ Some k → FoundAt n k
     go true q e = record { same = cc; low = ltb-true n 8 q }
     go false q e = let z : ◌≡◌ {A = ℕ} 0 1 = cc in absurd (omega arith)
 
-pub found_nowhere : (n : ℕ) → found_entry n ≡ Nowhere → 8 ≤ n
+pub found_nowhere : (n : ℕ) → found_entry n ≡ None → 8 ≤ n
 unfolding found_entry
 found_nowhere n e = go (ltb n 8) refl e
   where
-    go : (t : Bool) → ltb n 8 ≡ t → cond t (Index n) Nowhere ≡ Nowhere → 8 ≤ n
+    go : (t : Bool) → ltb n 8 ≡ t → cond t (Some n) None ≡ None → 8 ≤ n
     go true q e = let z : ◌≡◌ {A = ℕ} 0 1 = cc in absurd (omega arith)
     go false q e = ltb-false n 8 q
+
+-- a search answers k exactly where it finds entry k
+pub found-is : (n k : ℕ) → k < 8 → option_eq eqb (found_entry n) (Some k) ≡ eqb n k
+unfolding found_entry
+found-is n k h = go (ltb n 8) refl
+  where
+    go : (t : Bool) → ltb n 8 ≡ t → option_eq eqb (cond t (Some n) None) (Some k) ≡ eqb n k
+    go true q = refl
+    go false q = sym (ne_eqb n k (λ e. omega (arith, ltb-false n 8 q, h, e)))

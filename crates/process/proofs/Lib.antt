@@ -12,6 +12,7 @@ pub mod ReportLaws
 pub mod KeptLaws
 pub mod AnswerLaws
 pub mod SeenKept
+pub mod TurnLaws
 pub mod WatchLaws
 pub mod EntryKept
 pub mod EndWatchLaws

@@ -1,9 +1,7 @@
 -- The search among the entries of a process.
-use Rattle.std.specs.Prelude.{cond, ℕ, ltb}
+use Rattle.std.specs.Prelude.{cond, ℕ, ltb, Option, Some, None}
 use Rattle.lists.specs.First.{first}
 use Rattle.process.specs.declared.record.Process.{Process}
-use Rattle.process.specs.declared.find.FoundEntry.{FoundEntry}
-use Rattle.process.specs.declared.find.FoundEntry.TheVariants.{Index, Nowhere}
 use Rattle.breakpoints.specs.declared.entry_query.EntryQuery.{EntryQuery}
 use Rattle.breakpoints.specs.EntryQuery.{matches}
 use Rattle.process.specs.Sizes.{entry_count}
@@ -13,5 +11,5 @@ unfoldable pub find : EntryQuery → Process → ℕ
 find query p = first (matches query) p.breaks
 
 -- such an index as the code answers it
-unfoldable pub found_entry : ℕ → FoundEntry
-found_entry k = cond (ltb k entry_count) (Index k) Nowhere
+unfoldable pub found_entry : ℕ → Option ℕ
+found_entry k = cond (ltb k entry_count) (Some k) None

@@ -13,17 +13,16 @@ impl Process {
         self.with_host(host)
     }
 
+    #[tactic(auto, unfolding(crate::specs::Request::end_debugged))]
     pub fn end_debug(self, bytes: &mut [u8]) -> Self
         requires { Tested self bytes.old }
         ensures value { result ≡ (end_debugged (local self bytes.old)).process }
         ensures bytes_after { bytes.new ≡ (end_debugged (local self bytes.old)).bytes }
     {
-        let run = self.run;
-        let next = run.released();
-        let p = self.exchange(bytes);
-        p.without_breaks()
+        self.exchange(bytes)
+            .without_breaks()
             .without_session()
             .with_host(0)
-            .with_run(next)
+            .with_run(self.run.released())
     }
 }

@@ -3,19 +3,18 @@ ghost use Rattle.std.specs.Prelude.{◌≡◌, ◌≤◌, length};
 ghost use Rattle.process.specs.Sizes.{memory_bytes};
 ghost use Rattle.process.specs.Request.{created, cleared};
 
-use crate::record::{MEMORY_BYTES, Process};
+use crate::record::Process;
 use run_state::Run;
 
 impl Process {
     // Makes a new process of this host, of this size and with these bytes, which are all zero then.
+    #[tactic(auto, unfolding(crate::specs::Request::created))]
     pub fn create(self, host: u8, size: u16, bytes: &mut [u8]) -> Self
         requires { (length bytes.old ≡ size) × (size ≤ memory_bytes) }
         ensures value { result ≡ (created host size).process }
         ensures bytes_after { bytes.new ≡ (created host size).bytes }
     {
-        let zeros = [0u8; MEMORY_BYTES];
-        let count = size as usize;
-        bytes.copy_from_slice(&zeros[..count]);
+        bytes.fill(0);
         Process::fresh(true, host, Run::Stopped, size)
     }
 
@@ -27,6 +26,7 @@ impl Process {
     }
 
     // The record of a process that is not there.
+    #[tactic(auto, unfolding(crate::specs::Request::cleared))]
     pub fn cleared() -> Self
         ensures { result ≡ cleared }
     {

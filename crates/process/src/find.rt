@@ -2,30 +2,14 @@
 ghost use Rattle.std.specs.Prelude.{◌≡◌};
 ghost use Rattle.process.specs.Find.{find, found_entry};
 
-use crate::record::{ENTRIES, Process};
+use crate::record::Process;
 use breakpoints::EntryQuery;
 
-// What a search among the entries finds.
-#[derive(Clone, Copy)]
-pub enum FoundEntry {
-    Index(usize),
-    Nowhere,
-}
-
 impl Process {
-    // Finds the first entry that matches.
-    pub fn find(self, query: EntryQuery) -> FoundEntry
+    // The index of the first entry that matches, if there is one.
+    pub fn find(self, query: EntryQuery) -> Option<usize>
         ensures { result ≡ found_entry (find query self) }
     {
-        let breaks = self.breaks;
-        let mut k = 0;
-        while k < ENTRIES {
-            let b = breaks[k];
-            if b.matches(query) {
-                return FoundEntry::Index(k);
-            }
-            k += 1;
-        }
-        FoundEntry::Nowhere
+        self.breaks.iter().position(|b| b.matches(query))
     }
 }

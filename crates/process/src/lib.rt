@@ -17,7 +17,6 @@ mod text_requests;
 pub mod theorems;
 mod watch_requests;
 
-pub use find::FoundEntry;
 pub use record::{ENTRIES, MEMORY_BYTES, Process, VECTOR_BYTES};
 pub use report::ReportResult;
 pub use sound::valid_size;

@@ -18,48 +18,46 @@ impl Process {
     }
 
     // A Go of this ID: one of the ID that waits already goes on counting.
+    #[tactic(auto, unfolding(crate::specs::Packet::go_asked))]
     pub fn ask_go(self, id: u32) -> Self
         ensures { result ≡ go_asked id self }
     {
-        let session = self.session;
-        let go = session.go;
-        if go.waits_for(id) {
+        if self.session.go.waits_for(id) {
             return self;
         }
         self.going(Go::new(id))
     }
 
     // The Go ends, and the process runs if RESUME would be granted.
+    #[tactic(auto, unfolding(crate::specs::Packet::go_ended))]
     fn end_go(self) -> Self
         ensures { result ≡ go_ended self }
     {
         let p = self.without_go();
-        let run = self.run;
-        if run.stopped_or_at_break() {
+        if self.run.stopped_or_at_break() {
             return p.with_run(Run::Running);
         }
         p
     }
 
     // A GoReply of this ID: that of the next ID after the Go that waits ends it, any other abandons it.
+    #[tactic(auto, unfolding(crate::specs::Packet::go_replied))]
     pub fn reply_go(self, id: u32) -> Self
         ensures { result ≡ go_replied id self }
     {
-        let session = self.session;
-        let go = session.go;
-        if go.is_answered_by(id) {
+        if self.session.go.is_answered_by(id) {
             return self.end_go();
         }
         self.without_go()
     }
 
     // A tick: at the hundredth the Go ends.
+    #[tactic(auto, unfolding(crate::specs::Packet::ticked))]
     pub fn tick(self) -> Self
         requires { (go_of self).waits ≡ true → (go_of self).ticks ≤ 99 }
         ensures { result ≡ ticked self }
     {
-        let session = self.session;
-        let go = session.go;
+        let go = self.session.go;
         if !go.waits {
             return self;
         }
@@ -70,6 +68,7 @@ impl Process {
     }
 
     // A Store of this word, whose first byte has this address.
+    #[tactic(auto, unfolding(crate::specs::Packet::word_stored))]
     pub fn store_word(self, bytes: &mut [u8], first: usize, word: u16) -> Self
         requires tested { Tested self bytes.old }
         requires first_in_bounds { first + 2 ≤ length bytes.old }

@@ -18,6 +18,9 @@ pub const VECTOR_BYTES: usize = 18;
 
 // What is known of a process. Host 0 means nobody; its bytes are as many as its size says; the vector is R0 to R5, SP, PC, PS; the number is
 // that of its breakpoints.
+// The methods take the record and its bytes apart, and no struct with an invariant holds both: what a request leaves is sound only where more was
+// asked of it (SoundStays of specs/), and the theorems of specs/ and the callers' contracts speak of the two.
+// Host 0 is a number, and no Option: 0 is what the bytes of a record hold, and what the theorems say of nobody.
 #[derive(Clone, Copy)]
 pub struct Process {
     pub there: bool,
@@ -32,19 +35,17 @@ pub struct Process {
 
 impl Process {
     // A record with a zero vector, no breakpoints and nothing of a debugging session.
+    #[tactic(auto, unfolding(crate::specs::Record::fresh))]
     pub fn fresh(there: bool, host: u8, run: Run, size: u16) -> Self
         ensures { result ≡ fresh there host run size }
     {
-        let none = Breakpoint::free();
-        let vector = [0u16; 9];
-        let breaks = [none; ENTRIES];
         Process {
-            there: there,
-            host: host,
-            run: run,
-            vector: vector,
-            breaks: breaks,
-            size: size,
+            there,
+            host,
+            run,
+            vector: [0; 9],
+            breaks: [Breakpoint::free(); ENTRIES],
+            size,
             session: Session::none(),
             number: 0,
         }
@@ -63,22 +64,11 @@ impl Process {
         self
     }
 
-    pub(crate) fn with_run(self, run: Run) -> Self
+    pub(crate) fn with_run(mut self, run: Run) -> Self
         ensures { result ≡ with_run run self }
     {
-        let vector = self.vector;
-        let breaks = self.breaks;
-        let session = self.session;
-        Process {
-            there: self.there,
-            host: self.host,
-            run: run,
-            vector: vector,
-            breaks: breaks,
-            size: self.size,
-            session: session,
-            number: self.number,
-        }
+        self.run = run;
+        self
     }
 
     pub(crate) fn with_vector(mut self, vector: [u16; 9]) -> Self
@@ -108,8 +98,7 @@ impl Process {
     pub(crate) fn owing(mut self, owed: Owed) -> Self
         ensures { result ≡ owing owed self }
     {
-        let session = self.session;
-        self.session = session.with_owed(owed);
+        self.session = self.session.with_owed(owed);
         self
     }
 
@@ -117,8 +106,7 @@ impl Process {
     pub(crate) fn going(mut self, go: Go) -> Self
         ensures { result ≡ going go self }
     {
-        let session = self.session;
-        self.session = session.with_go(go);
+        self.session = self.session.with_go(go);
         self
     }
 
@@ -126,17 +114,14 @@ impl Process {
     pub(crate) fn watched_by(mut self, host: u8) -> Self
         ensures { result ≡ watched_by host self }
     {
-        let session = self.session;
-        self.session = session.with_watcher(host);
+        self.session = self.session.with_watcher(host);
         self
     }
 
     pub(crate) fn without_breaks(mut self) -> Self
         ensures { result ≡ emptied self }
     {
-        let none = Breakpoint::free();
-        let breaks = [none; ENTRIES];
-        self.breaks = breaks;
+        self.breaks = [Breakpoint::free(); ENTRIES];
         self.number = 0;
         self
     }

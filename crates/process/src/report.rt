@@ -7,7 +7,6 @@ ghost use Rattle.process.specs.Record.{entry, with_run, owing};
 ghost use Rattle.process.specs.Local.{local, Inside, Tested};
 ghost use Rattle.process.specs.Report.{store_vector_and_replant, verdict_of, recipient_of, answer_of, passed, reported};
 
-use crate::find::FoundEntry;
 use crate::record::Process;
 use breakpoints::EntryQuery;
 use run_state::{BPT, Run};
@@ -34,29 +33,28 @@ pub struct ReportResult {
 
 impl Process {
     // Stores the vector, and plants a lifted breakpoint again.
+    #[tactic(auto, unfolding(crate::specs::Report::store_vector_and_replant))]
     fn store_vector_and_replant(self, vector: [u16; 9], bytes: &mut [u8]) -> Self
         requires { Inside self bytes.old }
         ensures value { result ≡ (store_vector_and_replant vector (local self bytes.old)).process }
         ensures bytes_after { bytes.new ≡ (store_vector_and_replant vector (local self bytes.old)).bytes }
     {
-        let p = self.with_vector(vector);
-        p.replant(bytes)
+        self.with_vector(vector).replant(bytes)
     }
 
     // A TTRAP while passing lets the process go on; a BPT at a breakpoint whose count is above 0 counts down; any other report stops it: who set
     // the breakpoint that a BPT is at is told, else the host.
+    #[tactic(auto, unfolding(crate::specs::Report::verdict_of, crate::specs::Report::passes, crate::specs::Report::notice_host, crate::specs::Request::has_break))]
     fn verdict(self, kind: u8) -> Verdict
         ensures { result ≡ verdict_of kind self }
     {
-        let run = self.run;
-        if run.goes_on(kind) {
+        if self.run.goes_on(kind) {
             return Verdict::GoesOn;
         }
         if kind != BPT {
             return Verdict::Stops(self.host);
         }
-        let found = self.find(EntryQuery::At(self.pc()));
-        let FoundEntry::Index(k) = found else {
+        let Some(k) = self.find(EntryQuery::At(self.pc())) else {
             return Verdict::Stops(self.host);
         };
         let b = self.breaks[k];
@@ -74,9 +72,8 @@ impl Process {
     {
         let b = self.breaks[k];
         b.restore(bytes);
-        let run = self.run;
-        let p = self.with_entry(k, b.with_count(b.count - 1).with_lifted());
-        p.with_run(run.after_pass())
+        self.with_entry(k, b.with_count(b.count - 1).with_lifted())
+            .with_run(self.run.after_pass())
     }
 
     // This process after a report, whom it tells, and the owed answer that it gives.
@@ -86,7 +83,7 @@ impl Process {
         ReportResult {
             process: self,
             told: host,
-            answered: answered,
+            answered,
         }
     }
 
@@ -94,10 +91,9 @@ impl Process {
     fn stopping(self, kind: u8, host: u8) -> ReportResult
         ensures { (result.process ≡ owing Nothing (with_run (run_after kind) self)) × (result.told ≡ host) × (result.answered ≡ self.session.owed) }
     {
-        let session = self.session;
-        let owed = session.owed;
-        let p = self.with_run(Run::after(kind)).owing(Owed::Nothing);
-        p.telling(host, owed)
+        self.with_run(Run::after(kind))
+            .owing(Owed::Nothing)
+            .telling(host, self.session.owed)
     }
 
     // This process after a report that nobody is told of.
@@ -116,8 +112,7 @@ impl Process {
         ensures bytes_after { bytes.new ≡ (reported kind vector (local self bytes.old)).bytes }
     {
         let p = self.store_vector_and_replant(vector, bytes);
-        let verdict = p.verdict(kind);
-        match verdict {
+        match p.verdict(kind) {
             Verdict::Stops(host) => p.stopping(kind, host),
             Verdict::CountsDown(k) => p.pass(k, bytes).quietly(),
             Verdict::GoesOn => p.with_run(Run::Running).quietly(),

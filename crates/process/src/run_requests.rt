@@ -5,7 +5,6 @@ ghost use Rattle.process.specs.Local.{local, Tested};
 ghost use Rattle.process.specs.Record.{with_run};
 ghost use Rattle.process.specs.Request.{brought_to_stop, stopped, stepped, proceeded};
 
-use crate::find::FoundEntry;
 use crate::record::Process;
 use breakpoints::EntryQuery;
 use run_state::Run;
@@ -13,26 +12,25 @@ use session::Owed;
 
 impl Process {
     // STOP but for the owed answer, which stays.
+    #[tactic(auto, unfolding(crate::specs::Request::brought_to_stop))]
     fn bring_to_stop(self, bytes: &mut [u8]) -> Self
         requires { Tested self bytes.old }
         ensures value { result ≡ (brought_to_stop (local self bytes.old)).process }
         ensures bytes_after { bytes.new ≡ (brought_to_stop (local self bytes.old)).bytes }
     {
-        let run = self.run;
-        if run.moving() {
-            let p = self.replant(bytes);
-            return p.with_run(Run::Stopped);
+        if self.run.moving() {
+            return self.replant(bytes).with_run(Run::Stopped);
         }
         self
     }
 
+    #[tactic(auto, unfolding(crate::specs::Request::stopped))]
     pub fn stop(self, bytes: &mut [u8]) -> Self
         requires { Tested self bytes.old }
         ensures value { result ≡ (stopped (local self bytes.old)).process }
         ensures bytes_after { bytes.new ≡ (stopped (local self bytes.old)).bytes }
     {
-        let p = self.bring_to_stop(bytes);
-        p.owing(Owed::Nothing)
+        self.bring_to_stop(bytes).owing(Owed::Nothing)
     }
 
     pub fn resume(self) -> Self
@@ -41,29 +39,27 @@ impl Process {
         self.with_run(Run::Running)
     }
 
+    #[tactic(auto, unfolding(crate::specs::Request::stepped))]
     pub fn single_step(self, bytes: &mut [u8]) -> Self
         requires { Tested self bytes.old }
         ensures value { result ≡ (stepped (local self bytes.old)).process }
         ensures bytes_after { bytes.new ≡ (stepped (local self bytes.old)).bytes }
     {
-        let run = self.run;
-        if run.at_break() {
-            let p = self.lift_at(self.pc(), bytes);
-            return p.with_run(Run::Stepping);
+        if self.run.at_break() {
+            return self.lift_at(self.pc(), bytes).with_run(Run::Stepping);
         }
         self.with_run(Run::Stepping)
     }
 
+    #[tactic(auto, unfolding(crate::specs::Request::proceeded, crate::specs::Planting::lifted_at, crate::specs::Request::has_break))]
     pub fn proceed(self, bytes: &mut [u8]) -> Self
         requires { Tested self bytes.old }
         ensures value { result ≡ (proceeded (local self bytes.old)).process }
         ensures bytes_after { bytes.new ≡ (proceeded (local self bytes.old)).bytes }
     {
-        let found = self.find(EntryQuery::At(self.pc()));
-        let FoundEntry::Index(k) = found else {
+        let Some(k) = self.find(EntryQuery::At(self.pc())) else {
             return self.with_run(Run::Running);
         };
-        let p = self.lift_in(k, bytes);
-        p.with_run(Run::Passing)
+        self.lift_in(k, bytes).with_run(Run::Passing)
     }
 }

@@ -7,19 +7,15 @@ ghost use Rattle.process.specs.Local.{Tested};
 ghost use Rattle.process.specs.Record.{with_breaks};
 ghost use Rattle.breakpoints.specs.Seen.{seen, saved_from, overlay_saved_words};
 
-use crate::record::{ENTRIES, Process};
+use crate::record::Process;
 
 impl Process {
     // Lays the saved words over a part of memory that starts at address at.
     pub(crate) fn overlay_saved_words(self, at: usize, out: &mut [u8])
         ensures { out.new ≡ overlay_saved_words at self.breaks out.old }
     {
-        let breaks = self.breaks;
-        let mut k = 0;
-        while k < ENTRIES {
-            let b = breaks[k];
+        for b in &self.breaks {
             b.overlay_saved_word(at, out);
-            k += 1;
         }
     }
 
@@ -29,15 +25,9 @@ impl Process {
         ensures value { result ≡ with_breaks (map (saved_from bytes.old) self.breaks) self }
         ensures bytes_after { bytes.new ≡ seen self.breaks bytes.old }
     {
-        let old = self.breaks;
-        let mut new = old;
-        let mut k = 0;
-        while k < ENTRIES {
-            let b = old[k];
-            new[k] = b.exchange(bytes);
-            k += 1;
+        for b in self.breaks.iter_mut() {
+            *b = b.exchange(bytes);
         }
-        self.breaks = new;
         self
     }
 }

@@ -10,47 +10,46 @@ use session::Owed;
 
 impl Process {
     // An address other than 1 becomes the PC.
-    fn going_to(self, address: u16) -> Self
+    #[tactic(auto, unfolding(crate::specs::Request::vector_from))]
+    fn going_to(mut self, address: u16) -> Self
         ensures { result ≡ with_vector (vector_from address self.vector) self }
     {
-        if address == 1 {
-            return self;
+        if address != 1 {
+            self.vector[7] = address;
         }
-        let mut vector = self.vector;
-        vector[7] = address;
-        self.with_vector(vector)
+        self
     }
 
     // PROCEED BPT at a breakpoint, and RESUME else.
+    #[tactic(auto, unfolding(crate::specs::Request::went_on))]
     fn go_on(self, bytes: &mut [u8]) -> Self
         requires { Tested self bytes.old }
         ensures value { result ≡ (went_on (local self bytes.old)).process }
         ensures bytes_after { bytes.new ≡ (went_on (local self bytes.old)).bytes }
     {
-        let run = self.run;
-        if run.at_break() {
+        if self.run.at_break() {
             return self.proceed(bytes);
         }
         self.resume()
     }
 
     // `c`: goes on, from the address if it is not 1; its answer is owed.
+    #[tactic(auto, unfolding(crate::specs::Request::continued))]
     pub fn continue_from(self, address: u16, bytes: &mut [u8]) -> Self
         requires { Tested self bytes.old }
         ensures value { result ≡ (continued address (local self bytes.old)).process }
         ensures bytes_after { bytes.new ≡ (continued address (local self bytes.old)).bytes }
     {
-        let p = self.going_to(address).go_on(bytes);
-        p.owing(Owed::Continue)
+        self.going_to(address).go_on(bytes).owing(Owed::Continue)
     }
 
     // `s`: executes one instruction, from the address if it is not 1; its answer is owed.
+    #[tactic(auto, unfolding(crate::specs::Request::stepped_from))]
     pub fn step_from(self, address: u16, bytes: &mut [u8]) -> Self
         requires { Tested self bytes.old }
         ensures value { result ≡ (stepped_from address (local self bytes.old)).process }
         ensures bytes_after { bytes.new ≡ (stepped_from address (local self bytes.old)).bytes }
     {
-        let p = self.going_to(address).single_step(bytes);
-        p.owing(Owed::Step)
+        self.going_to(address).single_step(bytes).owing(Owed::Step)
     }
 }

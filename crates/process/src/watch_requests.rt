@@ -6,10 +6,11 @@ ghost use Rattle.process.specs.Record.{watched_by, with_breaks, recounted};
 ghost use Rattle.process.specs.Request.{without_his, only_his, end_watched};
 ghost use Rattle.breakpoints.specs.Entry.{in_use};
 
-use crate::record::{ENTRIES, Process};
+use crate::record::Process;
 use breakpoints::Breakpoint;
 
 // An entry as it is left when this host's breakpoints go: one of his is freed, and its word put back if it is planted.
+#[tactic(auto, unfolding(crate::specs::Request::without_his, crate::specs::Request::only_his, breakpoints::specs::Seen::restored))]
 fn without_his(b: Breakpoint, host: u8, bytes: &mut [u8]) -> Breakpoint
     requires { in_use b ≡ true → b.address + 1 < length bytes.old }
     ensures value { result ≡ without_his host b }
@@ -35,30 +36,24 @@ impl Process {
         ensures value { result ≡ recounted (with_breaks (map (without_his host) self.breaks) self) }
         ensures bytes_after { bytes.new ≡ seen (map (only_his host) self.breaks) bytes.old }
     {
-        let old = self.breaks;
-        let mut new = old;
         let mut number = self.number;
-        let mut k = 0;
-        while k < ENTRIES {
-            let b = old[k];
-            new[k] = without_his(b, host, bytes);
+        for b in self.breaks.iter_mut() {
             if b.is_set_by(host) {
                 number -= 1;
             }
-            k += 1;
+            *b = without_his(*b, host, bytes);
         }
-        self.breaks = new;
         self.number = number;
         self
     }
 
+    #[tactic(auto, unfolding(crate::specs::Request::end_watched))]
     pub fn end_watch(self, bytes: &mut [u8]) -> Self
         requires { Tested self bytes.old }
         ensures value { result ≡ (end_watched (local self bytes.old)).process }
         ensures bytes_after { bytes.new ≡ (end_watched (local self bytes.old)).bytes }
     {
-        let session = self.session;
-        let p = self.remove_set_by(session.watcher, bytes);
-        p.watched_by(0)
+        self.remove_set_by(self.session.watcher, bytes)
+            .watched_by(0)
     }
 }

@@ -18,7 +18,7 @@ pub const TTRAP: u8 = 3;
 pub const LAST_RUN_NUMBER: u8 = 5;
 
 // What a process is doing. Passing: it executes the one instruction under a breakpoint that was lifted, and then runs.
-#[derive(Clone, Copy)]
+#[derive(Clone, Copy, PartialEq, Eq)]
 pub enum Run {
     Running,
     Stepping,
@@ -47,67 +47,32 @@ impl Run {
     pub fn moving(self) -> bool
         ensures { result ≡ moving self }
     {
-        match self {
-            Run::Running => true,
-            Run::Stepping => true,
-            Run::Stopped => false,
-            Run::AtBreak => false,
-            Run::Ended => false,
-            Run::Passing => true,
-        }
+        matches!(self, Run::Running | Run::Stepping | Run::Passing)
     }
 
     fn passing(self) -> bool
         ensures { result ≡ passing self }
     {
-        match self {
-            Run::Running => false,
-            Run::Stepping => false,
-            Run::Stopped => false,
-            Run::AtBreak => false,
-            Run::Ended => false,
-            Run::Passing => true,
-        }
+        self == Run::Passing
     }
 
     // Whether the machine executes one instruction and then reports TTRAP; a breakpoint may be lifted only then.
     pub fn stepping_or_passing(self) -> bool
         ensures { result ≡ stepping_or_passing self }
     {
-        match self {
-            Run::Running => false,
-            Run::Stepping => true,
-            Run::Stopped => false,
-            Run::AtBreak => false,
-            Run::Ended => false,
-            Run::Passing => true,
-        }
+        matches!(self, Run::Stepping | Run::Passing)
     }
 
     pub fn stopped_or_at_break(self) -> bool
         ensures { result ≡ stopped_or_at_break self }
     {
-        match self {
-            Run::Running => false,
-            Run::Stepping => false,
-            Run::Stopped => true,
-            Run::AtBreak => true,
-            Run::Ended => false,
-            Run::Passing => false,
-        }
+        matches!(self, Run::Stopped | Run::AtBreak)
     }
 
     pub fn at_break(self) -> bool
         ensures { result ≡ at_break self }
     {
-        match self {
-            Run::Running => false,
-            Run::Stepping => false,
-            Run::Stopped => false,
-            Run::AtBreak => true,
-            Run::Ended => false,
-            Run::Passing => false,
-        }
+        self == Run::AtBreak
     }
 
     // The run state of a process that nobody debugs any more.
@@ -115,12 +80,8 @@ impl Run {
         ensures { result ≡ released self }
     {
         match self {
-            Run::Running => Run::Running,
-            Run::Stepping => Run::Running,
-            Run::Stopped => Run::Running,
-            Run::AtBreak => Run::Running,
             Run::Ended => Run::Ended,
-            Run::Passing => Run::Running,
+            _ => Run::Running,
         }
     }
 
@@ -130,25 +91,20 @@ impl Run {
     {
         match self {
             Run::Running => Run::Passing,
-            Run::Stepping => Run::Stepping,
-            Run::Stopped => Run::Stopped,
-            Run::AtBreak => Run::AtBreak,
-            Run::Ended => Run::Ended,
-            Run::Passing => Run::Passing,
+            other => other,
         }
     }
 
     // Whether a process in this run state goes on after a report of this kind, which nobody is told of: TTRAP while passing.
+    #[tactic(auto, unfolding(crate::specs::RunState::goes_on))]
     pub fn goes_on(self, kind: u8) -> bool
         ensures { result ≡ goes_on kind self }
     {
-        if kind != TTRAP {
-            return false;
-        }
-        self.passing()
+        kind == TTRAP && self.passing()
     }
 
     // Whether a process in this run state may send a report of this kind.
+    #[tactic(auto, unfolding(crate::specs::RunState::accepts))]
     pub fn accepts(self, kind: u8) -> bool
         ensures { result ≡ accepts kind self }
     {
@@ -160,16 +116,15 @@ impl Run {
     }
 
     // The run state after a report of this kind that stops the process.
+    #[tactic(auto, unfolding(crate::specs::RunState::run_after))]
     pub fn after(kind: u8) -> Run
         ensures { result ≡ run_after kind }
     {
-        if kind == HALT {
-            return Run::Ended;
+        match kind {
+            HALT => Run::Ended,
+            BPT => Run::AtBreak,
+            _ => Run::Stopped,
         }
-        if kind == BPT {
-            return Run::AtBreak;
-        }
-        Run::Stopped
     }
 }
 
@@ -180,24 +135,17 @@ pub fn is_run_number(n: u8) -> bool
     n <= LAST_RUN_NUMBER
 }
 
-// The run state with this number.
+// The run state with this number; any other number is read as running.
+#[tactic(auto, unfolding(crate::specs::RunState::run_of))]
 pub fn run_of(n: u8) -> Run
     ensures { result ≡ run_of n }
 {
-    if n == 1 {
-        return Run::Stepping;
+    match n {
+        1 => Run::Stepping,
+        2 => Run::Stopped,
+        3 => Run::AtBreak,
+        4 => Run::Ended,
+        5 => Run::Passing,
+        _ => Run::Running,
     }
-    if n == 2 {
-        return Run::Stopped;
-    }
-    if n == 3 {
-        return Run::AtBreak;
-    }
-    if n == 4 {
-        return Run::Ended;
-    }
-    if n == 5 {
-        return Run::Passing;
-    }
-    Run::Running
 }

@@ -17,7 +17,7 @@ pub const PUP_HOST: u8 = 254;
 pub const LAST_OWED_NUMBER: u8 = 2;
 
 // The answer that is owed: none, or the one to a `c` or an `s`.
-#[derive(Clone, Copy)]
+#[derive(Clone, Copy, PartialEq, Eq)]
 pub enum Owed {
     Nothing,
     Continue,
@@ -25,6 +25,8 @@ pub enum Owed {
 }
 
 // A Go that waits for its GoReply, with the ticks since the first of its ID came; or none.
+// A flag, and no Option: the bytes of a state keep ticks and ID also where none waits (session_formed of state_bytes lets them have any), and they
+// come back as they were.
 #[derive(Clone, Copy)]
 pub struct Go {
     pub waits: bool,
@@ -36,7 +38,7 @@ pub struct Go {
 #[derive(Clone, Copy)]
 pub struct Session {
     pub owed: Owed,
-    // The host that watches; 0 is nobody.
+    // The host that watches; 0 is nobody. A number, and no Option: 0 is what the bytes hold, and what the theorems of specs/ say of nobody.
     pub watcher: u8,
     pub go: Go,
 }
@@ -53,14 +55,14 @@ impl Owed {
         }
     }
 
-    // The letter of the request whose answer is owed, or 0.
+    // The letter of the request whose answer is owed; where none is, 0, as owed_letter of specs/ has it.
     pub fn letter(self) -> u8
         ensures { result ≡ owed_letter self }
     {
         match self {
             Owed::Nothing => 0,
-            Owed::Continue => 99,
-            Owed::Step => 115,
+            Owed::Continue => b'c',
+            Owed::Step => b's',
         }
     }
 
@@ -68,25 +70,20 @@ impl Owed {
     pub fn owes(self) -> bool
         ensures { result ≡ owes self }
     {
-        match self {
-            Owed::Nothing => false,
-            Owed::Continue => true,
-            Owed::Step => true,
-        }
+        self != Owed::Nothing
     }
 }
 
 // The owed answer with this number; any other number is read as nothing.
+#[tactic(auto, unfolding(crate::specs::Session::owed_of))]
 pub fn owed_of(n: u8) -> Owed
     ensures { result ≡ owed_of n }
 {
-    if n == 1 {
-        return Owed::Continue;
+    match n {
+        1 => Owed::Continue,
+        2 => Owed::Step,
+        _ => Owed::Nothing,
     }
-    if n == 2 {
-        return Owed::Step;
-    }
-    Owed::Nothing
 }
 
 impl Go {
@@ -108,7 +105,7 @@ impl Go {
         Go {
             waits: true,
             ticks: 0,
-            id: id,
+            id,
         }
     }
 
@@ -117,31 +114,28 @@ impl Go {
         requires { self.ticks < 255 }
         ensures { result ≡ ticked_go self }
     {
-        self.ticks = self.ticks + 1;
+        self.ticks += 1;
         self
     }
 
     // Whether a Go of this ID waits.
+    #[tactic(auto, unfolding(crate::specs::Session::waits_for))]
     pub fn waits_for(self, id: u32) -> bool
         ensures { result ≡ waits_for id self }
     {
-        if !self.waits {
-            return false;
-        }
-        self.id == id
+        self.waits && self.id == id
     }
 
     // Whether a GoReply of this ID answers it.
+    #[tactic(auto, unfolding(crate::specs::Session::answers_go))]
     pub fn is_answered_by(self, id: u32) -> bool
         ensures { result ≡ answers_go id self }
     {
-        if !self.waits {
-            return false;
-        }
-        next_id(self.id) == id
+        self.waits && next_id(self.id) == id
     }
 
     // Whether the next tick is the hundredth.
+    #[tactic(auto, unfolding(crate::specs::Session::is_last_tick))]
     pub fn is_last_tick(self) -> bool
         ensures { result ≡ is_last_tick self }
     {
@@ -162,15 +156,11 @@ impl Session {
     }
 
     // With another owed answer.
-    pub fn with_owed(self, owed: Owed) -> Session
+    pub fn with_owed(mut self, owed: Owed) -> Session
         ensures { result ≡ with_owed owed self }
     {
-        let go = self.go;
-        Session {
-            owed: owed,
-            watcher: self.watcher,
-            go: go,
-        }
+        self.owed = owed;
+        self
     }
 
     // With another watcher.
@@ -190,53 +180,34 @@ impl Session {
     }
 
     // Whether no Go waits, or the host of the packets debugs the process and under a hundred ticks are counted.
+    #[tactic(auto, unfolding(crate::specs::Session::go_sound))]
     fn go_sound(self, host: u8) -> bool
         ensures { result ≡ go_sound host self }
     {
-        let go = self.go;
-        if !go.waits {
-            return true;
-        }
-        if host != PUP_HOST {
-            return false;
-        }
-        go.ticks <= 99
+        !self.go.waits || (host == PUP_HOST && self.go.ticks <= 99)
     }
 
     // Whether nothing is owed, or the host of the text lines debugs the process.
+    #[tactic(auto, unfolding(crate::specs::Session::owed_sound))]
     fn owed_sound(self, host: u8) -> bool
         ensures { result ≡ owed_sound host self }
     {
-        let owed = self.owed;
-        if !owed.owes() {
-            return true;
-        }
-        host == TEXT_HOST
+        !self.owed.owes() || host == TEXT_HOST
     }
 
     // Whether nobody watches, or another host than the one that debugs the process.
+    #[tactic(auto, unfolding(crate::specs::Session::watcher_sound))]
     fn watcher_sound(self, host: u8) -> bool
         ensures { result ≡ watcher_sound host self }
     {
-        if self.watcher == 0 {
-            return true;
-        }
-        if host == 0 {
-            return false;
-        }
-        self.watcher != host
+        self.watcher == 0 || (host != 0 && self.watcher != host)
     }
 
     // Whether a process that this host debugs may have it.
+    #[tactic(auto, unfolding(crate::specs::Session::session_sound))]
     pub fn sound(self, host: u8) -> bool
         ensures { result ≡ session_sound host self }
     {
-        if !self.owed_sound(host) {
-            return false;
-        }
-        if !self.watcher_sound(host) {
-            return false;
-        }
-        self.go_sound(host)
+        self.owed_sound(host) && self.watcher_sound(host) && self.go_sound(host)
     }
 }

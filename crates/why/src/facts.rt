@@ -7,7 +7,7 @@ ghost use Rattle.rules.specs.Why.{end_for, limit_passed, excess_over, full_of, w
 use breakpoints::EntryQuery;
 use format::Header;
 use ops::{BREAK, DEPOSIT_VECTOR};
-use process::{FoundEntry, Process, VECTOR_BYTES};
+use process::{Process, VECTOR_BYTES};
 use reasons::{Limit, Reason};
 
 // By how much a number is over a limit, 0 where it is not.
@@ -71,10 +71,9 @@ fn past(h: Header, size: u16) -> Reason
 fn full_of(process: Process) -> u8
     ensures { result ≡ full_of «process» }
 {
-    let found = process.find(EntryQuery::Free);
-    match found {
-        FoundEntry::Index(_) => 4,
-        FoundEntry::Nowhere => 8,
+    match process.find(EntryQuery::Free) {
+        Some(_) => 4,
+        None => 8,
     }
 }
 
@@ -90,10 +89,9 @@ fn setter_in(k: usize, process: Process) -> u8
 fn who_set(h: Header, process: Process) -> u8
     ensures { result ≡ who_set h «process» }
 {
-    let found = process.find(EntryQuery::At(h.arg1));
-    match found {
-        FoundEntry::Index(k) => setter_in(k, process),
-        FoundEntry::Nowhere => 0,
+    match process.find(EntryQuery::At(h.arg1)) {
+        Some(k) => setter_in(k, process),
+        None => 0,
     }
 }
 

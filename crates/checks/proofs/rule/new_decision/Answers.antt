@@ -12,14 +12,14 @@ use Rattle.checks.proofs.rule.new_decision.Goals as goal
 pub returns-then-not-may_have_more : goal.returns-then-not-may_have_more
 returns-then-not-may_have_more c = sym (no_more _ _ (sym c.may_have_more.ensures ∙ c.if-not-may_have_more.true))
 
-pub returns-in-Index : goal.returns-in-Index
+pub returns-in-Some : goal.returns-in-Some
 unfolding new_decision has_room
-returns-in-Index c =
-    let at = found-index (find Free c.args.process) _ (sym c.find-found.ensures ∙ c.in-Index.is) in
+returns-in-Some c =
+    let at = found-index (find Free c.args.process) _ (sym c.find.ensures ∙ c.in-Some.is) in
     rw (lt-ltb _ _ at.low, ← c.may_have_more.ensures, c.if-not-may_have_more.false, at.same)
 
-pub returns-in-Nowhere : goal.returns-in-Nowhere
+pub returns-in-None : goal.returns-in-None
 unfolding new_decision has_room
-returns-in-Nowhere c =
-    let none = found_nowhere (find Free c.args.process) (sym c.find-found.ensures ∙ c.in-Nowhere.is) in
+returns-in-None c =
+    let none = found_nowhere (find Free c.args.process) (sym c.find.ensures ∙ c.in-None.is) in
     rw (le-ltb _ _ none)

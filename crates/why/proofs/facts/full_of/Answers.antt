@@ -8,14 +8,14 @@ use Rattle.process.proofs.FindLaws.{found-index, found_nowhere}
 use Rattle.rules.specs.Why.{full_of}
 use Rattle.why.proofs.facts.full_of.Goals as goal
 
-pub returns-in-Index : goal.returns-in-Index
+pub returns-in-Some : goal.returns-in-Some
 unfolding full_of has_room
-returns-in-Index c =
-    let at = found-index (find Free c.args.process) _ (sym c.find-found.ensures ∙ c.in-Index.is) in
+returns-in-Some c =
+    let at = found-index (find Free c.args.process) _ (sym c.find.ensures ∙ c.in-Some.is) in
     rw (lt-ltb _ _ at.low)
 
-pub returns-in-Nowhere : goal.returns-in-Nowhere
+pub returns-in-None : goal.returns-in-None
 unfolding full_of has_room
-returns-in-Nowhere c =
-    let none = found_nowhere (find Free c.args.process) (sym c.find-found.ensures ∙ c.in-Nowhere.is) in
+returns-in-None c =
+    let none = found_nowhere (find Free c.args.process) (sym c.find.ensures ∙ c.in-None.is) in
     rw (le-ltb _ _ none)

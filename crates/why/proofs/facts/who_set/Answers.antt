@@ -13,18 +13,18 @@ use Rattle.why.proofs.facts.who_set.Goals as goal
 
 pub setter_in-requires : goal.setter_in-requires
 setter_in-requires c =
-    let at = found-index (find (At c.args.h.arg1) c.args.process) _ (sym c.find-found.ensures ∙ c.in-Index.is) in
+    let at = found-index (find (At c.args.h.arg1) c.args.process) _ (sym c.find.ensures ∙ c.in-Some.is) in
     rw at.same at at.low
 
-pub returns-in-Index : goal.returns-in-Index
+pub returns-in-Some : goal.returns-in-Some
 unfolding who_set
-returns-in-Index c =
-    let at = found-index (find (At c.args.h.arg1) c.args.process) _ (sym c.find-found.ensures ∙ c.in-Index.is) in
+returns-in-Some c =
+    let at = found-index (find (At c.args.h.arg1) c.args.process) _ (sym c.find.ensures ∙ c.in-Some.is) in
     rw at.same c.setter_in.ensures
 
-pub returns-in-Nowhere : goal.returns-in-Nowhere
+pub returns-in-None : goal.returns-in-None
 unfolding who_set
-returns-in-Nowhere c =
+returns-in-None c =
     let eight : length c.args.process.breaks ≡ 8 = search rules in
-    let none = found_nowhere (find (At c.args.h.arg1) c.args.process) (sym c.find-found.ensures ∙ c.in-Nowhere.is) in
+    let none = found_nowhere (find (At c.args.h.arg1) c.args.process) (sym c.find.ensures ∙ c.in-None.is) in
     sym (ap (λ (b : Breakpoint). b.setter) (get_or-eq_default c.args.process.breaks free (omega (arith, eight, none))))

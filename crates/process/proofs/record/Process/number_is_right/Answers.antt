@@ -22,26 +22,29 @@ none_left left number count e = go (eqb left 0) refl
     go true z = let q = eqb-true left 0 z in sym (eq-eqb number count (omega arith))
     go false z = sym (ne_eqb number count (λ q. eqb-false left 0 z (omega arith)))
 
-pub loop-k-init : goal.loop-k-init
-loop-k-init c = (omega arith, (search rules), omega arith)
+pub loop-b-init : goal.loop-b-init
+loop-b-init c = omega arith
 
 pub returns-then-left-eq0 : goal.returns-then-left-eq0
 returns-then-left-eq0 c =
-    let low : c.loop-k.k < length c.args.self.breaks = omega arith in
-    let e = count-used c.args.self.breaks c.loop-k.k low (some-set (get_or c.args.self.breaks c.loop-k.k free) c.if-b-ne0.true) in
+    let eight : length c.args.self.breaks ≡ 8 = search rules in
+    let low : c.loop-b.b-index < length c.args.self.breaks = omega arith in
+    let e = count-used c.args.self.breaks c.loop-b.b-index low (some-set (get_or c.args.self.breaks c.loop-b.b-index free) c.if-b-ne0.true) in
     sym (ne_eqb c.args.self.number (count_used c.args.self.breaks) (λ q. omega arith))
 
-pub loop-k-preserved : goal.loop-k-preserved
-loop-k-preserved c =
-    let low : c.loop-k.k < length c.args.self.breaks = omega arith in
+pub loop-b-preserved : goal.loop-b-preserved
+loop-b-preserved c =
+    let eight : length c.args.self.breaks ≡ 8 = search rules in
+    let low : c.loop-b.b-index < length c.args.self.breaks = omega arith in
     elim c.if-b-ne0.branch [
-      | then-b-ne0+else-left-eq0 w ↦ let e = count-used c.args.self.breaks c.loop-k.k low (some-set (get_or c.args.self.breaks c.loop-k.k free) w.if-b-ne0.true) in (omega arith, c.loop-k.invariant.1, omega arith)
-      | else-b-ne0 w ↦ let e = count-unused c.args.self.breaks c.loop-k.k low (none-set (get_or c.args.self.breaks c.loop-k.k free) w.if-b-ne0.false) in (omega arith, c.loop-k.invariant.1, omega arith)
+      | then-b-ne0+else-left-eq0 w ↦ let e = count-used c.args.self.breaks c.loop-b.b-index low (some-set (get_or c.args.self.breaks c.loop-b.b-index free) w.if-b-ne0.true) in omega arith
+      | else-b-ne0 w ↦ let e = count-unused c.args.self.breaks c.loop-b.b-index low (none-set (get_or c.args.self.breaks c.loop-b.b-index free) w.if-b-ne0.false) in omega arith
     ]
 
 pub returns : goal.returns
 unfolding count_used
 returns c =
-    let past : length c.args.self.breaks ≤ c.loop-k.k = omega arith in
+    let eight : length c.args.self.breaks ≡ 8 = search rules in
+    let past : length c.args.self.breaks ≤ c.loop-b.b-index = omega arith in
     let e = ap count_used (drop_of_length-le c.args.self.breaks past) in
-    none_left c.loop-k.left c.args.self.number (count_used c.args.self.breaks) (omega arith)
+    none_left c.loop-b.left c.args.self.number (count_used c.args.self.breaks) (omega arith)

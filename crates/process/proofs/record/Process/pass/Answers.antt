@@ -8,13 +8,10 @@ use mathlib.Core.Path.{◌≡◌}
 use borrow.Author.Rules.{rules}
 use Rattle.process.proofs.record.Process.pass.Goals as goal
 
-pub restore-requires : goal.restore-requires
-restore-requires c = c.requires.1 c.args.k c.requires.0
-
 pub returns : goal.returns
 returns c =
     let eight : length c.args.self.breaks ≡ 8 = search rules in
-    rw (passed-once c.args.k (local c.args.self c.args.bytes.now) (omega (arith, eight, c.requires.0)), c.with_run.ensures, c.after_pass.ensures, c.with_entry-p.ensures, c.with_lifted.ensures, c.with_count.ensures) record {
+    rw (passed-once c.args.k (local c.args.self c.args.bytes.now) (omega (arith, eight, c.requires.0)), c.with_run.ensures, c.after_pass.ensures, c.with_entry.ensures, c.with_lifted.ensures, c.with_count.ensures) record {
       value = refl;
       bytes_after = c.restore.ensures;
     }

@@ -12,22 +12,22 @@ use Rattle.process.proofs.record.Process.proceed.Goals as goal
 pub returns-in_default : goal.returns-in_default
 unfolding proceeded lifted_at has_break
 returns-in_default c =
-    let none = found_nowhere (find (At c.pc.result) c.args.self) (sym c.find-found.ensures ∙ c.in_default.is) in
+    let none = found_nowhere (find (At c.pc.result) c.args.self) (sym c.find.ensures ∙ c.in_default.is) in
     rw (c.with_run.ensures, ← c.pc.ensures, le-ltb _ _ none) record {
       value = refl;
       bytes_after = refl;
     }
 
-pub lift_in-p-requires : goal.lift_in-p-requires
-lift_in-p-requires c =
-    let at = found-index (find (At c.pc.result) c.args.self) _ (sym c.find-found.ensures ∙ c.in-Index.is) in
+pub lift_in-requires : goal.lift_in-requires
+lift_in-requires c =
+    let at = found-index (find (At c.pc.result) c.args.self) _ (sym c.find.ensures ∙ c.in-Some.is) in
     (rw at.same at at.low, tested-inside c.args.self c.args.bytes.now c.requires)
 
 pub returns : goal.returns
 unfolding proceeded lifted_at has_break
 returns c =
-    let at = found-index (find (At c.pc.result) c.args.self) _ (sym c.find-found.ensures ∙ c.in-Index.is) in
-    rw (c.with_run-2.ensures, ← c.pc.ensures, lt-ltb _ _ at.low, at.same, c.lift_in-p.ensures.value) record {
+    let at = found-index (find (At c.pc.result) c.args.self) _ (sym c.find.ensures ∙ c.in-Some.is) in
+    rw (c.with_run-2.ensures, ← c.pc.ensures, lt-ltb _ _ at.low, at.same, c.lift_in.ensures.value) record {
       value = refl;
-      bytes_after = c.lift_in-p.ensures.bytes_after;
+      bytes_after = c.lift_in.ensures.bytes_after;
     }

@@ -10,9 +10,6 @@ use Rattle.process.specs.Planting.{removed_from}
 use Rattle.process.proofs.CountLaws.{count_less}
 use Rattle.process.proofs.record.Process.remove_from.Goals as goal
 
-pub restore-requires : goal.restore-requires
-restore-requires c = c.requires.1 c.args.k c.requires.0
-
 pub overflow_sub-self : goal.overflow_sub-self
 overflow_sub-self c =
     let eight : length c.args.self.breaks ≡ 8 = search rules in
@@ -25,7 +22,7 @@ returns c =
     let eight : length c.args.self.breaks ≡ 8 = search rules in
     let low = rw (← eight) at c.requires.0 in
     let less : c.args.self.number - 1 ≡ count_used (set c.args.self.breaks c.args.k free) = omega (arith, count_less c.args.self.breaks c.args.k low c.requires.3, c.requires.2) in
-    rw (c.with_number.ensures, c.with_entry-p.ensures, c.free.ensures) record {
+    rw (c.with_number.ensures, c.with_entry.ensures, c.free.ensures) record {
       value = ap (λ (n : ℕ). with_number n (with_entry c.args.k free c.args.self)) less;
       bytes_after = c.restore.ensures;
     }

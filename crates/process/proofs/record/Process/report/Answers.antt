@@ -20,7 +20,7 @@ unfolding store_vector_and_replant
 pass-requires c =
     let eight : length c.args.self.breaks ≡ 8 = search rules in
     let p = c.store_vector_and_replant-p.result in
-    let counted = sym c.verdict-verdict.ensures ∙ c.in-CountsDown.is in
+    let counted = sym c.verdict.ensures ∙ c.in-CountsDown.is in
     let inside = inside-replanted (with_vector c.args.vector c.args.self) c.args.bytes.now eight (tested-inside c.args.self c.args.bytes.now c.requires) in (
       counts-low c.args.kind p _ counted,
       rw (c.store_vector_and_replant-p.ensures.value, c.store_vector_and_replant-p.ensures.bytes_after) inside,
@@ -32,7 +32,7 @@ unfolding reported recipient_of answer_of
 returns-in-Stops c =
     let l = local c.args.self c.args.bytes.now in
     let p = c.store_vector_and_replant-p.result in
-    let stops = sym c.verdict-verdict.ensures ∙ c.in-Stops.is in
+    let stops = sym c.verdict.ensures ∙ c.in-Stops.is in
     let whole : store_vector_and_replant c.args.vector (local c.args.self c.args.bytes.now) ≡ local p c.store_vector_and_replant-p.new.bytes =
     rw (c.store_vector_and_replant-p.ensures.value, c.store_vector_and_replant-p.ensures.bytes_after) in
     let owed = ap (λ (x : Process). x.session.owed) c.store_vector_and_replant-p.ensures.value ∙ owed-stored c.args.vector l in
@@ -47,7 +47,7 @@ pub returns-in-CountsDown : goal.returns-in-CountsDown
 unfolding reported recipient_of answer_of
 returns-in-CountsDown c =
     let p = c.store_vector_and_replant-p.result in
-    let counted = sym c.verdict-verdict.ensures ∙ c.in-CountsDown.is in
+    let counted = sym c.verdict.ensures ∙ c.in-CountsDown.is in
     let whole : store_vector_and_replant c.args.vector (local c.args.self c.args.bytes.now) ≡ local p c.store_vector_and_replant-p.new.bytes =
     rw (c.store_vector_and_replant-p.ensures.value, c.store_vector_and_replant-p.ensures.bytes_after) in
     rw (whole, counted) record {
@@ -61,7 +61,7 @@ pub returns-in-GoesOn : goal.returns-in-GoesOn
 unfolding reported recipient_of answer_of
 returns-in-GoesOn c =
     let p = c.store_vector_and_replant-p.result in
-    let goes = sym c.verdict-verdict.ensures ∙ c.in-GoesOn.is in
+    let goes = sym c.verdict.ensures ∙ c.in-GoesOn.is in
     let whole : store_vector_and_replant c.args.vector (local c.args.self c.args.bytes.now) ≡ local p c.store_vector_and_replant-p.new.bytes =
     rw (c.store_vector_and_replant-p.ensures.value, c.store_vector_and_replant-p.ensures.bytes_after) in
     rw (whole, goes) record {

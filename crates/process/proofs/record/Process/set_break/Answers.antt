@@ -25,8 +25,8 @@ returns-then-b-ne0 c =
       bytes_after = refl;
     }
 
-pub plant_in-p-requires : goal.plant_in-p-requires
-plant_in-p-requires c = (c.requires.0, rw c.at.ensures c.requires.2)
+pub plant_in-requires : goal.plant_in-requires
+plant_in-requires c = (c.requires.0, rw c.at.ensures c.requires.2)
 
 pub overflow_add-self : goal.overflow_add-self
 overflow_add-self c =
@@ -41,7 +41,7 @@ returns c =
     let low = rw (← eight) at c.requires.0 in
     let l = local c.args.self c.args.bytes.now in
     let more : c.args.self.number + 1 ≡ count_used (planted_in c.args.k c.at.result l).process.breaks = omega (arith, count-planted c.args.k c.at.result l low (none-set (entry c.args.self c.args.k) c.if-b-ne0.false) (ap (λ (b : Breakpoint). in_use b) c.at.ensures ∙ some-set (breakpoint_at c.args.a c.args.count c.args.host) c.requires.4), c.requires.3) in
-    rw (used, ← entry_new c.args.a c.args.self used, ← c.requires.1, ← c.at.ensures, c.with_number.ensures, c.plant_in-p.ensures.value) record {
+    rw (used, ← entry_new c.args.a c.args.self used, ← c.requires.1, ← c.at.ensures, c.with_number.ensures, c.plant_in.ensures.value) record {
       value = ap (λ (m : ℕ). with_number m (planted_in c.args.k c.at.result l).process) more;
-      bytes_after = c.plant_in-p.ensures.bytes_after;
+      bytes_after = c.plant_in.ensures.bytes_after;
     }
