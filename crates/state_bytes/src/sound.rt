@@ -15,10 +15,7 @@ fn process_plain(bytes: &[u8]) -> bool
     requires { process_width ≤ length bytes.now }
     ensures { result ≡ process_plain bytes.now }
 {
-    if !head_sound(bytes) {
-        return false;
-    }
-    entries_bits(&bytes[ENTRIES_AT..]) == 0 && bytes[NUMBER_AT] == 0
+    head_sound(bytes) && entries_bits(&bytes[ENTRIES_AT..]) == 0 && bytes[NUMBER_AT] == 0
 }
 
 // The index of the first process that is not plain, or that after the last. No slow path stands in this loop.
@@ -26,15 +23,13 @@ fn plain_before(state: &[u8]) -> usize
     requires { length state.now ≡ state_width }
     ensures { SoundBefore result state.now }
 {
-    let mut at = 0;
-    while at < STARTS_AT {
+    for at in (0..STARTS_AT).step_by(PROCESS_BYTES) {
         let end = at + PROCESS_BYTES;
         if !process_plain(&state[at..end]) {
             return at;
         }
-        at = end;
     }
-    at
+    STARTS_AT
 }
 
 // The bytes of a process are those of a sound record.
@@ -47,12 +42,10 @@ fn process_sound(bytes: &[u8]) -> bool
     }
     let bits = entries_bits(&bytes[ENTRIES_AT..]);
     if bits == 0 {
-        return bytes[NUMBER_AT] == 0;
+        bytes[NUMBER_AT] == 0
+    } else {
+        flags_formed(bits) && read_process(bytes).sound()
     }
-    if !flags_formed(bits) {
-        return false;
-    }
-    read_process(bytes).sound()
 }
 
 // Whether these bytes are the form of a sound state.
@@ -62,13 +55,11 @@ pub fn state_sound(state: &[u8]) -> bool
     if state.len() != STATE_BYTES {
         return false;
     }
-    let mut next = plain_before(state);
-    while next < STARTS_AT {
+    for next in (plain_before(state)..STARTS_AT).step_by(PROCESS_BYTES) {
         let end = next + PROCESS_BYTES;
         if !process_sound(&state[next..end]) {
             return false;
         }
-        next = end;
     }
     layout_sound(state)
 }
