@@ -10,7 +10,7 @@ ghost use Rattle.state_bytes.specs.Widths.{process_count, process_width, state_w
 use crate::place::{is_there, read_extent_at};
 use crate::process_form::read_extent;
 use crate::starts::read_start;
-use crate::widths::{PROCESS_BYTES, PROCESS_COUNT, THERE_AT};
+use crate::widths::{PROCESS_BYTES, PROCESS_COUNT, STATE_BYTES, THERE_AT};
 use state::CAPACITY;
 
 // The sizes of the processes that are there, together: the index of the first free byte.
@@ -28,18 +28,16 @@ pub fn used_bytes(state: &[u8]) -> usize
 // ---- in number order
 
 // Process p, whose record is at this index, is absent or begins at this start.
-fn lies_at(state: &[u8], at: usize, start: usize, p: usize) -> bool
+fn lies_at(state: &[u8; STATE_BYTES], at: usize, start: usize, p: usize) -> bool
     requires p_lt_process_count { p < process_count }
     requires at_value { at ≡ process_width * p }
-    requires state_width_in_bounds { state_width ≤ length state.now }
     ensures { result ≡ lies_at (state_of state.now) start p }
 {
     state[at + THERE_AT] % 2 == 0 || read_start(state, p) as usize == start
 }
 
 // Each process begins where those with lower numbers end, and the last ends within the memory.
-fn in_number_order(state: &[u8]) -> bool
-    requires { state_width ≤ length state.now }
+fn in_number_order(state: &[u8; STATE_BYTES]) -> bool
     ensures { result ≡ in_number_order (state_of state.now) }
 {
     let mut used = 0;
@@ -59,9 +57,8 @@ fn in_number_order(state: &[u8]) -> bool
 // ---- in any order
 
 // The bytes of process q, if it begins before this index.
-fn extent_before(state: &[u8], start: u16, q: usize) -> u16
+fn extent_before(state: &[u8; STATE_BYTES], start: u16, q: usize) -> u16
     requires q_lt_process_count { q < process_count }
-    requires state_width_in_bounds { state_width ≤ length state.now }
     ensures { result ≡ extent_before (state_of state.now) start q }
 {
     if read_start(state, q) < start {
@@ -72,8 +69,7 @@ fn extent_before(state: &[u8], start: u16, q: usize) -> u16
 }
 
 // The sizes of the processes that begin before this index, together.
-fn used_before(state: &[u8], start: u16) -> usize
-    requires { state_width ≤ length state.now }
+fn used_before(state: &[u8; STATE_BYTES], start: u16) -> usize
     ensures { result ≡ used_before start (state_of state.now) }
 {
     let mut used = 0;
@@ -84,18 +80,16 @@ fn used_before(state: &[u8], start: u16) -> usize
 }
 
 // Process q is there and begins at this index.
-fn begins_at(state: &[u8], start: u16, q: usize) -> bool
+fn begins_at(state: &[u8; STATE_BYTES], start: u16, q: usize) -> bool
     requires q_lt_process_count { q < process_count }
-    requires state_width_in_bounds { state_width ≤ length state.now }
     ensures { result ≡ begins_at (state_of state.now) start q }
 {
     read_start(state, q) == start && is_there(state, q)
 }
 
 // No process with a lower number begins where p does.
-fn start_is_unique(state: &[u8], p: usize) -> bool
+fn start_is_unique(state: &[u8; STATE_BYTES], p: usize) -> bool
     requires p_lt_process_count { p < process_count }
-    requires state_width_in_bounds { state_width ≤ length state.now }
     ensures { result ≡ start_is_unique (state_of state.now) p }
 {
     let start = read_start(state, p);
@@ -108,9 +102,8 @@ fn start_is_unique(state: &[u8], p: usize) -> bool
 }
 
 // Process p is absent, or begins where those before it end, and no other begins there.
-fn is_placed(state: &[u8], p: usize) -> bool
+fn is_placed(state: &[u8; STATE_BYTES], p: usize) -> bool
     requires p_lt_process_count { p < process_count }
-    requires state_width_in_bounds { state_width ≤ length state.now }
     ensures { result ≡ placed (state_of state.now) p }
 {
     let start = read_start(state, p);
@@ -119,8 +112,7 @@ fn is_placed(state: &[u8], p: usize) -> bool
 }
 
 // Every process is absent or begins where those before it end, and no two begin at one place.
-fn each_placed(state: &[u8]) -> bool
-    requires { state_width ≤ length state.now }
+fn each_placed(state: &[u8; STATE_BYTES]) -> bool
     ensures { result ≡ below (placed (state_of state.now)) process_count }
 {
     for p in 0..PROCESS_COUNT {
@@ -134,8 +126,7 @@ fn each_placed(state: &[u8]) -> bool
 // ---- both
 
 // Whether the processes, whose records are sound, lie without gaps within the memory. In number order one look at each process tells.
-pub(crate) fn layout_sound(state: &[u8]) -> bool
-    requires state_width_in_bounds { state_width ≤ length state.now }
+pub(crate) fn layout_sound(state: &[u8; STATE_BYTES]) -> bool
     requires state_value { records_sound (state_of state.now) ≡ true }
     ensures { result ≡ laid_out (state_of state.now) }
 {

@@ -3,7 +3,7 @@
 ghost use Rattle.std.specs.Prelude.{◌≡◌, ◌≤◌, length};
 ghost use Rattle.state_bytes.specs.Process.{process_plain, process_sound};
 ghost use Rattle.state_bytes.specs.State.{SoundBefore, state_sound};
-ghost use Rattle.state_bytes.specs.Widths.{process_width, state_width};
+ghost use Rattle.state_bytes.specs.Widths.{process_width};
 
 use crate::entry::{entries_bits, flags_formed};
 use crate::layout::layout_sound;
@@ -19,8 +19,7 @@ fn process_plain(bytes: &[u8]) -> bool
 }
 
 // The index of the first process that is not plain, or that after the last. No slow path stands in this loop.
-fn plain_before(state: &[u8]) -> usize
-    requires { length state.now ≡ state_width }
+fn plain_before(state: &[u8; STATE_BYTES]) -> usize
     ensures { SoundBefore result state.now }
 {
     for at in (0..STARTS_AT).step_by(PROCESS_BYTES) {
@@ -52,14 +51,14 @@ fn process_sound(bytes: &[u8]) -> bool
 pub fn state_sound(state: &[u8]) -> bool
     ensures { result ≡ state_sound state.now }
 {
-    if state.len() != STATE_BYTES {
+    let Some(whole) = state.as_array::<STATE_BYTES>() else {
         return false;
-    }
-    for next in (plain_before(state)..STARTS_AT).step_by(PROCESS_BYTES) {
+    };
+    for next in (plain_before(whole)..STARTS_AT).step_by(PROCESS_BYTES) {
         let end = next + PROCESS_BYTES;
-        if !process_sound(&state[next..end]) {
+        if !process_sound(&whole[next..end]) {
             return false;
         }
     }
-    layout_sound(state)
+    layout_sound(whole)
 }

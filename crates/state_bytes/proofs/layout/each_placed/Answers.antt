@@ -11,7 +11,7 @@ pub loop-p-init : goal.loop-p-init
 loop-p-init c = refl
 
 pub is_placed-requires : goal.is_placed-requires
-is_placed-requires c = record { p_lt_process_count = omega arith; state_width_in_bounds = c.requires }
+is_placed-requires c = record { p_lt_process_count = omega arith }
 
 pub returns-then-not-is_placed : goal.returns-then-not-is_placed
 returns-then-not-is_placed c =

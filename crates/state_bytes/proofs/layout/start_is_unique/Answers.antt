@@ -14,7 +14,7 @@ loop-q-init c = refl
 
 pub begins_at-requires : goal.begins_at-requires
 begins_at-requires c =
-    record { q_lt_process_count = omega (arith, c.requires.p_lt_process_count); state_width_in_bounds = c.requires.state_width_in_bounds }
+    record { q_lt_process_count = omega (arith, c.requires.p_lt_process_count) }
 
 pub returns-then-begins_at : goal.returns-then-begins_at
 unfolding start_is_unique

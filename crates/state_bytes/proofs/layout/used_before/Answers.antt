@@ -15,7 +15,7 @@ unfolding total
 loop-q-init c = (refl, omega arith)
 
 pub extent_before-requires : goal.extent_before-requires
-extent_before-requires c = record { q_lt_process_count = omega arith; state_width_in_bounds = c.requires }
+extent_before-requires c = record { q_lt_process_count = omega arith }
 
 pub loop-q-preserved : goal.loop-q-preserved
 loop-q-preserved c =

@@ -3,6 +3,7 @@ use mathlib.Core.Path.{◌≡◌, refl, sym, ◌∙◌}
 use mathlib.Core.Bool.{true}
 use Prim.Native.Nat.{◌*◌, ◌/◌}
 use native.Mathlib.Omega.{arith}
+use borrow.Author.Rules.{rules}
 use lib.ListN.{take, drop}
 use Rattle.state_bytes.specs.Chunk.{every_chunk}
 use Rattle.state_bytes.specs.Process.{process_plain}
@@ -14,7 +15,7 @@ use Rattle.state_bytes.proofs.sound.plain_before.Goals as goal
 
 pub loop-at-init : goal.loop-at-init
 unfolding every_chunk
-loop-at-init c = (refl, omega arith, c.requires, refl)
+loop-at-init c = (refl, omega arith, search rules, refl)
 
 pub slice_bounds-process_plain-end : goal.slice_bounds-process_plain-end
 slice_bounds-process_plain-end c = omega (arith, c.loop-at.invariant.0, c.loop-at.invariant.2)
