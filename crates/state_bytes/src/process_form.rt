@@ -27,7 +27,8 @@ fn read_vector(bytes: &[u8]) -> [u16; 9]
     array::from_fn(|i| word_of(bytes[2 * i + 1], bytes[2 * i]))
 }
 
-// The size in the head.
+// The size in the head. Here and below a head is a slice, and no array: it is a part of the bytes of a state, and an array of it would be an Option
+// that each caller has to open.
 fn read_size(bytes: &[u8]) -> u16
     requires { head_width ≤ length bytes.now }
     ensures { result ≡ size_of bytes.now }
