@@ -14,10 +14,7 @@ pub const ACK_WORDS: usize = 35;
 pub fn second_word(kind: u8, contents: u16) -> u16
     ensures { result ≡ second_word kind contents }
 {
-    if kind == FETCH {
-        return contents;
-    }
-    0
+    if kind == FETCH { contents } else { 0 }
 }
 
 // Writes the words of an acknowledgement that stand before those of its block; how many words it has with them.

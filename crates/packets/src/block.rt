@@ -6,6 +6,7 @@ use crate::data::asked;
 use crate::units::{ByteCount, WordAddress, WordCount};
 
 // What an acknowledgement carries after its first two words.
+// An enum of its own, and no Option: theorems of specs/ and contracts of other crates name its variants.
 #[derive(Clone, Copy)]
 pub enum Block {
     // No block.
@@ -18,32 +19,18 @@ pub enum Block {
 fn may_ask(n: u16) -> bool
     ensures { result ≡ may_ask n }
 {
-    match n {
-        1 => true,
-        2 => true,
-        4 => true,
-        8 => true,
-        16 => true,
-        32 => true,
-        64 => true,
-        128 => true,
-        256 => true,
-        _ => false,
-    }
+    matches!(n, 1 | 2 | 4 | 8 | 16 | 32 | 64 | 128 | 256)
 }
 
 // How many words are sent where so many are asked for, if they fit.
 fn length_to_send(asked: WordCount) -> WordCount
     ensures { result ≡ length_to_send asked }
 {
-    let n = asked.0;
-    if !may_ask(n) {
-        return WordCount(0);
+    if may_ask(asked.0) {
+        WordCount(asked.0.min(32))
+    } else {
+        WordCount(0)
     }
-    if n <= 32 {
-        return WordCount(n);
-    }
-    WordCount(32)
 }
 
 // How far a word address is over a multiple of this length: a remainder by a constant is a mask, by a variable it is a division.
@@ -67,8 +54,7 @@ fn base_of(at: WordAddress, count: WordCount) -> WordAddress
     requires { sendable count.0 ≡ true }
     ensures { result ≡ base_of at count }
 {
-    let a = at.0;
-    WordAddress(a - remainder(a, count.0))
+    WordAddress(at.0 - remainder(at.0, count.0))
 }
 
 // Half as many words.

@@ -24,8 +24,5 @@ pub fn value_of(words: &[u16]) -> u16
 pub(crate) fn asked(words: &[u16]) -> WordCount
     ensures { result ≡ asked words.now }
 {
-    if words.len() < 3 {
-        return WordCount(0);
-    }
-    WordCount(words[2])
+    WordCount(words.get(2).copied().unwrap_or(0))
 }

@@ -6,8 +6,5 @@ ghost use Rattle.packets.specs.Id.{next_id};
 pub fn next_id(id: u32) -> u32
     ensures { result ≡ next_id id }
 {
-    if id == 4294967295 {
-        return 0;
-    }
-    id + 1
+    id.wrapping_add(1)
 }

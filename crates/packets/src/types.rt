@@ -21,13 +21,7 @@ pub const ACK: u8 = 132;
 pub fn is_known(kind: u8) -> bool
     ensures { result ≡ known_type kind }
 {
-    match kind {
-        STORE => true,
-        FETCH => true,
-        GO => true,
-        GO_REPLY => true,
-        _ => false,
-    }
+    matches!(kind, STORE | FETCH | GO | GO_REPLY)
 }
 
 // The fewest data words of a packet of this type. An unknown type has no fewest.

@@ -1,14 +1,13 @@
 -- Laws of the bytes from an index on, and of a memory that some bytes are taken out of: what each index holds decides all. Assumes nothing.
 use mathlib.Core.Path.{◌≡◌, refl, sym, ap, ◌∙◌}
-use mathlib.Core.List.{List, ◌++◌}
+use mathlib.Core.List.{List, ◌++◌, append_assoc}
 use mathlib.Core.Logic.{◌⊎◌, inl, inr, ⊎_elim}
 use Prim.Native.Nat.{ℕ, ◌+◌, ◌-◌, ◌≤◌, ◌<◌}
 use native.Mathlib.Omega.{arith}
 use lib.ListN.{length, take, drop, get_or, set, replicate, length-append, length-drop, length-replicate, get_or-replicate, take-append-drop, get_or-append}
-use lib.Seq.{length-take-le, get_or-take, get_or-drop, take-set-le, take-set-lt, drop-set-lt, drop-set-add, ext_get_or}
+use lib.Seq.{paste, drop-drop, length-take-le, get_or-take, get_or-drop, take-set-le, take-set-lt, drop-set-lt, drop-set-add, ext_get_or}
 use Rattle.lists.specs.Buffer.{overlay}
 use Rattle.lists.proofs.Cases.{less-or-not}
-use Rattle.lists.proofs.Moved.{Moved}
 use Rattle.lists.proofs.Part.{length_part, length-replaced, part_same, part-other, part-back, part-over, part-set, getD-second}
 use Rattle.state.specs.Layout.{slot, with_slot, closed, lowered}
 
@@ -216,15 +215,10 @@ module _ (start count end : ℕ) (m : List ℕ) (inside : start + count ≤ end)
       ∙ slot_at (start + count) (end - (start + count)) a m (omega arith)
       ∙ ap (λ (k : ℕ). get_or m k 0) from
 
-  -- what the loop that moves them makes
-  pub lowered_is : (k : List ℕ) → Moved start count (end - count) m k → k ≡ lowered start count end m
-  lowered_is k v =
-      ext_get_or 0 k (lowered start count end m) (v.size ∙ sym (length-with_slot start upper m room)) (λ i h.
-      ⊎_elim (λ (l : i < start). v.low i l ∙ sym (with_slot-outside start upper m room i (inl l)))
-      (λ (b : start ≤ i). ⊎_elim (λ (l : i < end - count). v.down i b l ∙ sym (lowered-moved i b (omega arith)))
-      (λ (l : end - count ≤ i). v.high i l ∙ sym (with_slot-outside start upper m room i (inr (omega (arith, size)))))
-      (less-or-not i (end - count)))
-      (less-or-not i start))
+  -- what a copy of them over the gap makes
+  pub lowered-pasted : (from : ℕ) → from ≡ start + count → paste m start (drop from m) (end - from) ≡ lowered start count end m
+  unfolding slot with_slot
+  lowered-pasted from e = rw (e, size) (simp (append_assoc, drop-drop))
 
   -- with zeros after them they are taken out
   pub closed-lowered : with_slot (end - count) (replicate count 0) (lowered start count end m) ≡ closed start count end m

@@ -38,6 +38,11 @@ pub listed_same : {A : Type 0} (f g : ℕ → A) → ((k : ℕ) → f k ≡ g k)
 listed_same f g same zero = refl
 listed_same f g same (suc n) = rw (same 0, listed_same (λ (k : ℕ). f (suc k)) (λ (k : ℕ). g (suc k)) (λ k. same (suc k)) n)
 
+-- a list by its elements
+pub listed-by : {A : Type 0} (d : A) (xs : List A) → xs ≡ listed (λ (k : ℕ). get_or xs k d) (length xs)
+listed-by d [] = refl
+listed-by d (x ∷ xs) = ap (λ (l : List _). x ∷ l) (listed-by d xs)
+
 module _ {A : Type 0} (w : ℕ) (f : List ℕ → A) where
   pub length-chunks : (n : ℕ) (m : List ℕ) → length (chunks w f n m) ≡ n
   unfolding chunks

@@ -9,6 +9,8 @@ use lib.Bits.{bit_or, or_add_and, and_le_r, or_shr, or_mod}
 use lib.Dec.{eqb, leb}
 use lib.ListN.{length, drop, get_or}
 use lib.Seq.{take_all, get_or-drop}
+use Rattle.std.proofs.Common.{w32, w64}
+use Rattle.std.specs.Int.{to_le_bytes}
 use Rattle.lists.specs.Buffer.{Bytes}
 use Rattle.lists.specs.Elements.{elements}
 use Rattle.lists.specs.Flag.{flag}
@@ -59,6 +61,15 @@ module _ (at : ℕ) (m : List ℕ) (b : Bytes m) where
 
   pub four-3 : u32_le (drop at m) / 16777216 ≡ get_or m (at + 3) 0
   four-3 = rw from-four (omega (arith, b (at + 0), b (at + 1), b (at + 2)))
+
+-- ---- the bytes of a number, as the library has them
+
+pub four-low-first : (w : ℕ) → w < 4294967296 → to_le_bytes w32 w ≡ u32_le_bytes w
+four-low-first w h = let last : w / 16777216 % 256 ≡ w / 16777216 = omega arith in rw last
+
+pub eight-low-first : (w : ℕ) → to_le_bytes w64 w ≡ u64_le_bytes w
+unfolding u64_le_bytes
+eight-low-first w = refl
 
 -- ---- eight bytes as a number
 

@@ -1,11 +1,11 @@
 -- Laws of the starts in the bytes of a state: eight words after the processes. Assumes nothing.
 use mathlib.Core.Path.{◌≡◌, refl, sym, ap, ◌∙◌}
-use mathlib.Core.Bool.{Bool, true, false, cond, ◌&&◌}
+use mathlib.Core.Bool.{Bool, true, false, cond}
 use mathlib.Core.List.{List, ◌++◌, append_assoc}
-use Prim.Native.Nat.{ℕ, ◌+◌, ◌-◌, ◌*◌, ◌≤◌, ◌<◌}
+use Prim.Native.Nat.{ℕ, ◌+◌, ◌*◌, ◌≤◌, ◌<◌}
 use native.Mathlib.Numerals.{add-one}
 use native.Mathlib.Omega.{arith}
-use borrow.Author.Tests.{lt-ltb, le-ltb, leb-true}
+use borrow.Author.Tests.{leb-true}
 use lib.ListN.{length, take, drop, get_or, set, length-drop, take-append-drop}
 use lib.Seq.{drop_at, length-take-le, take-append-le, drop-append-le, take-append-add, drop-append-add, get_or-append-add, get_or-take, get_or-drop, drop-drop, sets-eq}
 use lib.Dec.{leb}
@@ -183,25 +183,6 @@ module _ (f : ℕ → ℕ) (m : List ℕ) (long : length m ≡ state_width) wher
   -- all are written
   pub written_all : written process_count ≡ with_starts_bytes (elements f process_count) m
   written_all = ap (λ (s : List ℕ). with_starts_bytes s m) (overlay-all (elements f process_count) (state_of m).starts (omega (arith, length-elements f process_count, eight-starts m)))
-
--- ---- where a process begins once so many bytes are taken out at a start
-
-module _ (g : Records) (start count q own : ℕ) (e : own ≡ start_of g q) where
-  pub lowered-below : own ≤ start → own ≡ start_lowered g start count q
-  unfolding start_lowered
-  lowered-below h = rw (le-ltb start (start_of g q) (omega arith)) (go (process_at g q).there)
-    where
-      go : (t : Bool) → own ≡ cond (t && false) (start_of g q - count) (start_of g q)
-      go true = e
-      go false = e
-
-  pub lowered-absent : (process_at g q).there ≡ false → own ≡ start_lowered g start count q
-  unfolding start_lowered
-  lowered-absent absent = rw absent e
-
-  pub lowered-above : (process_at g q).there ≡ true → start < own → (r : ℕ) → r ≡ own - count → r ≡ start_lowered g start count q
-  unfolding start_lowered
-  lowered-above there h r i = rw (there, lt-ltb start (start_of g q) (omega arith)) (omega arith)
 
 -- ---- the starts once p is gone
 

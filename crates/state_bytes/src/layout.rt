@@ -10,7 +10,7 @@ ghost use Rattle.state_bytes.specs.Widths.{process_count, process_width, state_w
 use crate::place::{is_there, read_extent_at};
 use crate::process_form::read_extent;
 use crate::starts::read_start;
-use crate::widths::{PROCESS_BYTES, PROCESS_COUNT, STARTS_AT, THERE_AT};
+use crate::widths::{PROCESS_BYTES, PROCESS_COUNT, STATE_BYTES, THERE_AT};
 use state::CAPACITY;
 
 // The sizes of the processes that are there, together: the index of the first free byte.
@@ -19,11 +19,8 @@ pub fn used_bytes(state: &[u8]) -> usize
     ensures { result ≡ used (state_of state.now) }
 {
     let mut used = 0;
-    let mut at = 0;
-    while at < STARTS_AT {
-        let end = at + PROCESS_BYTES;
-        used += read_extent(&state[at..end]) as usize;
-        at = end;
+    for p in 0..PROCESS_COUNT {
+        used += read_extent_at(state, p) as usize;
     }
     used
 }
@@ -31,34 +28,28 @@ pub fn used_bytes(state: &[u8]) -> usize
 // ---- in number order
 
 // Process p, whose record is at this index, is absent or begins at this start.
-fn lies_at(state: &[u8], at: usize, start: usize, p: usize) -> bool
+fn lies_at(state: &[u8; STATE_BYTES], at: usize, start: usize, p: usize) -> bool
     requires p_lt_process_count { p < process_count }
     requires at_value { at ≡ process_width * p }
-    requires state_width_in_bounds { state_width ≤ length state.now }
     ensures { result ≡ lies_at (state_of state.now) start p }
 {
-    if state[at + THERE_AT] % 2 == 0 {
-        return true;
-    }
-    read_start(state, p) as usize == start
+    state[at + THERE_AT] % 2 == 0 || read_start(state, p) as usize == start
 }
 
 // Each process begins where those with lower numbers end, and the last ends within the memory.
-fn in_number_order(state: &[u8]) -> bool
-    requires { state_width ≤ length state.now }
+fn in_number_order(state: &[u8; STATE_BYTES]) -> bool
     ensures { result ≡ in_number_order (state_of state.now) }
 {
     let mut used = 0;
+    // An index that runs beside p: a multiple of p would be a process number multiplied.
     let mut at = 0;
-    let mut p = 0;
-    while p < PROCESS_COUNT {
+    for p in 0..PROCESS_COUNT {
         if !lies_at(state, at, used, p) {
             return false;
         }
         let end = at + PROCESS_BYTES;
         used += read_extent(&state[at..end]) as usize;
         at = end;
-        p += 1;
     }
     used <= CAPACITY
 }
@@ -66,87 +57,68 @@ fn in_number_order(state: &[u8]) -> bool
 // ---- in any order
 
 // The bytes of process q, if it begins before this index.
-fn extent_before(state: &[u8], start: u16, q: usize) -> u16
+fn extent_before(state: &[u8; STATE_BYTES], start: u16, q: usize) -> u16
     requires q_lt_process_count { q < process_count }
-    requires state_width_in_bounds { state_width ≤ length state.now }
     ensures { result ≡ extent_before (state_of state.now) start q }
 {
     if read_start(state, q) < start {
-        return read_extent_at(state, q);
+        read_extent_at(state, q)
+    } else {
+        0
     }
-    0
 }
 
 // The sizes of the processes that begin before this index, together.
-fn used_before(state: &[u8], start: u16) -> usize
-    requires { state_width ≤ length state.now }
+fn used_before(state: &[u8; STATE_BYTES], start: u16) -> usize
     ensures { result ≡ used_before start (state_of state.now) }
 {
     let mut used = 0;
-    let mut q = 0;
-    while q < PROCESS_COUNT {
+    for q in 0..PROCESS_COUNT {
         used += extent_before(state, start, q) as usize;
-        q += 1;
     }
     used
 }
 
 // Process q is there and begins at this index.
-fn begins_at(state: &[u8], start: u16, q: usize) -> bool
+fn begins_at(state: &[u8; STATE_BYTES], start: u16, q: usize) -> bool
     requires q_lt_process_count { q < process_count }
-    requires state_width_in_bounds { state_width ≤ length state.now }
     ensures { result ≡ begins_at (state_of state.now) start q }
 {
-    if read_start(state, q) == start {
-        return is_there(state, q);
-    }
-    false
+    read_start(state, q) == start && is_there(state, q)
 }
 
 // No process with a lower number begins where p does.
-fn start_is_unique(state: &[u8], p: usize) -> bool
+fn start_is_unique(state: &[u8; STATE_BYTES], p: usize) -> bool
     requires p_lt_process_count { p < process_count }
-    requires state_width_in_bounds { state_width ≤ length state.now }
     ensures { result ≡ start_is_unique (state_of state.now) p }
 {
     let start = read_start(state, p);
-    let mut q = 0;
-    while q < p {
+    for q in 0..p {
         if begins_at(state, start, q) {
             return false;
         }
-        q += 1;
     }
     true
 }
 
 // Process p is absent, or begins where those before it end, and no other begins there.
-fn is_placed(state: &[u8], p: usize) -> bool
+fn is_placed(state: &[u8; STATE_BYTES], p: usize) -> bool
     requires p_lt_process_count { p < process_count }
-    requires state_width_in_bounds { state_width ≤ length state.now }
     ensures { result ≡ placed (state_of state.now) p }
 {
-    if !is_there(state, p) {
-        return true;
-    }
     let start = read_start(state, p);
-    if used_before(state, start) != start as usize {
-        return false;
-    }
-    start_is_unique(state, p)
+    !is_there(state, p)
+        || (used_before(state, start) == start as usize && start_is_unique(state, p))
 }
 
 // Every process is absent or begins where those before it end, and no two begin at one place.
-fn each_placed(state: &[u8]) -> bool
-    requires { state_width ≤ length state.now }
+fn each_placed(state: &[u8; STATE_BYTES]) -> bool
     ensures { result ≡ below (placed (state_of state.now)) process_count }
 {
-    let mut p = 0;
-    while p < PROCESS_COUNT {
+    for p in 0..PROCESS_COUNT {
         if !is_placed(state, p) {
             return false;
         }
-        p += 1;
     }
     true
 }
@@ -154,16 +126,9 @@ fn each_placed(state: &[u8]) -> bool
 // ---- both
 
 // Whether the processes, whose records are sound, lie without gaps within the memory. In number order one look at each process tells.
-pub(crate) fn layout_sound(state: &[u8]) -> bool
-    requires state_width_in_bounds { state_width ≤ length state.now }
+pub(crate) fn layout_sound(state: &[u8; STATE_BYTES]) -> bool
     requires state_value { records_sound (state_of state.now) ≡ true }
     ensures { result ≡ laid_out (state_of state.now) }
 {
-    if in_number_order(state) {
-        return true;
-    }
-    if used_bytes(state) > CAPACITY {
-        return false;
-    }
-    each_placed(state)
+    in_number_order(state) || (used_bytes(state) <= CAPACITY && each_placed(state))
 }

@@ -66,14 +66,10 @@ pub fn lowest_absent(state: &[u8]) -> usize
     requires { state_width ≤ length state.now }
     ensures { result ≡ lowest_absent (state_of state.now) }
 {
-    let mut p = 0;
-    let mut there = THERE_AT;
-    while p < PROCESS_COUNT {
-        if state[there] % 2 == 0 {
+    for p in 0..PROCESS_COUNT {
+        if !is_there(state, p) {
             return p;
         }
-        there += PROCESS_BYTES;
-        p += 1;
     }
-    p
+    PROCESS_COUNT
 }

@@ -3,7 +3,7 @@
 ghost use Rattle.std.specs.Prelude.{◌≡◌, ◌≤◌, length};
 ghost use Rattle.state_bytes.specs.Process.{process_plain, process_sound};
 ghost use Rattle.state_bytes.specs.State.{SoundBefore, state_sound};
-ghost use Rattle.state_bytes.specs.Widths.{process_width, state_width};
+ghost use Rattle.state_bytes.specs.Widths.{process_width};
 
 use crate::entry::{entries_bits, flags_formed};
 use crate::layout::layout_sound;
@@ -15,26 +15,20 @@ fn process_plain(bytes: &[u8]) -> bool
     requires { process_width ≤ length bytes.now }
     ensures { result ≡ process_plain bytes.now }
 {
-    if !head_sound(bytes) {
-        return false;
-    }
-    entries_bits(&bytes[ENTRIES_AT..]) == 0 && bytes[NUMBER_AT] == 0
+    head_sound(bytes) && entries_bits(&bytes[ENTRIES_AT..]) == 0 && bytes[NUMBER_AT] == 0
 }
 
 // The index of the first process that is not plain, or that after the last. No slow path stands in this loop.
-fn plain_before(state: &[u8]) -> usize
-    requires { length state.now ≡ state_width }
+fn plain_before(state: &[u8; STATE_BYTES]) -> usize
     ensures { SoundBefore result state.now }
 {
-    let mut at = 0;
-    while at < STARTS_AT {
+    for at in (0..STARTS_AT).step_by(PROCESS_BYTES) {
         let end = at + PROCESS_BYTES;
         if !process_plain(&state[at..end]) {
             return at;
         }
-        at = end;
     }
-    at
+    STARTS_AT
 }
 
 // The bytes of a process are those of a sound record.
@@ -47,28 +41,24 @@ fn process_sound(bytes: &[u8]) -> bool
     }
     let bits = entries_bits(&bytes[ENTRIES_AT..]);
     if bits == 0 {
-        return bytes[NUMBER_AT] == 0;
+        bytes[NUMBER_AT] == 0
+    } else {
+        flags_formed(bits) && read_process(bytes).sound()
     }
-    if !flags_formed(bits) {
-        return false;
-    }
-    read_process(bytes).sound()
 }
 
 // Whether these bytes are the form of a sound state.
 pub fn state_sound(state: &[u8]) -> bool
     ensures { result ≡ state_sound state.now }
 {
-    if state.len() != STATE_BYTES {
+    let Some(whole) = state.as_array::<STATE_BYTES>() else {
         return false;
-    }
-    let mut next = plain_before(state);
-    while next < STARTS_AT {
+    };
+    for next in (plain_before(whole)..STARTS_AT).step_by(PROCESS_BYTES) {
         let end = next + PROCESS_BYTES;
-        if !process_sound(&state[next..end]) {
+        if !process_sound(&whole[next..end]) {
             return false;
         }
-        next = end;
     }
-    layout_sound(state)
+    layout_sound(whole)
 }

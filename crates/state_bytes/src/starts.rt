@@ -46,16 +46,11 @@ fn start_lowered(state: &[u8], q: usize, start: u16, count: u16) -> u16
     ensures { result ≡ start_lowered (state_of state.now) «start» «count» q }
 {
     let own = read_start(state, q);
-    if own <= start {
-        return own;
+    if start < own && is_there(state, q) {
+        own.saturating_sub(count)
+    } else {
+        own
     }
-    if !is_there(state, q) {
-        return own;
-    }
-    if own < count {
-        return 0;
-    }
-    own - count
 }
 
 // Writes where each process begins once p is gone: those above it move down by its size, and it has no start. To be called while p's record is
@@ -67,11 +62,9 @@ pub fn put_starts_without(p: usize, state: &mut [u8])
 {
     let start = read_start(state, p);
     let count = read_extent_at(state, p);
-    let mut q = 0;
-    while q < PROCESS_COUNT {
+    for q in 0..PROCESS_COUNT {
         let lowered = start_lowered(state, q, start, count);
         put_start(lowered, q, state);
-        q += 1;
     }
     put_start(0, p, state);
 }

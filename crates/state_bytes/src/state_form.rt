@@ -19,9 +19,10 @@ fn fresh_process(there: bool, size: u16) -> Process
     ensures { result ≡ fresh_process there size }
 {
     if there {
-        return Process::fresh(true, 0, Run::Running, size);
+        Process::fresh(true, 0, Run::Running, size)
+    } else {
+        Process::cleared()
     }
-    Process::cleared()
 }
 
 // Writes the records at a fresh start.
@@ -30,12 +31,11 @@ fn put_fresh_processes(there: [bool; 8], sizes: [u16; 8], state: &mut [u8])
     ensures sizes_len { length (joined process_bytes (fresh_processes there sizes)) ≡ starts_at }
     ensures state_after { state.new ≡ overlay (joined process_bytes (fresh_processes there sizes)) state.old }
 {
-    let mut p = 0;
+    // An index that runs beside p: a multiple of p would be a process number multiplied.
     let mut at = 0;
-    while p < PROCESS_COUNT {
+    for p in 0..PROCESS_COUNT {
         put_process(fresh_process(there[p], size_of(sizes, p)), &mut state[at..]);
         at += PROCESS_BYTES;
-        p += 1;
     }
 }
 
@@ -52,12 +52,10 @@ fn put_fresh_starts(there: [bool; 8], sizes: [u16; 8], state: &mut [u8])
     requires state_len { length state.old ≡ state_width }
     ensures { state.new ≡ with_starts_bytes (fresh_starts 0 there sizes) state.old }
 {
-    let mut p = 0;
     let mut start = 0;
-    while p < PROCESS_COUNT {
+    for p in 0..PROCESS_COUNT {
         put_start(if_there(there[p], start), p, state);
         start += if_there(there[p], size_of(sizes, p));
-        p += 1;
     }
 }
 

@@ -1,37 +1,27 @@
--- `words::vector_of` meets its contract. The loop's invariant: the words made so far lie over the array's start. Assumes nothing.
-use mathlib.Core.Path.{◌≡◌, refl}
-use mathlib.Core.List.{List}
-use Prim.Native.Nat.{ℕ, ◌+◌, ◌*◌}
-use native.Mathlib.Omega.{arith}
-use borrow.Author.Rules.{rules}
-use lib.ListN.{get_or, replicate}
+-- `words::vector_of` meets its contract: each word is what the closure gives at its number. Assumes nothing.
+use Rattle.std.proofs.Common.{◌≡◌, ℕ, ◌+◌, ◌*◌, length, get_or, sym, ◌∙◌, rules, arith}
+use lib.Seq.{take_all}
+use Rattle.lists.specs.Elements.{elements}
 use Rattle.lists.specs.Word.{word, vector_of}
-use Rattle.lists.specs.Buffer.{overlay}
-use Rattle.lists.proofs.Elements.{elements-step}
-use Rattle.lists.proofs.Buffer.{overlay-all}
+use Rattle.lists.proofs.Elements.{take-elements}
 use Rattle.words.proofs.vector_of.Goals as goal
-
--- the word of two bytes, by where they stand
-word_at : (bytes : List ℕ) (i : ℕ) {x y w : ℕ} → w ≡ word (get_or bytes x 0) (get_or bytes y 0) → x ≡ 2 * i + 1 → y ≡ 2 * i
-    → w ≡ word (get_or bytes (2 * i + 1) 0) (get_or bytes (2 * i) 0)
-word_at bytes i made h l = rw (← h, ← l) made
-
-pub loop-i-init : goal.loop-i-init
-unfolding overlay
-loop-i-init c = (omega arith, search rules, refl)
-
-pub loop-i-preserved : goal.loop-i-preserved
-loop-i-preserved c =
-    let b = c.args.bytes in (
-      omega arith,
-      c.loop-i.invariant.1,
-      rw (c.loop-i.invariant.2, word_at b c.loop-i.i c.word_of.ensures (omega arith) (omega arith))
-          (elements-step (λ (k : ℕ). word (get_or b (2 * k + 1) 0) (get_or b (2 * k) 0)) (replicate 9 0) c.loop-i.i (omega arith)),
-    )
 
 pub returns : goal.returns
 unfolding vector_of
 returns c =
     let b = c.args.bytes in
-    let end : c.loop-i.i ≡ 9 = omega arith in
-    rw (c.loop-i.invariant.2, end) (overlay-all (vector_of b) (replicate 9 0) (omega arith))
+    let ws = c.from_fn.result in
+    let size : length ws ≡ 9 = c.from_fn.ensures.items.long in
+    let each = c.from_fn.ensures.items.each in
+    let word_at : ℕ → ℕ = λ i. word (get_or b (2 * i + 1) 0) (get_or b (2 * i) 0) in
+    let first : get_or ws 0 0 ≡ word_at 0 = search rules in
+    let second : get_or ws 1 0 ≡ word_at 1 = search rules in
+    let third : get_or ws 2 0 ≡ word_at 2 = search rules in
+    let fourth : get_or ws 3 0 ≡ word_at 3 = search rules in
+    let fifth : get_or ws 4 0 ≡ word_at 4 = search rules in
+    let sixth : get_or ws 5 0 ≡ word_at 5 = search rules in
+    let seventh : get_or ws 6 0 ≡ word_at 6 = search rules in
+    let eighth : get_or ws 7 0 ≡ word_at 7 = search rules in
+    let ninth : get_or ws 8 0 ≡ word_at 8 = search rules in
+    let whole : ws ≡ elements (λ (i : ℕ). get_or ws i 0) 9 = sym (take_all 9 ws (omega arith)) ∙ take-elements 9 ws (omega arith) in
+    whole ∙ rw (first, second, third, fourth, fifth, sixth, seventh, eighth, ninth)

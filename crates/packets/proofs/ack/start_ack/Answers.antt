@@ -1,16 +1,9 @@
 -- `packets::ack::start_ack` meets its contract, by the block. Assumes nothing.
 use mathlib.Core.Path.{sym, ap}
 use native.Mathlib.Omega.{arith}
-use lib.ListN.{length-set}
 use Rattle.packets.specs.Ack.{ack_start, ack_length}
 use Rattle.packets.proofs.AckLaws.{length-with, start-with, two-set, three-set}
 use Rattle.packets.proofs.ack.start_ack.Goals as goal
-
-pub bounds-out-1 : goal.bounds-out-1
-bounds-out-1 c = simp length-set (omega (arith, c.requires))
-
-pub bounds-out-2 : goal.bounds-out-2
-bounds-out-2 c = simp length-set (omega (arith, c.requires))
 
 pub overflow_add-result : goal.overflow_add-result
 overflow_add-result c = omega (arith, length-with c.in-Words.is, c.requires.block_bound)

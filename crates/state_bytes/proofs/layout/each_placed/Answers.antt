@@ -8,10 +8,10 @@ use Rattle.state_bytes.specs.Widths.{process_count}
 use Rattle.state_bytes.proofs.layout.each_placed.Goals as goal
 
 pub loop-p-init : goal.loop-p-init
-loop-p-init c = (omega arith, refl)
+loop-p-init c = refl
 
 pub is_placed-requires : goal.is_placed-requires
-is_placed-requires c = record { p_lt_process_count = omega arith; state_width_in_bounds = c.requires }
+is_placed-requires c = record { p_lt_process_count = omega arith }
 
 pub returns-then-not-is_placed : goal.returns-then-not-is_placed
 returns-then-not-is_placed c =
@@ -21,9 +21,9 @@ returns-then-not-is_placed c =
 pub loop-p-preserved : goal.loop-p-preserved
 loop-p-preserved c =
     let m = c.args.state.now in
-    (omega arith, below_more (placed (state_of m)) c.loop-p.p c.loop-p.invariant.1 (sym c.is_placed.ensures ∙ c.if-not-is_placed.false))
+    below_more (placed (state_of m)) c.loop-p.p c.loop-p.invariant (sym c.is_placed.ensures ∙ c.if-not-is_placed.false)
 
 pub returns : goal.returns
 returns c =
     let end : c.loop-p.p ≡ process_count = omega arith in
-    sym (rw end at c.loop-p.invariant.1)
+    sym (rw end at c.loop-p.invariant)

@@ -10,11 +10,11 @@ use Rattle.state_bytes.specs.State.{state_of}
 use Rattle.state_bytes.proofs.layout.start_is_unique.Goals as goal
 
 pub loop-q-init : goal.loop-q-init
-loop-q-init c = (omega arith, refl)
+loop-q-init c = refl
 
 pub begins_at-requires : goal.begins_at-requires
 begins_at-requires c =
-    record { q_lt_process_count = omega (arith, c.requires.p_lt_process_count); state_width_in_bounds = c.requires.state_width_in_bounds }
+    record { q_lt_process_count = omega (arith, c.requires.p_lt_process_count) }
 
 pub returns-then-begins_at : goal.returns-then-begins_at
 unfolding start_is_unique
@@ -26,11 +26,11 @@ returns-then-begins_at c =
 pub loop-q-preserved : goal.loop-q-preserved
 loop-q-preserved c =
     let g = state_of c.args.state.now in
-    (omega arith, below_more (λ (k : ℕ). not (begins_at g c.read_start-start.result k)) c.loop-q.q c.loop-q.invariant.1 (ap not (sym c.begins_at.ensures ∙ c.if-begins_at.false)))
+    below_more (λ (k : ℕ). not (begins_at g c.read_start-start.result k)) c.loop-q.q c.loop-q.invariant (ap not (sym c.begins_at.ensures ∙ c.if-begins_at.false))
 
 pub returns : goal.returns
 unfolding start_is_unique
 returns c =
     let p = c.args.p in
     let end : c.loop-q.q ≡ p = omega arith in
-    sym (rw c.read_start-start.ensures at (rw end at c.loop-q.invariant.1))
+    sym (rw c.read_start-start.ensures at (rw end at c.loop-q.invariant))

@@ -12,18 +12,18 @@ use Rattle.state_bytes.proofs.layout.used_before.Goals as goal
 
 pub loop-q-init : goal.loop-q-init
 unfolding total
-loop-q-init c = (omega arith, refl, omega arith)
+loop-q-init c = (refl, omega arith)
 
 pub extent_before-requires : goal.extent_before-requires
-extent_before-requires c = record { q_lt_process_count = omega arith; state_width_in_bounds = c.requires }
+extent_before-requires c = record { q_lt_process_count = omega arith }
 
 pub loop-q-preserved : goal.loop-q-preserved
 loop-q-preserved c =
     let q = c.loop-q.q in
-    (omega arith, rw (add-one q) (omega (arith, total-suc (extent_before (state_of c.args.state.now) c.args.start) q, c.extent_before.ensures, c.loop-q.invariant.1)), omega arith)
+    (rw (add-one q) (omega (arith, total-suc (extent_before (state_of c.args.state.now) c.args.start) q, c.extent_before.ensures, c.loop-q.invariant.0)), omega arith)
 
 pub returns : goal.returns
 unfolding used_before
 returns c =
     let end : c.loop-q.q ≡ process_count = omega arith in
-    rw end at c.loop-q.invariant.1
+    rw end at c.loop-q.invariant.0

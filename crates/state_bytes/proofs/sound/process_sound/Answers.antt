@@ -21,19 +21,19 @@ returns-then-bits-eq0 c =
     let bits = c.entries_bits-bits.ensures ∙ ap entries_bits (tail-part entries_at m) in
     sym (bare-sound m (sym bits ∙ c.if-bits-eq0.true) ∙ rw head)
 
-pub returns-then-not-flags_formed : goal.returns-then-not-flags_formed
-returns-then-not-flags_formed c =
+pub returns-else-flags_formed : goal.returns-else-flags_formed
+returns-else-flags_formed c =
     let m = c.args.bytes.now in
     let head : head_sound m ≡ true = sym c.head_sound.ensures ∙ c.if-not-head_sound.false in
     let bits = c.entries_bits-bits.ensures ∙ ap entries_bits (tail-part entries_at m) in
     let bytes : Bytes m = λ i. omega (arith, c.shared_slice_known-1.given i) in
-    sym (flags-fail m bytes head (sym (c.flags_formed.ensures ∙ ap flags_formed bits) ∙ c.if-not-flags_formed.true))
+    c.if-flags_formed.false ∙ sym (flags-fail m bytes head (sym (c.flags_formed.ensures ∙ ap flags_formed bits) ∙ c.if-flags_formed.false))
 
-pub returns : goal.returns
-returns c =
+pub returns-then-flags_formed : goal.returns-then-flags_formed
+returns-then-flags_formed c =
     let m = c.args.bytes.now in
     let head : head_sound m ≡ true = sym c.head_sound.ensures ∙ c.if-not-head_sound.false in
     let bits = c.entries_bits-bits.ensures ∙ ap entries_bits (tail-part entries_at m) in
     let bytes : Bytes m = λ i. omega (arith, c.shared_slice_known-1.given i) in
-    let flags = sym (c.flags_formed.ensures ∙ ap flags_formed bits) ∙ c.if-not-flags_formed.false in
+    let flags = sym (c.flags_formed.ensures ∙ ap flags_formed bits) ∙ c.if-flags_formed.true in
     c.sound.ensures ∙ ap sound_test c.read_process.ensures ∙ sym (full-sound m bytes head flags)

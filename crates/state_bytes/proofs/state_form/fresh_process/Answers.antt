@@ -6,6 +6,6 @@ pub returns-then-there : goal.returns-then-there
 unfolding fresh_process
 returns-then-there c = rw c.if-there.true c.fresh.ensures
 
-pub returns : goal.returns
+pub returns-else-there : goal.returns-else-there
 unfolding fresh_process
-returns c = rw c.if-there.false c.cleared.ensures
+returns-else-there c = rw c.if-there.false c.cleared.ensures
