@@ -1,8 +1,5 @@
 // The written form of every message, each with what the other end reads of it. The fields that a form uses are PID 2, ARG1 258 and
 // ARG2 3, and a counted string is "abc".
-ghost use Rattle.std.specs.Prelude.{◌≤◌, length};
-ghost use Rattle.format.specs.Sizes.{header_bytes};
-
 use crate::show::End;
 use crate::{forms, show};
 use format::{Header, MESSAGE_BYTES, Outcome};
@@ -63,9 +60,7 @@ fn op<W: Write>(out: &mut W, h: Header, string: &[u8]) -> io::Result<()> {
 }
 
 // CREATE's reply has the number of the new process, and that of STATUS the number of breakpoints and the run state.
-fn write_reply(h: Header, buffer: &mut [u8]) -> Outcome
-    requires { header_bytes ≤ length buffer.old }
-{
+fn write_reply(h: Header, buffer: &mut [u8; MESSAGE_BYTES]) -> Outcome {
     match h.cmd {
         ops::EXAMINE => message::write_contents(h, buffer),
         ops::CREATE => message::write_reply(h.created(7), buffer),
