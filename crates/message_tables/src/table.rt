@@ -1,72 +1,79 @@
 // The table of op codes, as the head of the crate ops has it.
-use crate::show;
-use ops::{ArgUse, Carried, Form, Found};
-use std::io;
+use crate::forms;
+use ops::{ArgUse, Carried, Form};
 use std::io::Write;
+use std::{fmt, io};
 
+// The names of the op codes that are known, in the order of CMD.
+const NAMES: [&str; 21] = [
+    "NOP",
+    "DEBUG",
+    "END DEBUG",
+    "STOP",
+    "DEPOSIT",
+    "RESUME",
+    "EXAMINE",
+    "DEPOSIT STATE VECTOR",
+    "BREAK",
+    "UNBREAK",
+    "SINGLE STEP",
+    "PROCEED BPT",
+    "CREATE PROCESS",
+    "DESTROY PROCESS",
+    "WATCH",
+    "END WATCH",
+    "STATUS",
+    "TRAP, a notice",
+    "HALT, a notice",
+    "BPT, a notice",
+    "TTRAP, a notice",
+];
+
+// The table, between its two lines of text.
 pub(crate) fn show_table<W: Write>(out: &mut W) -> io::Result<()> {
-    show::text(out, b"CMD  request              reply\n")?;
+    writeln!(out, "CMD  request              reply")?;
     rows(out)?;
-    show::text(
+    writeln!(
         out,
-        b"CAN'T: CMD + 128, the request's fields and no string; none for NOP.\n",
+        "CAN'T: CMD + 128, the request's fields and no string; none for NOP."
     )
 }
 
-// A row for each CMD that is known. The names are in the order of CMD.
+// A row for each CMD that is known.
 fn rows<W: Write>(out: &mut W) -> io::Result<()> {
-    let names =
-        b"NOP\nDEBUG\nEND DEBUG\nSTOP\nDEPOSIT\nRESUME\nEXAMINE\nDEPOSIT STATE VECTOR\nBREAK\nUNBREAK\nSINGLE STEP\nPROCEED BPT\n\
-        CREATE PROCESS\nDESTROY PROCESS\nWATCH\nEND WATCH\nSTATUS\nTRAP, a notice\nHALT, a notice\nBPT, a notice\nTTRAP, a notice\n";
-    let mut next = 0;
-    for cmd in 0..128u8 {
-        if row(out, cmd)? {
-            next = show::line(out, names, next)?;
-        }
+    let known = (0..128u8).filter(|&cmd| forms::answer(cmd).is_some());
+    for (cmd, name) in known.zip(NAMES) {
+        writeln!(
+            out,
+            " {cmd:>2}  {}{}{name}",
+            Used(forms::request(cmd)),
+            Used(forms::answer(cmd))
+        )?;
     }
     Ok(())
 }
 
-// Prints all but the name of a CMD that is known, and returns whether it is.
-fn row<W: Write>(out: &mut W, cmd: u8) -> io::Result<bool> {
-    let Found::Known(answer) = ops::answer_form(cmd) else {
-        return Ok(false);
-    };
-    if cmd < 10 {
-        show::character(out, 32)?;
-    }
-    show::numbers(out, b" %  ", [cmd as u64, 0, 0, 0, 0, 0, 0])?;
-    if let Found::Known(request) = ops::request_form(cmd) {
-        form(out, request)?;
-    } else {
-        show::text(out, b"                     ")?;
-    }
-    form(out, answer)?;
-    Ok(true)
-}
+// The fields that a form uses and what it carries, or blanks where there is no form.
+#[derive(Clone, Copy)]
+struct Used(Option<Form>);
 
-// The used fields, and what is carried.
-fn form<W: Write>(out: &mut W, f: Form) -> io::Result<()> {
-    used(out, f.pid, b"PID ", b"--- ")?;
-    let arg1 = f.arg1;
-    match arg1 {
-        ArgUse::Unused => show::text(out, b"---- ")?,
-        ArgUse::Any => show::text(out, b"ARG1 ")?,
-        ArgUse::Size => show::text(out, b"size ")?,
-    }
-    used(out, f.arg2, b"ARG2 ", b"---- ")?;
-    let carried = f.carried;
-    match carried {
-        Carried::Nothing => show::text(out, b"none   "),
-        Carried::Counted => show::text(out, b"ARG2   "),
-        Carried::Vector => show::text(out, b"18     "),
-    }
-}
-
-fn used<W: Write>(out: &mut W, yes: bool, name: &[u8], dashes: &[u8]) -> io::Result<()> {
-    if yes {
-        show::text(out, name)
-    } else {
-        show::text(out, dashes)
+impl fmt::Display for Used {
+    fn fmt<W: fmt::Write>(&self, f: &mut fmt::Formatter<W>) -> fmt::Result {
+        let Some(form) = self.0 else {
+            return write!(f, "{:21}", "");
+        };
+        let pid = if form.pid { "PID" } else { "---" };
+        let arg1 = match form.arg1 {
+            ArgUse::Unused => "----",
+            ArgUse::Any => "ARG1",
+            ArgUse::Size => "size",
+        };
+        let arg2 = if form.arg2 { "ARG2" } else { "----" };
+        let carried = match form.carried {
+            Carried::Nothing => "none",
+            Carried::Counted => "ARG2",
+            Carried::Vector => "18",
+        };
+        write!(f, "{pid} {arg1} {arg2} {carried:7}")
     }
 }

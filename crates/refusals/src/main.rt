@@ -10,10 +10,7 @@ use std::io::{BufWriter, Write};
 
 fn main(rt: HostRuntime) -> io::Result<()> {
     let mut out = BufWriter::new(rt.alloc(), io::writer(&rt))?;
-    show::text(
-        &mut out,
-        b"HOST CMD PID ARG1 ARG2, reason, fact: sentence\n",
-    )?;
+    writeln!(out, "HOST CMD PID ARG1 ARG2, reason, fact: sentence")?;
     cases::show_form(&mut out)?;
     cases::show_hosts(&mut out)?;
     cases::show_run_states(&mut out)?;
