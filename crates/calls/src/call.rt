@@ -13,6 +13,7 @@ use crate::text::{Shown, put_beside, zero_line};
 use crate::{KEPT, MEMORY, MESSAGE, STATE};
 use decimal::{Number, put_number};
 use display::put_answer;
+use format::number_of;
 use gateway::{fresh_start, notice_length, reply_length, report, request};
 use lines::{Phase, Scan, at_most, put};
 use state_bytes::read_extent_at;
@@ -38,7 +39,7 @@ fn make_request(
     let mut reply = zero_buffer();
     let outcome = request(state, memory, message, &mut reply);
     let n = at_most(reply_length(outcome), &reply);
-    put_answer(outcome.number(), &reply[..n], out)
+    put_answer(number_of(outcome), &reply[..n], out)
 }
 
 // request HEX HEX ..: all of its pairs led to this phase, and these are its first ones, more than the longest message has or all.
@@ -86,7 +87,7 @@ fn make_report(
     );
     let outcome = told.outcome;
     let n = at_most(notice_length(outcome), &notice);
-    let end = put_answer(outcome.number(), &notice[..n], out);
+    let end = put_answer(number_of(outcome), &notice[..n], out);
     let k = at_most(told.line, &line);
     put_beside(shown, &line[..k], end - 1, out)
 }
@@ -127,7 +128,12 @@ fn make_start(
     requires { longest_text ≤ length out.old }
     ensures { Does (start_made listing.there listing.sizes listing.door state.old memory.old) result state.new memory.new out.old out.new }
 {
-    let number = fresh_start(listing.there, listing.sizes, listing.door, state).number();
+    let number = number_of(fresh_start(
+        listing.there,
+        listing.sizes,
+        listing.door,
+        state,
+    ));
     if number != 0 {
         return put_numbered(number, b"\n", out);
     }

@@ -11,7 +11,7 @@ use crate::call::put_numbered;
 use crate::show::answer_unknown;
 use crate::{MEMORY, STATE};
 use decimal::{Number, put_field, put_long, put_number};
-use format::Outcome;
+use format::{Refusal, number_of};
 use gateway::packet;
 use lines::{put, put_mark};
 use packets::{ACK, ACK_WORDS, FETCH, GO, STORE};
@@ -132,13 +132,10 @@ fn zero_ack() -> [u16; ACK_WORDS]
 }
 
 // How many words of its buffer a packet wrote.
-fn ack_length(outcome: Outcome) -> usize
+fn ack_length(outcome: Result<usize, Refusal>) -> usize
     ensures { result ≡ length_of outcome }
 {
-    match outcome {
-        Outcome::Granted(n) => n,
-        Outcome::Refused(_) => 0,
-    }
+    outcome.unwrap_or(0)
 }
 
 // Hands over a packet, and puts its answer as a line.
@@ -156,7 +153,7 @@ fn make_packet(
     let mut ack = zero_ack();
     let outcome = packet(state, memory, kind, id, words, &mut ack);
     let n = ack_length(outcome).min(ACK_WORDS);
-    let number = outcome.number();
+    let number = number_of(outcome);
     put_packet(is_acknowledged(kind, number), number, id, &ack[..n], out)
 }
 

@@ -9,6 +9,7 @@ ghost use Rattle.calls.specs.Meaning.{zero_line, text_made, text_effect, raw_eff
 use crate::show::answer_unknown;
 use crate::{LINE, LINE_KEPT, MEMORY, STATE};
 use decimal::put_number;
+use format::number_of;
 use gateway::{line_length, text_line};
 use lines::{Phase, Scan, at_most, put};
 
@@ -93,7 +94,7 @@ fn make_text(
     let mut line = zero_line();
     let outcome = text_line(state, memory, text, &mut line);
     let n = at_most(line_length(outcome, &line), &line);
-    put_text(shown, outcome.number(), &line[..n], out)
+    put_text(shown, number_of(outcome), &line[..n], out)
 }
 
 // The first bytes of a text, as many as the longest line has, and a newline; how many bytes that is.

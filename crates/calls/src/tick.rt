@@ -6,6 +6,7 @@ ghost use Rattle.calls.specs.Meaning.{tick_made, tick_effect};
 use crate::STATE;
 use crate::call::put_numbered;
 use crate::show::answer_unknown;
+use format::number_of;
 use gateway::tick;
 
 // Makes a tick, and puts its number as a line.
@@ -13,7 +14,7 @@ fn make_tick(state: &mut [u8; STATE], memory: &[u8], out: &mut [u8]) -> usize
     requires { longest_text ≤ length out.old }
     ensures { Does (tick_made state.old memory.now) result state.new memory.now out.old out.new }
 {
-    let number = tick(state).number();
+    let number = number_of(tick(state));
     put_numbered(number, b" -\n", out)
 }
 

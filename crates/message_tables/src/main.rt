@@ -2,7 +2,6 @@
 // refused with their numbers. The gate compares all of it with the stored output.
 #![tactic(auto)]
 
-mod forms;
 mod refused;
 mod show;
 mod table;

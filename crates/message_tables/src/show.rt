@@ -1,6 +1,5 @@
 // Printing of fields, bytes, outcomes and readings.
-use format::{Header, Outcome, Reading};
-use message::Incoming;
+use format::{Header, Refusal};
 use std::io::Write;
 use std::{fmt, io};
 
@@ -41,17 +40,11 @@ impl fmt::Display for Hex<'_> {
     }
 }
 
-// What an end finds in a message: its fields, or the number of the first test that failed.
-fn found(message: &[u8], end: End) -> Result<Header, u8> {
+// What an end finds in a message: its fields, or the refusal.
+fn found(message: &[u8], end: End) -> Result<Header, Refusal> {
     match end {
-        End::Desk => match message::read_answer(message) {
-            Reading::Message(h) => Ok(h),
-            Reading::Refused(n) => Err(n),
-        },
-        End::Gateway => match message::read_request(message) {
-            Incoming::Request(h, _) => Ok(h),
-            Incoming::Refused(n) => Err(n),
-        },
+        End::Desk => message::read_answer(message),
+        End::Gateway => message::read_request(message).map(|(h, _)| h),
     }
 }
 
@@ -64,7 +57,7 @@ pub(crate) fn read<W: Write>(out: &mut W, message: &[u8], end: End) -> io::Resul
             Fields(h),
             Hex(format::string(message))
         ),
-        Err(number) => writeln!(out, "  refused {number}"),
+        Err(Refusal(number)) => writeln!(out, "  refused {number}"),
     }
 }
 
@@ -77,13 +70,13 @@ pub(crate) fn message<W: Write>(out: &mut W, message: &[u8], end: End) -> io::Re
 // A message that was written into a buffer, or the number of its refusal.
 pub(crate) fn written<W: Write>(
     out: &mut W,
-    outcome: Outcome,
+    outcome: Result<usize, Refusal>,
     buffer: &[u8],
     end: End,
 ) -> io::Result<()> {
     match outcome {
-        Outcome::Granted(n) => message(out, front(buffer, n), end),
-        Outcome::Refused(number) => writeln!(out, " refused {number}"),
+        Ok(n) => message(out, front(buffer, n), end),
+        Err(Refusal(number)) => writeln!(out, " refused {number}"),
     }
 }
 

@@ -1,5 +1,4 @@
 // The table of op codes, as the head of the crate ops has it.
-use crate::forms;
 use ops::{ArgUse, Carried, Form};
 use std::io::Write;
 use std::{fmt, io};
@@ -41,13 +40,13 @@ pub(crate) fn show_table<W: Write>(out: &mut W) -> io::Result<()> {
 
 // A row for each CMD that is known.
 fn rows<W: Write>(out: &mut W) -> io::Result<()> {
-    let known = (0..128u8).filter(|&cmd| forms::answer(cmd).is_some());
+    let known = (0..128u8).filter(|&cmd| ops::answer_form(cmd).is_some());
     for (cmd, name) in known.zip(NAMES) {
         writeln!(
             out,
             " {cmd:>2}  {}{}{name}",
-            Used(forms::request(cmd)),
-            Used(forms::answer(cmd))
+            Used(ops::request_form(cmd)),
+            Used(ops::answer_form(cmd))
         )?;
     }
     Ok(())

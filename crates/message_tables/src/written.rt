@@ -1,8 +1,8 @@
 // The written form of every message, each with what the other end reads of it. The fields that a form uses are PID 2, ARG1 258 and
 // ARG2 3, and a counted string is "abc".
 use crate::show::End;
-use crate::{forms, show};
-use format::{Header, MESSAGE_BYTES, Outcome};
+use crate::show;
+use format::{Header, MESSAGE_BYTES};
 use ops::{ArgUse, Carried, Form};
 use std::io;
 use std::io::Write;
@@ -14,7 +14,7 @@ pub(crate) fn show_ops<W: Write>(out: &mut W) -> io::Result<()> {
         "\nOf each op code the request, the reply and the CAN'T, each with what the other end reads of it:"
     )?;
     for cmd in 0..128u8 {
-        if let Some(form) = forms::request(cmd) {
+        if let Some(form) = ops::request_form(cmd) {
             op(out, sample(form, cmd), string(form))?;
         }
     }
@@ -51,16 +51,16 @@ fn op<W: Write>(out: &mut W, h: Header, string: &[u8]) -> io::Result<()> {
     let request = message::write_request(h, string, &mut buffer);
     show::written(out, request, &buffer, End::Gateway)?;
     let reply = write_reply(h, &mut buffer);
-    show::written(out, reply, &buffer, End::Desk)?;
+    show::message(out, show::front(&buffer, reply), End::Desk)?;
     if h.cmd == ops::NOP {
         return Ok(());
     }
     let cant = message::write_reply(h.cant(), &mut buffer);
-    show::written(out, cant, &buffer, End::Desk)
+    show::message(out, show::front(&buffer, cant), End::Desk)
 }
 
 // CREATE's reply has the number of the new process, and that of STATUS the number of breakpoints and the run state.
-fn write_reply(h: Header, buffer: &mut [u8; MESSAGE_BYTES]) -> Outcome {
+fn write_reply(h: Header, buffer: &mut [u8; MESSAGE_BYTES]) -> usize {
     match h.cmd {
         ops::EXAMINE => message::write_contents(h, buffer),
         ops::CREATE => message::write_reply(h.created(7), buffer),
@@ -83,5 +83,5 @@ fn notice<W: Write>(out: &mut W, kind: u8, reason: u16) -> io::Result<()> {
     let mut buffer = [0u8; MESSAGE_BYTES];
     let vector = [1, 2, 3, 4, 5, 6, 4094, 256, 61440];
     let written = message::write_notice(5, kind, 2, reason, vector, &mut buffer);
-    show::written(out, written, &buffer, End::Desk)
+    show::message(out, show::front(&buffer, written), End::Desk)
 }

@@ -10,4 +10,4 @@ use Rattle.calls.proofs.tick.make_tick.Goals as goal
 pub returns : goal.returns
 unfolding tick_made silent_line Did
 returns c =
-    does-tick c.tick.result c.tick.new.state c.args.memory.now (call_on c.args.state.now c.args.memory.now (tick (door_of c.args.state.now))) (c.tick.ensures c.args.memory.now).1 c.number-number.result _ _ _ c.number-number.ensures c.put_numbered.ensures
+    does-tick c.tick.result c.tick.new.state c.args.memory.now (call_on c.args.state.now c.args.memory.now (tick (door_of c.args.state.now))) (c.tick.ensures c.args.memory.now).1 c.number_of-number.result _ _ _ c.number_of-number.ensures c.put_numbered.ensures
