@@ -128,12 +128,8 @@ fn make_start(
     requires { longest_text ≤ length out.old }
     ensures { Does (start_made listing.there listing.sizes listing.door state.old memory.old) result state.new memory.new out.old out.new }
 {
-    let number = number_of(fresh_start(
-        listing.there,
-        listing.sizes,
-        listing.door,
-        state,
-    ));
+    let started = fresh_start(listing.there, listing.sizes, listing.door, state);
+    let number = number_of(started);
     if number != 0 {
         return put_numbered(number, b"\n", out);
     }
