@@ -1,4 +1,5 @@
 -- Laws of the words of an acknowledgement as they are written. Assumes nothing.
+use Rattle.std.proofs.Common.{Option, Some, None}
 use mathlib.Core.Path.{◌≡◌, refl, sym, ap, ap₂, ◌∙◌}
 use mathlib.Core.List.{List, ◌++◌}
 use Prim.Native.Nat.{ℕ, ◌+◌, ◌-◌, ◌*◌, ◌≤◌}
@@ -10,11 +11,9 @@ use Rattle.lists.proofs.Elements.{length-elements, elements-alike}
 use Rattle.lists.proofs.Buffer.{laid-part}
 use Rattle.packets.specs.declared.units.WordAddress.{WordAddress}
 use Rattle.packets.specs.declared.units.WordCount.{WordCount}
-use Rattle.packets.specs.declared.block.Block.{Block}
-use Rattle.packets.specs.declared.block.Block.TheVariants.{Nothing, Words}
 use Rattle.packets.specs.Units.{byte_count, first_byte, in_bytes}
 use Rattle.packets.specs.Data.{address_of}
-use Rattle.packets.specs.Block.{block_for}
+use Rattle.packets.specs.Block.{Block, block_for}
 use Rattle.packets.specs.Ack.{second_word, block_words, ack_start, ack_of, ack_length}
 use Rattle.packets.proofs.AckLaws.{length-ack}
 use Rattle.process.specs.Local.{Local}
@@ -60,23 +59,23 @@ started kind words l block n whole buffer at second contents a c s b e w = recor
 
 module _ (kind : ℕ) (words : List ℕ) (l : Local) (block : Block) (n : ℕ) (whole buffer : List ℕ) (s : Started kind words l block n whole buffer) where
   -- without a block that is all
-  pub ack-alone : block ≡ Nothing → (n ≡ length (ack_for kind words l)) × (whole ≡ overlay (ack_for kind words l) buffer)
+  pub ack-alone : block ≡ None → (n ≡ length (ack_for kind words l)) × (whole ≡ overlay (ack_for kind words l) buffer)
   unfolding ack_for block_seen ack_of ack_start ack_length
   ack-alone e =
-      let none : block_of words l ≡ Nothing = sym s.sent ∙ e in
+      let none : block_of words l ≡ None = sym s.sent ∙ e in
       rw none (rw e at s.counted, rw e at s.begun)
 
   -- with one, its words are laid over the part behind
-  pub ack-with : (base : WordAddress) (count : WordCount) (last : List ℕ) → block ≡ Words base count
+  pub ack-with : (base : WordAddress) (count : WordCount) (last : List ℕ) → block ≡ Some (base, count)
       → last ≡ overlay (words_seen base count l) (take (length whole - 3) (drop 3 whole))
       → (n ≡ length (ack_for kind words l)) × (take 3 whole ++ (last ++ drop (length whole - 3) (drop 3 whole)) ≡ overlay (ack_for kind words l) buffer)
   unfolding ack_for block_seen ack_of ack_start ack_length block_words words_seen
   ack-with base count last e laid =
       let at = address_of words in
       let second = second_word kind (word_seen at l) in
-      let some : block_of words l ≡ Words base count = sym s.sent ∙ e in
+      let some : block_of words l ≡ Some (base, count) = sym s.sent ∙ e in
       let long : length (words_seen base count l) ≡ count.0 = length-elements _ count.0 in
       rw some (
-        (rw e at s.counted) ∙ sym (length-ack at second (Words base count) (words_seen base count l) long),
-        laid-part (ack_start at second (Words base count)) (words_seen base count l) buffer whole last 3 refl (rw e at s.begun) laid,
+        (rw e at s.counted) ∙ sym (length-ack at second (Some (base, count)) (words_seen base count l) long),
+        laid-part (ack_start at second (Some (base, count))) (words_seen base count l) buffer whole last 3 refl (rw e at s.begun) laid,
       )

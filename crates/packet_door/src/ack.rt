@@ -7,7 +7,7 @@ ghost use Rattle.process.specs.Local.{local};
 ghost use Rattle.rules.specs.PacketRule.{words_seen, word_seen, word_inside, ack_for};
 
 use packets::{
-    Block, ByteCount, WordAddress, WordCount, address_of, block_to_send, second_word, start_ack,
+    ByteCount, WordAddress, WordCount, address_of, block_to_send, second_word, start_ack,
 };
 use process::Process;
 use words::word_of;
@@ -68,8 +68,8 @@ pub(crate) fn write_ack(
     let second = second_word(kind, word_at(at, process, bytes));
     let count = start_ack(at, second, block, out);
     match block {
-        Block::Nothing => count.0 as usize,
-        Block::Words(base, length) => {
+        None => count.0 as usize,
+        Some((base, length)) => {
             write_seen(base, length, process, bytes, &mut out[3..]);
             count.0 as usize
         }

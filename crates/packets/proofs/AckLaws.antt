@@ -1,4 +1,5 @@
 -- Laws of the words of an acknowledgement. Assumes nothing.
+use Rattle.std.proofs.Common.{Some, None}
 use mathlib.Core.Path.{◌≡◌, refl}
 use mathlib.Core.List.{List, [], ◌∷◌}
 use Prim.Native.Nat.{ℕ, ◌+◌, ◌≤◌}
@@ -8,9 +9,7 @@ use Rattle.lists.specs.Buffer.{overlay}
 use Rattle.packets.specs.declared.units.WordAddress.{WordAddress}
 use Rattle.packets.specs.declared.units.WordCount.{WordCount}
 use Rattle.packets.specs.declared.units.ByteCount.{ByteCount}
-use Rattle.packets.specs.declared.block.Block.{Block}
-use Rattle.packets.specs.declared.block.Block.TheVariants.{Nothing, Words}
-use Rattle.packets.specs.Block.{block_for}
+use Rattle.packets.specs.Block.{Block, block_for}
 use Rattle.packets.specs.Ack.{ack_of, ack_start, ack_words, ack_length, block_words}
 use Rattle.packets.specs.Theorems.{AcksFit}
 use Rattle.packets.proofs.BlockLaws.{sent-for}
@@ -19,11 +18,11 @@ use Rattle.packets.proofs.BlockLaws.{sent-for}
 pub length-ack : (at : WordAddress) (second : ℕ) (block : Block) (contents : List ℕ) → length contents ≡ block_words block
     → length (ack_of at second block contents) ≡ ack_length block
 unfolding ack_of ack_start ack_length block_words
-length-ack at second Nothing contents e = omega arith
-length-ack at second (Words base count) contents e = omega arith
+length-ack at second None contents e = omega arith
+length-ack at second (Some block) contents e = omega arith
 
 -- with a block, it has three words more than the block
-pub length-with : {block : Block} {base : WordAddress} {count : WordCount} → block ≡ Words base count → ack_length block ≡ 3 + count.0
+pub length-with : {block : Block} {base : WordAddress} {count : WordCount} → block ≡ Some (base, count) → ack_length block ≡ 3 + count.0
 unfolding ack_length
 length-with e = rw e
 
@@ -33,8 +32,8 @@ unfolding ack_length
 short-ack size at words = go (block_for size at words) refl
   where
     go : (block : Block) → block_for size at words ≡ block → ack_length block ≤ ack_words
-    go Nothing e = omega arith
-    go (Words base count) e = omega (arith, (sent-for size at words base count e).not-over-32)
+    go None e = omega arith
+    go (Some block) e = omega (arith, (sent-for size at words block.0 block.1 e).not-over-32)
 
 pub acks-fit : AcksFit
 acks-fit = record { short-ack = short-ack; whole-ack = length-ack }
@@ -42,7 +41,7 @@ acks-fit = record { short-ack = short-ack; whole-ack = length-ack }
 -- ---- writing
 
 -- the words before a block's, by the block
-pub start-with : {block : Block} {base : WordAddress} {count : WordCount} (at : WordAddress) (second : ℕ) → block ≡ Words base count
+pub start-with : {block : Block} {base : WordAddress} {count : WordCount} (at : WordAddress) (second : ℕ) → block ≡ Some (base, count)
     → ack_start at second block ≡ at.0 ∷ second ∷ count.0 ∷ []
 unfolding ack_start
 start-with at second e = rw e

@@ -1,4 +1,6 @@
 -- Laws of the block that is sent. Assumes nothing.
+use Rattle.std.proofs.Common.{Some, None}
+use Rattle.std.proofs.lemmas.Option.{some_pair_parts}
 use mathlib.Core.Path.{◌≡◌, refl, ap, ◌∙◌}
 use mathlib.Core.Bool.{Bool, true, false, cond}
 use mathlib.Core.List.{List}
@@ -11,7 +13,6 @@ use lib.Dec.{eqb}
 use Rattle.packets.specs.declared.units.WordAddress.{WordAddress}
 use Rattle.packets.specs.declared.units.WordCount.{WordCount}
 use Rattle.packets.specs.declared.units.ByteCount.{ByteCount}
-use Rattle.packets.specs.declared.block.Block.TheVariants.{Nothing, Words}
 use Rattle.packets.specs.Units.{word_count, holds}
 use Rattle.packets.specs.Data.{asked}
 use Rattle.packets.specs.Block.{may_ask, sendable, none_or_sendable, length_to_send, base_of, half, halved_to_fit, block_for}
@@ -23,13 +24,13 @@ use Rattle.packets.proofs.LengthLaws.{sendable-some, sendable-power, powers, onl
 
 module _ (size : ByteCount) (at : WordAddress) (n : WordCount) where
   -- of no words there is no block
-  pub halved_none : (k : ℕ) → n.0 ≡ 0 → halved_to_fit k size at n ≡ Nothing
+  pub halved_none : (k : ℕ) → n.0 ≡ 0 → halved_to_fit k size at n ≡ None
   unfolding halved_to_fit
   halved_none zero e = refl
   halved_none (suc k) e = rw (eq-eqb n.0 0 e)
 
   -- a length that fits is sent
-  pub halved-fits : (k : ℕ) → 0 < n.0 → n.0 < 2 ^ k → holds size (base_of at n) n ≡ true → halved_to_fit k size at n ≡ Words (base_of at n) n
+  pub halved-fits : (k : ℕ) → 0 < n.0 → n.0 < 2 ^ k → holds size (base_of at n) n ≡ true → halved_to_fit k size at n ≡ Some (base_of at n, n)
   unfolding halved_to_fit
   halved-fits zero h l e = absurd (omega arith)
   halved-fits (suc k) h l e = rw (ne_eqb n.0 0 (λ z. omega arith), e)
@@ -65,18 +66,19 @@ halved-further size at n base count e out h =
         inr (rw whole out)
 
 pub halved-sent : (k : ℕ) (size : ByteCount) (at : WordAddress) (n : WordCount) (base : WordAddress) (count : WordCount) → none_or_sendable n.0 ≡ true
-    → halved_to_fit k size at n ≡ Words base count → Halved size at n base count
+    → halved_to_fit k size at n ≡ Some (base, count) → Halved size at n base count
 unfolding halved_to_fit
 halved-sent zero size at n base count e q = let z : ◌≡◌ {A = ℕ} 0 1 = cc in absurd (omega arith)
 halved-sent (suc k) size at n base count e q = go (eqb n.0 0) (holds size (base_of at n) n) refl refl q (λ length w. halved-sent k size at (half n) base count (half-sendable n.0 length) w)
   where
     go : (s t : Bool) → eqb n.0 0 ≡ s → holds size (base_of at n) n ≡ t
-        → cond s Nothing (cond t (Words (base_of at n) n) (halved_to_fit k size at (half n))) ≡ Words base count
-        → (sendable n.0 ≡ true → halved_to_fit k size at (half n) ≡ Words base count → Halved size at (half n) base count) → Halved size at n base count
+        → cond s None (cond t (Some (base_of at n, n)) (halved_to_fit k size at (half n))) ≡ Some (base, count)
+        → (sendable n.0 ≡ true → halved_to_fit k size at (half n) ≡ Some (base, count) → Halved size at (half n) base count) → Halved size at n base count
     go true t f g w rest = let z : ◌≡◌ {A = ℕ} 0 1 = cc in absurd (omega arith)
     go false true f g w rest =
-        let same_base : base_of at n ≡ base = cc in
-        let same_count : n ≡ count = cc in
+        let both = some_pair_parts (base_of at n) base n count w in
+        let same_base : base_of at n ≡ base = both.0 in
+        let same_count : n ≡ count = both.1 in
         let length : sendable n.0 ≡ true = some-sendable n.0 e (omega (arith, eqb-false n.0 0 f)) in
         rw (← same_base, ← same_count) (record { power = length; own-base = refl; held = g; not-over = omega arith; tried = inl refl })
     go false false f g w rest =
@@ -104,7 +106,7 @@ half-left size at n e one out = let h : n.0 / 2 ≡ 0 → ⊥ = alone in omega a
         omega arith
 
 pub halved-some : (k : ℕ) (size : ByteCount) (at : WordAddress) (n : WordCount) → n.0 < 2 ^ k → sendable n.0 ≡ true → holds size at (word_count 1) ≡ true
-    → (base : WordAddress) × (count : WordCount) × (halved_to_fit k size at n ≡ Words base count)
+    → (base : WordAddress) × (count : WordCount) × (halved_to_fit k size at n ≡ Some (base, count))
 unfolding halved_to_fit
 halved-some zero size at n l e one = absurd (omega (arith, sendable-some n.0 e))
 halved-some (suc k) size at n l e one =
@@ -112,8 +114,8 @@ halved-some (suc k) size at n l e one =
     (λ out. halved-some k size at (half n) (omega arith) (some-sendable (n.0 / 2) (half-sendable n.0 e) (half-left size at n e one out)) one)
   where
     go : (t : Bool) → holds size (base_of at n) n ≡ t
-        → (holds size (base_of at n) n ≡ false → (base : WordAddress) × (count : WordCount) × (halved_to_fit k size at (half n) ≡ Words base count))
-        → (base : WordAddress) × (count : WordCount) × (halved_to_fit (suc k) size at n ≡ Words base count)
+        → (holds size (base_of at n) n ≡ false → (base : WordAddress) × (count : WordCount) × (halved_to_fit k size at (half n) ≡ Some (base, count)))
+        → (base : WordAddress) × (count : WordCount) × (halved_to_fit (suc k) size at n ≡ Some (base, count))
     go true f rest = (base_of at n, n, halved-fits size at n (suc k) (sendable-some n.0 e) l f)
     go false f rest =
         let r = rest f in
@@ -122,7 +124,7 @@ halved-some (suc k) size at n l e one =
 -- ---- the block for a packet
 
 pub sent-for : (size : ByteCount) (at : WordAddress) (words : List ℕ) (base : WordAddress) (count : WordCount)
-    → block_for size at words ≡ Words base count → SentFor size at words base count
+    → block_for size at words ≡ Some (base, count) → SentFor size at words base count
 unfolding block_for base_of
 sent-for size at words base count e = record {
   from-base = rw own (base-before at.0 count.0);
@@ -152,17 +154,17 @@ sent-for size at words base count e = record {
     go (inl q) few less = absurd (to-send-longest n (omega (arith, q, sendable-some count.0 h.power)) (omega arith) (omega arith))
 
 pub some_block : (size : ByteCount) (at : WordAddress) (words : List ℕ) → may_ask (asked words).0 ≡ true → holds size at (word_count 1) ≡ true
-    → (base : WordAddress) × (count : WordCount) × (block_for size at words ≡ Words base count)
+    → (base : WordAddress) × (count : WordCount) × (block_for size at words ≡ Some (base, count))
 unfolding block_for
 some_block size at words e one =
     let length = to-send-sendable (asked words) e in
     halved-some 6 size at (length_to_send (asked words)) (omega (arith, sendable-most (length_to_send (asked words)).0 length)) length one
 
-pub no_block : (size : ByteCount) (at : WordAddress) (words : List ℕ) → may_ask (asked words).0 ≡ false → block_for size at words ≡ Nothing
+pub no_block : (size : ByteCount) (at : WordAddress) (words : List ℕ) → may_ask (asked words).0 ≡ false → block_for size at words ≡ None
 unfolding block_for
 no_block size at words e = halved_none size at (length_to_send (asked words)) 6 (to-send-none (asked words) e)
 
-pub two-words : (size : ByteCount) (at : WordAddress) (words : List ℕ) → length words ≤ 2 → block_for size at words ≡ Nothing
+pub two-words : (size : ByteCount) (at : WordAddress) (words : List ℕ) → length words ≤ 2 → block_for size at words ≡ None
 unfolding may_ask sendable
 two-words size at words h = no_block size at words (rw (get_or-eq_default words 0 h))
 

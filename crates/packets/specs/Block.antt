@@ -1,10 +1,8 @@
 -- The block of words that an acknowledgement carries.
-use Rattle.std.specs.Prelude.{Bool, cond, ◌||◌, List, ℕ, zero, suc, ◌-◌, ◌/◌, ◌%◌, eqb, leb}
+use Rattle.std.specs.Prelude.{Option, Some, None, Bool, cond, ◌||◌, List, ℕ, zero, suc, ◌-◌, ◌/◌, ◌%◌, eqb, leb}
 use Rattle.packets.specs.declared.units.WordAddress.{WordAddress}
 use Rattle.packets.specs.declared.units.WordCount.{WordCount}
 use Rattle.packets.specs.declared.units.ByteCount.{ByteCount}
-use Rattle.packets.specs.declared.block.Block.{Block}
-use Rattle.packets.specs.declared.block.Block.TheVariants.{Nothing, Words}
 use Rattle.packets.specs.Units.{word_address, word_count, holds}
 use Rattle.packets.specs.Data.{asked}
 
@@ -32,12 +30,16 @@ base_of at n = word_address (at.0 - at.0 % n.0)
 abbrev pub half : WordCount → WordCount
 half n = word_count (n.0 / 2)
 
+-- what an acknowledgement carries after its first two words: so many words from an address on, or none
+abbrev pub Block : Type 0
+Block = Option (WordAddress × WordCount)
+
 -- 'a block reaching past the size is halved until it fits', among so many lengths at most; each has its own base
 unfoldable pub halved_to_fit : ℕ → ByteCount → WordAddress → WordCount → Block
-halved_to_fit zero size at n = Nothing
+halved_to_fit zero size at n = None
 halved_to_fit (suc k) size at n =
-    cond (eqb n.0 0) Nothing
-    (cond (holds size (base_of at n) n) (Words (base_of at n) n) (halved_to_fit k size at (half n)))
+    cond (eqb n.0 0) None
+    (cond (holds size (base_of at n) n) (Some (base_of at n, n)) (halved_to_fit k size at (half n)))
 
 -- the block that is sent for a packet with these data words about a word of a process of this size; there are six lengths up to 32
 unfoldable pub block_for : ByteCount → WordAddress → List ℕ → Block

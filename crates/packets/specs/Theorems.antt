@@ -1,13 +1,11 @@
 -- The statements that the contracts of theorems.rt carry.
-use Rattle.std.specs.Prelude.{◌≡◌, true, false, List, ℕ, ◌+◌, ◌*◌, ◌%◌, ◌^◌, ◌≤◌, ◌<◌, length}
+use Rattle.std.specs.Prelude.{Some, None, ◌≡◌, true, false, List, ℕ, ◌+◌, ◌*◌, ◌%◌, ◌^◌, ◌≤◌, ◌<◌, length}
 use Rattle.packets.specs.declared.units.WordAddress.{WordAddress}
 use Rattle.packets.specs.declared.units.WordCount.{WordCount}
 use Rattle.packets.specs.declared.units.ByteCount.{ByteCount}
-use Rattle.packets.specs.declared.block.Block.{Block}
-use Rattle.packets.specs.declared.block.Block.TheVariants.{Nothing, Words}
 use Rattle.packets.specs.Units.{word_count, first_byte, second_byte, holds}
 use Rattle.packets.specs.Data.{asked}
-use Rattle.packets.specs.Block.{may_ask, sendable, base_of, block_for}
+use Rattle.packets.specs.Block.{Block, may_ask, sendable, base_of, block_for}
 use Rattle.packets.specs.Ack.{ack_of, ack_words, ack_length, block_words}
 use Rattle.packets.specs.Id.{next_id}
 
@@ -47,14 +45,14 @@ pub record BlocksFit : Type 0 where
   pub powers : (k : ℕ) → k ≤ 8 → may_ask (2 ^ k) ≡ true
   pub only-powers : (n : ℕ) → may_ask n ≡ true → (k : ℕ) × (k ≤ 8) × (n ≡ 2 ^ k)
   pub sent : (size : ByteCount) (at : WordAddress) (words : List ℕ) (base : WordAddress) (count : WordCount)
-      → block_for size at words ≡ Words base count → SentFor size at words base count
+      → block_for size at words ≡ Some (base, count) → SentFor size at words base count
   -- where a block may be asked and the word itself fits, there is one: a block of one word fits
   pub some_block : (size : ByteCount) (at : WordAddress) (words : List ℕ) → may_ask (asked words).0 ≡ true → holds size at (word_count 1) ≡ true
-      → (base : WordAddress) × (count : WordCount) × (block_for size at words ≡ Words base count)
+      → (base : WordAddress) × (count : WordCount) × (block_for size at words ≡ Some (base, count))
   -- there is none where none may be asked
-  pub no_block : (size : ByteCount) (at : WordAddress) (words : List ℕ) → may_ask (asked words).0 ≡ false → block_for size at words ≡ Nothing
+  pub no_block : (size : ByteCount) (at : WordAddress) (words : List ℕ) → may_ask (asked words).0 ≡ false → block_for size at words ≡ None
   -- nor where the packet has no third word
-  pub two-words : (size : ByteCount) (at : WordAddress) (words : List ℕ) → length words ≤ 2 → block_for size at words ≡ Nothing
+  pub two-words : (size : ByteCount) (at : WordAddress) (words : List ℕ) → length words ≤ 2 → block_for size at words ≡ None
 
 -- acknowledgements
 pub record AcksFit : Type 0 where

@@ -3,7 +3,6 @@ ghost use Rattle.std.specs.Prelude.{◌≡◌, ◌≤◌, length};
 ghost use Rattle.lists.specs.Buffer.{overlay};
 ghost use Rattle.packets.specs.Ack.{second_word, ack_start, ack_length, ack_words};
 
-use crate::block::Block;
 use crate::types::FETCH;
 use crate::units::{WordAddress, WordCount};
 
@@ -18,7 +17,12 @@ pub fn second_word(kind: u8, contents: u16) -> u16
 }
 
 // Writes the words of an acknowledgement that stand before those of its block; how many words it has with them.
-pub fn start_ack(at: WordAddress, second: u16, block: Block, out: &mut [u16]) -> WordCount
+pub fn start_ack(
+    at: WordAddress,
+    second: u16,
+    block: Option<(WordAddress, WordCount)>,
+    out: &mut [u16],
+) -> WordCount
     requires block_bound { ack_length block ≤ ack_words }
     requires ack_words_in_bounds { ack_words ≤ length out.old }
     ensures result_value { result.0 ≡ ack_length block }
@@ -27,8 +31,8 @@ pub fn start_ack(at: WordAddress, second: u16, block: Block, out: &mut [u16]) ->
     out[0] = at.0;
     out[1] = second;
     match block {
-        Block::Nothing => WordCount(2),
-        Block::Words(_, count) => {
+        None => WordCount(2),
+        Some((_, count)) => {
             out[2] = count.0;
             WordCount(3 + count.0)
         }

@@ -5,16 +5,6 @@ ghost use Rattle.packets.specs.Block.{may_ask, sendable, none_or_sendable, lengt
 use crate::data::asked;
 use crate::units::{ByteCount, WordAddress, WordCount};
 
-// What an acknowledgement carries after its first two words.
-// An enum of its own, and no Option: theorems of specs/ and contracts of other crates name its variants.
-#[derive(Clone, Copy)]
-pub enum Block {
-    // No block.
-    Nothing,
-    // So many words from this address on.
-    Words(WordAddress, WordCount),
-}
-
 // Whether a block of so many words may be asked for.
 fn may_ask(n: u16) -> bool
     ensures { result ≡ may_ask n }
@@ -64,8 +54,12 @@ fn half(count: WordCount) -> WordCount
     WordCount(count.0 / 2)
 }
 
-// The block of this length, or half of it, and so on, that a process of this size holds.
-fn halve_to_fit(size: ByteCount, at: WordAddress, longest: WordCount) -> Block
+// The block of this length, or half of it, and so on, that a process of this size holds: where it begins, and how long it is; or none.
+fn halve_to_fit(
+    size: ByteCount,
+    at: WordAddress,
+    longest: WordCount,
+) -> Option<(WordAddress, WordCount)>
     requires { none_or_sendable longest.0 ≡ true }
     ensures { result ≡ halved_to_fit 6 size at longest }
 {
@@ -73,15 +67,19 @@ fn halve_to_fit(size: ByteCount, at: WordAddress, longest: WordCount) -> Block
     while 0 < count.0 {
         let base = base_of(at, count);
         if size.holds(base, count) {
-            return Block::Words(base, count);
+            return Some((base, count));
         }
         count = half(count);
     }
-    Block::Nothing
+    None
 }
 
 // The block to send for a packet with these data words about a word of a process of this size.
-pub fn block_to_send(size: ByteCount, at: WordAddress, words: &[u16]) -> Block
+pub fn block_to_send(
+    size: ByteCount,
+    at: WordAddress,
+    words: &[u16],
+) -> Option<(WordAddress, WordCount)>
     ensures { result ≡ block_for size at words.now }
 {
     let longest = length_to_send(asked(words));

@@ -11,7 +11,7 @@ mod types;
 mod units;
 
 pub use ack::{ACK_WORDS, second_word, start_ack};
-pub use block::{Block, block_to_send};
+pub use block::block_to_send;
 pub use data::{address_of, value_of};
 pub use id::next_id;
 pub use types::{ACK, FETCH, GO, GO_REPLY, STORE, fewest_words, is_known, too_few};

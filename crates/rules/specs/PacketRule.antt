@@ -1,16 +1,14 @@
 -- What the packets of the Pup door ask of its process and do to it: one row for each type. Words in quotation marks are the change request's (K1)
 -- and source document 004's.
-use Rattle.std.specs.Prelude.{Bool, true, cond, List, [], ℕ, get_or, eqb}
+use Rattle.std.specs.Prelude.{Option, Some, None, Bool, true, cond, List, [], ℕ, get_or, eqb}
 use Rattle.lists.specs.Word.{words_of}
 use Rattle.packets.specs.declared.units.WordAddress.{WordAddress}
 use Rattle.packets.specs.declared.units.WordCount.{WordCount}
-use Rattle.packets.specs.declared.block.Block.{Block}
-use Rattle.packets.specs.declared.block.Block.TheVariants.{Nothing, Words}
 use Rattle.packets.specs.Types.{STORE, FETCH, GO}
 use Rattle.packets.specs.Units.{word_count, byte_count, first_byte, in_bytes}
 use Rattle.packets.specs.Units.{holds as fits_in}
 use Rattle.packets.specs.Data.{address_of, value_of}
-use Rattle.packets.specs.Block.{block_for}
+use Rattle.packets.specs.Block.{Block, block_for}
 use Rattle.packets.specs.Ack.{second_word, ack_of}
 use Rattle.run_state.specs.declared.Run.{Run}
 use Rattle.run_state.specs.RunState.{stopped_or_at_break}
@@ -45,8 +43,8 @@ word_seen at l = get_or (words_seen at (word_count 1) l) 0 0
 
 -- the words of a block
 unfoldable pub block_seen : Block → Local → List ℕ
-block_seen Nothing l = []
-block_seen (Words base n) l = words_seen base n l
+block_seen None l = []
+block_seen (Some block) l = words_seen block.0 block.1 l
 
 -- 10: the word lies inside; 'a at most 2,047', and 'the Pup door follow[s]' the size (K2)
 unfoldable pub word_inside : List ℕ → ℕ → Bool

@@ -1,4 +1,5 @@
 -- `packet_door::ack::write_ack` meets its contract, with a block or without. Assumes nothing.
+use Rattle.std.proofs.Common.{Option, Some, None}
 use mathlib.Core.Path.{sym, ap, ◌∙◌}
 use native.Mathlib.Omega.{arith}
 use lib.ListN.{length-take, length-drop}
@@ -20,24 +21,24 @@ start_ack-count-requires c = record { block_bound = rw c.block_to_send-block.ens
 
 pub write_seen-requires : goal.write_seen-requires
 write_seen-requires c =
-    let sent = sent-for (byte_count c.args.process.size) c.address_of-at.result c.args.words.now _ _ (sym c.block_to_send-block.ensures ∙ c.in-Words.is) in
+    let sent = sent-for (byte_count c.args.process.size) c.address_of-at.result c.args.words.now _ _ (sym c.block_to_send-block.ensures ∙ c.in-Some.is) in
     record {
       count_in_bounds = omega (arith, sent.within, c.requires.bytes_len);
       count_bound = (sent.not-over-32, simp (length-take, length-drop) (omega (arith, sent.not-over-32, c.requires.ack_words_in_bounds)));
     }
 
-pub returns-in-Nothing : goal.returns-in-Nothing
-returns-in-Nothing c =
+pub returns-in-None : goal.returns-in-None
+returns-in-None c =
     let l = local c.args.process c.args.bytes.now in
     let begun =
     started c.args.kind c.args.words.now l _ _ _ c.args.out.now _ _ _ c.address_of-at.ensures c.word_at.ensures c.second_word-second.ensures
     c.block_to_send-block.ensures c.start_ack-count.ensures.result_value c.start_ack-count.ensures.out_after in
-    let both = ack-alone c.args.kind c.args.words.now l _ _ _ c.args.out.now begun c.in-Nothing.is in record { value = both.0; out_after = both.1 }
+    let both = ack-alone c.args.kind c.args.words.now l _ _ _ c.args.out.now begun c.in-None.is in record { value = both.0; out_after = both.1 }
 
-pub returns-in-Words : goal.returns-in-Words
-returns-in-Words c =
+pub returns-in-Some : goal.returns-in-Some
+returns-in-Some c =
     let l = local c.args.process c.args.bytes.now in
     let begun =
     started c.args.kind c.args.words.now l _ _ _ c.args.out.now _ _ _ c.address_of-at.ensures c.word_at.ensures c.second_word-second.ensures
     c.block_to_send-block.ensures c.start_ack-count.ensures.result_value c.start_ack-count.ensures.out_after in
-    let both = ack-with c.args.kind c.args.words.now l _ _ _ c.args.out.now begun _ _ _ c.in-Words.is c.write_seen.ensures in record { value = both.0; out_after = both.1 }
+    let both = ack-with c.args.kind c.args.words.now l _ _ _ c.args.out.now begun _ _ _ c.in-Some.is c.write_seen.ensures in record { value = both.0; out_after = both.1 }

@@ -1,9 +1,9 @@
 -- `packets::block::halve_to_fit` meets its contract. The loop's invariant: the lengths that are left lead to the block. Assumes nothing.
+use Rattle.std.proofs.Common.{Some}
 use mathlib.Core.Path.{◌≡◌, refl, sym, ap, ◌∙◌}
 use mathlib.Core.Bool.{true, false}
 use native.Mathlib.Omega.{arith}
 use Rattle.packets.specs.declared.units.WordAddress.{WordAddress}
-use Rattle.packets.specs.declared.block.Block.TheVariants.{Words}
 use Rattle.packets.specs.Units.{holds}
 use Rattle.packets.specs.Block.{base_of}
 use Rattle.packets.proofs.LengthLaws.{some-sendable, none-or-most, half-sendable}
@@ -21,7 +21,7 @@ pub returns-then-holds : goal.returns-then-holds
 returns-then-holds c =
     let fits : holds c.args.size (base_of c.args.at c.loop-count.count) c.loop-count.count ≡ true =
     ap (λ (base : WordAddress). holds c.args.size base c.loop-count.count) (sym c.base_of-base.ensures) ∙ sym c.holds.ensures ∙ c.if-holds.true in
-    ap (λ (base : WordAddress). Words base c.loop-count.count) c.base_of-base.ensures
+    ap (λ (base : WordAddress). Some (base, c.loop-count.count)) c.base_of-base.ensures
     ∙ sym (halved-fits c.args.size c.args.at c.loop-count.count c.loop-count.invariant.0 c.loop-count-test.true c.loop-count.invariant.1 fits)
     ∙ c.loop-count.invariant.3
 
