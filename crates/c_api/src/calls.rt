@@ -8,6 +8,7 @@ ghost use Rattle.c_api.specs.Called.{Returns, Reports, Starts, start_with, start
 
 use crate::narrow::{byte_of, kind_of, type_of};
 use crate::result::{both_lengths, minus, signed};
+use format::Refusal;
 use gateway::{fresh_start, packet, report, request, sizes_right, text_line, tick, why};
 use state_bytes::STATE_BYTES;
 use words::vector_of;
@@ -37,19 +38,19 @@ fn eight(sizes: &[u16]) -> [u16; 8]
     ]
 }
 
-// The number that refuses a fresh start with a process over 7.
-fn start_refusal(there: u64, sizes: &[u16], state: &[u8]) -> u8
+// The refusal of a fresh start with a process over 7.
+fn start_refusal(there: u64, sizes: &[u16], state: &[u8]) -> Refusal
     requires le_there { 256 ≤ there }
     requires sizes_len { length sizes.now ≡ 8 }
-    ensures { result ≡ start_number there sizes.now state.now }
+    ensures { result.0 ≡ start_number there sizes.now state.now }
 {
     if state.len() != STATE_BYTES {
-        return 1;
+        return Refusal::LENT;
     }
     if sizes_right(bits(there), eight(sizes)) {
-        7
+        Refusal::PROCESS
     } else {
-        2
+        Refusal::STATE
     }
 }
 
@@ -67,7 +68,7 @@ pub extern "C" fn palustrode_fresh_start(
         return minus(1);
     }
     if 256 <= there {
-        return minus(start_refusal(there, sizes, state));
+        return minus(start_refusal(there, sizes, state).0);
     }
     let outcome = fresh_start(bits(there), eight(sizes), byte_of(door), state);
     signed(outcome)

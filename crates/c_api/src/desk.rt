@@ -4,7 +4,7 @@ ghost use Rattle.c_api.specs.Desk.{Leaves, fields, arguments_fit, fields_fit, mi
 
 use crate::narrow::byte_of;
 use crate::result::{minus, signed};
-use format::{HEADER_BYTES, Header, MESSAGE_BYTES, STRING_BYTES};
+use format::{HEADER_BYTES, Header, MESSAGE_BYTES, Refusal, STRING_BYTES};
 use message::{read_answer, write_request};
 use ops::request_form;
 
@@ -12,47 +12,32 @@ use ops::request_form;
 fn arguments_fit(pid: u64, arg1: u64, arg2: u64) -> bool
     ensures { result ≡ arguments_fit (fields 0 0 pid arg1 arg2) }
 {
-    if 256 <= pid {
-        return false;
-    }
-    if 65536 <= arg1 {
-        return false;
-    }
-    arg2 < 65536
+    pid < 256 && arg1 < 65536 && arg2 < 65536
 }
 
 // Every field has room for its number.
 fn fields_fit(host: u64, cmd: u64, pid: u64, arg1: u64, arg2: u64) -> bool
     ensures { result ≡ fields_fit (fields host cmd pid arg1 arg2) }
 {
-    if 256 <= host {
-        return false;
-    }
-    if 256 <= cmd {
-        return false;
-    }
-    arguments_fit(pid, arg1, arg2)
+    host < 256 && cmd < 256 && arguments_fit(pid, arg1, arg2)
 }
 
-// The number that refuses a request with this HOST, this CMD and a string of this length, of which a field has no room for its number.
-fn misfit_number(host: u64, cmd: u64, carried: usize, request: &[u8]) -> u8
-    ensures { result ≡ misfit_number host cmd carried request.now }
+// The refusal of a request with this HOST, this CMD and a string of this length, of which a field has no room for its number.
+fn misfit_refusal(host: u64, cmd: u64, carried: usize, request: &[u8]) -> Refusal
+    ensures { result.0 ≡ misfit_number host cmd carried request.now }
 {
     if request.len() < MESSAGE_BYTES {
-        return 1;
+        return Refusal::LENT;
     }
     if STRING_BYTES < carried {
-        return 3;
+        return Refusal::LENGTH;
     }
-    if host == 0 {
-        return 4;
-    }
-    if 256 <= host {
-        return 4;
+    if host == 0 || 256 <= host {
+        return Refusal::HEADER;
     }
     match request_form(byte_of(cmd)) {
-        Some(_) => 6,
-        None => 5,
+        Some(_) => Refusal::FORM,
+        None => Refusal::CODE,
     }
 }
 
@@ -70,7 +55,7 @@ pub extern "C" fn palustrode_write_request(
     ensures { Leaves (write_on (fields host cmd pid arg1 arg2) string.now request.old) result request.new }
 {
     if !fields_fit(host, cmd, pid, arg1, arg2) {
-        return minus(misfit_number(host, cmd, string.len(), request));
+        return minus(misfit_refusal(host, cmd, string.len(), request).0);
     }
     let header = Header {
         host: host as u8,

@@ -85,9 +85,8 @@ fn make_report(
         &mut notice,
         &mut line,
     );
-    let outcome = told.outcome;
-    let n = at_most(notice_length(outcome), &notice);
-    let end = put_answer(number_of(outcome), &notice[..n], out);
+    let n = at_most(notice_length(told.outcome), &notice);
+    let end = put_answer(number_of(told.outcome), &notice[..n], out);
     let k = at_most(told.line, &line);
     put_beside(shown, &line[..k], end - 1, out)
 }

@@ -36,10 +36,8 @@ fn packet_known(
     let start = start_of(process.there, pid, state);
     let end = start + process.extent();
     let served = packet_for_process(kind, id, words, process, &mut memory[start..end], out);
-    let outcome = served.outcome;
-    let next = served.process;
-    keep(outcome, next, pid, state);
-    outcome
+    keep(served.outcome, served.process, pid, state);
+    served.outcome
 }
 
 // Answers any packet: its type, its ID and its data words; outcome, state, memory and the words of its acknowledgement are those of the rules. A Go is

@@ -61,11 +61,9 @@ fn report_known(
         notice,
         line,
     );
-    let outcome = served.outcome;
-    let next = served.process;
-    keep(outcome, next, index, state);
+    keep(served.outcome, served.process, index, state);
     Told {
-        outcome,
+        outcome: served.outcome,
         line: served.line,
     }
 }

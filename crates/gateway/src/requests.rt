@@ -44,16 +44,22 @@ fn answer_named(
     let start = start_of(process.there, pid, state);
     let end = start + size;
     let served = answer_for_process(h, process, &mut memory[start..end], string, reply);
-    let outcome = served.outcome;
-    let next = served.process;
     if h.cmd == DESTROY {
-        remove(outcome, next, pid, start, size, state, memory);
-        return outcome;
+        remove(
+            served.outcome,
+            served.process,
+            pid,
+            start,
+            size,
+            state,
+            memory,
+        );
+        return served.outcome;
     }
     if changes(h.cmd) {
-        keep(outcome, next, pid, state);
+        keep(served.outcome, served.process, pid, state);
     }
-    outcome
+    served.outcome
 }
 
 // 13: all numbers are taken, or the free bytes, those from start on, are fewer than the size.
@@ -83,11 +89,9 @@ fn create_last(
     let process = read_process_at(state, pid);
     let end = start + size as usize;
     let served = answer_create(h, pid, size, process, &mut memory[start..end], reply);
-    let outcome = served.outcome;
-    let next = served.process;
     put_start(start as u16, pid, state);
-    put_process_at(next, pid, state);
-    outcome
+    put_process_at(served.process, pid, state);
+    served.outcome
 }
 
 // CREATE: the lowest absent process comes, after the last one, or it is refused with 13. A CREATE carries no string.

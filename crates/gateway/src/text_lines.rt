@@ -30,10 +30,8 @@ fn line_known(
     let start = start_of(process.there, index, state);
     let end = start + process.extent();
     let served = line_for_process(line, process, &mut memory[start..end], out);
-    let outcome = served.outcome;
-    let next = served.process;
-    keep(outcome, next, index, state);
-    outcome
+    keep(served.outcome, served.process, index, state);
+    served.outcome
 }
 
 // Answers any bytes as a text line: outcome, state, memory and line buffer are those of the rules.

@@ -37,9 +37,8 @@ pub(crate) fn perform(
     ensures value { result ≡ ((rule_of h.cmd).effect h string.now (local process bytes.old)).process }
     ensures bytes_after { bytes.new ≡ overlay ((rule_of h.cmd).effect h string.now (local process bytes.old)).bytes bytes.old }
 {
-    let cmd = h.cmd;
     let at = h.arg1;
-    match cmd {
+    match h.cmd {
         DEBUG => process.debug(h.host),
         END_DEBUG => process.end_debug(bytes),
         STOP => process.stop(bytes),

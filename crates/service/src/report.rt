@@ -100,7 +100,7 @@ fn answer_owed(owed: Owed, pid: u8, kind: u8, line: &mut [u8]) -> usize
     let letter = owed.letter();
     let text = TextAnswer {
         pid: pid as u32,
-        letter: letter,
+        letter,
         failed: false,
         value: status(kind),
     };

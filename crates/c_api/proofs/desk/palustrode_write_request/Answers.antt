@@ -24,7 +24,7 @@ returns-then-not-fields_fit c =
     let h = fields c.args.host c.args.cmd c.args.pid c.args.arg1 c.args.arg2 in
     let same : to_z w64 (of_z w64 c.minus.result) ≡ c.minus.result = search rules in
     rw (misfit-writes h c.args.string.now c.args.request.now (sym c.fields_fit.ensures ∙ c.if-not-fields_fit.true))
-    (record { result-is = same ∙ c.minus.ensures ∙ ap minus c.misfit_number.ensures; buffer-is = refl })
+    (record { result-is = same ∙ c.minus.ensures ∙ ap minus c.misfit_refusal.ensures; buffer-is = refl })
 
 pub overflow_cast-header : goal.overflow_cast-header
 overflow_cast-header c = omega (arith, (known _ _ _ _ _ _ c.fields_fit.ensures c.if-not-fields_fit.false).host)

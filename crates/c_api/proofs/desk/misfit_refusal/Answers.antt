@@ -1,4 +1,4 @@
--- `c_api::desk::misfit_number` meets its contract: at each `return` the tests before it have passed. Assumes nothing.
+-- `c_api::desk::misfit_refusal` meets its contract: at each `return` the tests before it have passed. Assumes nothing.
 use mathlib.Core.Path.{sym, ap, ◌∙◌}
 use Prim.Native.Nat.{◌+◌, ◌<◌, ◌≤◌}
 use native.Mathlib.Omega.{arith}
@@ -9,7 +9,7 @@ use Rattle.format.specs.Outcome.{first_failing}
 use Rattle.format.specs.Refusal.{wrong_length}
 use Rattle.c_api.specs.Desk.{misfit_number}
 use Rattle.c_api.proofs.DeskLaws.{form-byte, or-true}
-use Rattle.c_api.proofs.desk.misfit_number.Goals as goal
+use Rattle.c_api.proofs.desk.misfit_refusal.Goals as goal
 
 pub returns-then-request-lt-MESSAGE_BYTES : goal.returns-then-request-lt-MESSAGE_BYTES
 unfolding misfit_number first_failing
