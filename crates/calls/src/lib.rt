@@ -1,5 +1,7 @@
 // The calls of a recording: what each kind of line does to the bytes of a state and to memory, and what it prints. Adding a kind of line
 // takes a definition in specs/Meaning.antt and a function here.
+// State, memory, line and buffer are parameters of each call, and no struct of them: the clauses of the public calls name each one, and some
+// calls only read the state or the memory.
 #![tactic(auto)]
 
 mod call;

@@ -11,7 +11,7 @@ pub struct Words {
     pub words: [u16; 9],
 }
 
-// The nine numbers after another.
+// The nine numbers after another. No twin of `data_behind`, which stops where the line ends: `words_of` and `data_in` tell them apart.
 pub(crate) fn words_behind(number: Number, line: &[u8]) -> Words
     ensures last_value { result.last ≡ last_of 9 line.now number }
     ensures words_value { result.words ≡ words_of 9 line.now number }
