@@ -2,18 +2,17 @@
 use mathlib.Core.Path.{◌≡◌, refl, sym, ap, ◌∙◌}
 use mathlib.Core.Bool.{Bool, true, false, not, cond}
 use mathlib.Core.List.{List, [], ◌∷◌, ◌++◌}
-use Prim.Native.Nat.{ℕ, zero, suc, ◌+◌, ◌-◌, ◌<◌, ◌%◌}
+use Prim.Native.Nat.{ℕ, zero, suc, ◌+◌, ◌<◌, ◌%◌}
 use native.Mathlib.Nat.{not-suc-le-zero}
 use native.Mathlib.Numerals.{add-one}
 use native.Mathlib.Omega.{arith}
 use lib.ListN.{length, take, drop, get_or, set, length-set}
-use lib.Dec.{leb}
 use lib.Seq.{drop-cons, take-suc, set_comm, set-set, set-get_or, get_or-set_same, get_or-set_other}
 use borrow.Author.Tests.{eq-eqb, ne_eqb}
 use Rattle.lists.proofs.Bool.{&&-left}
 use Rattle.breakpoints.specs.declared.entry.Breakpoint.{Breakpoint}
 use Rattle.breakpoints.specs.Entry.{free, in_use}
-use Rattle.breakpoints.specs.Seen.{put_word, is_planted, restored, seen, planted, bpt_stored, overlay_saved_byte, overlay_saved_word, overlay_saved_words}
+use Rattle.breakpoints.specs.Seen.{put_word, is_planted, restored, seen, planted, bpt_stored, overlay_saved_word, overlay_saved_words}
 
 -- an entry that nobody set is free
 pub none-set : (b : Breakpoint) → b.setter ≡ 0 → in_use b ≡ false
@@ -41,22 +40,6 @@ pub length_seen : (bs : List Breakpoint) (m : List ℕ) → length (seen bs m) �
 unfolding seen
 length_seen [] m = refl
 length_seen (b ∷ bs) m = length_seen bs (restored b m) ∙ length-restored b m
-
-pub length-overlay_saved_byte : (at i v : ℕ) (out : List ℕ) → length (overlay_saved_byte at i v out) ≡ length out
-unfolding overlay_saved_byte
-length-overlay_saved_byte at i v out = go (leb at i)
-  where
-    go : (t : Bool) → length (cond t (set out (i - at) v) out) ≡ length out
-    go true = length-set out (i - at) v
-    go false = refl
-
-pub length-overlay_saved_word : (at : ℕ) (b : Breakpoint) (out : List ℕ) → length (overlay_saved_word at b out) ≡ length out
-unfolding overlay_saved_word
-length-overlay_saved_word at b out = go (is_planted b)
-  where
-    go : (t : Bool) → length (cond t (overlay_saved_byte at (b.address + 1) b.high (overlay_saved_byte at b.address b.low out)) out) ≡ length out
-    go true = simp length-overlay_saved_byte
-    go false = refl
 
 -- ---- a turn of the loop over the entries
 
