@@ -67,7 +67,8 @@ pub fn lowest_absent(state: &[u8]) -> usize
     ensures { result ≡ lowest_absent (state_of state.now) }
 {
     for p in 0..PROCESS_COUNT {
-        if !is_there(state, p) {
+        let there = is_there(state, p);
+        if !there {
             return p;
         }
     }

@@ -12,19 +12,19 @@ use Rattle.state_bytes.proofs.StateLaws.{eight-at}
 use Rattle.state_bytes.proofs.place.lowest_absent.Invariants.{away}
 use Rattle.state_bytes.proofs.place.lowest_absent.Goals as goal
 
-pub returns-then-not-is_there : goal.returns-then-not-is_there
+pub returns-then-not-there : goal.returns-then-not-there
 unfolding lowest_absent
-returns-then-not-is_there c =
+returns-then-not-there c =
     let m = c.args.state.now in
     let p = c.loop-p.p in
-    let e = first-here away (state_of m).processes p nobody (omega (arith, eight-at m)) (ap not (sym c.is_there.ensures ∙ c.if-not-is_there.true)) in
+    let e = first-here away (state_of m).processes p nobody (omega (arith, eight-at m)) (ap not (sym c.is_there-there.ensures ∙ c.if-not-there.true)) in
     omega (arith, c.loop-p.invariant)
 
 pub loop-p-preserved : goal.loop-p-preserved
 loop-p-preserved c =
     let m = c.args.state.now in
     let p = c.loop-p.p in
-    let e = first_next away (state_of m).processes p nobody (omega (arith, eight-at m)) (ap not (sym c.is_there.ensures ∙ c.if-not-is_there.false)) in
+    let e = first_next away (state_of m).processes p nobody (omega (arith, eight-at m)) (ap not (sym c.is_there-there.ensures ∙ c.if-not-there.false)) in
     omega (arith, c.loop-p.invariant)
 
 pub returns : goal.returns
