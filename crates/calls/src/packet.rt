@@ -10,7 +10,7 @@ ghost use Rattle.calls.specs.Meaning.{zero_ack, packet_made, packet_effect};
 use crate::call::put_numbered;
 use crate::show::answer_unknown;
 use crate::{MEMORY, STATE};
-use decimal::{Number, put_field, put_long, put_number};
+use decimal::{Number, put_field, put_number};
 use format::{Refusal, number_of};
 use gateway::packet;
 use lines::{put, put_mark};
@@ -106,7 +106,7 @@ fn put_ack(number: u8, id: u32, words: &[u16], out: &mut [u8]) -> usize
     let first = put_number(number as u16, 0, out);
     let second = put_field(b' ', ACK as u16, first, out);
     put_mark(b' ', second, out);
-    let third = put_long(id, second + 1, out);
+    let third = put_number(id, second + 1, out);
     let end = put_words(words, third, out);
     put(b"\n", end, out)
 }

@@ -17,24 +17,6 @@ pub fn put_number<T: Width>(n: T, at: usize, out: &mut [u8]) -> usize
     put(&text[..k], at, out)
 }
 
-// A number of 32 bits from an index on; the index after it.
-pub fn put_long(long: u32, at: usize, out: &mut [u8]) -> usize
-    requires { at + 10 ≤ length out.old }
-    ensures put { Put at (numeral long) out.old result out.new }
-    ensures upper_bound { result ≤ at + 10 }
-{
-    put_number(long, at, out)
-}
-
-// A number of 64 bits from an index on; the index after it.
-pub fn put_wide(wide: u64, at: usize, out: &mut [u8]) -> usize
-    requires { at + 20 ≤ length out.old }
-    ensures put { Put at (numeral wide) out.old result out.new }
-    ensures upper_bound { result ≤ at + 20 }
-{
-    put_number(wide, at, out)
-}
-
 // A mark and a number, from an index on; the index after them.
 pub fn put_field<T: Width>(mark: u8, n: T, at: usize, out: &mut [u8]) -> usize
     requires { at + 1 + T.most_digits ≤ length out.old }

@@ -7,6 +7,6 @@ mod number;
 pub mod theorems;
 mod width;
 
-pub use field::{put_field, put_long, put_number, put_wide};
+pub use field::{put_field, put_number};
 pub use number::Number;
 pub use width::Width;
