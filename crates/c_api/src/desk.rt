@@ -9,6 +9,7 @@ use message::{read_answer, write_request};
 use ops::request_form;
 
 // PID, ARG1 and ARG2 have room for their numbers.
+#[tactic(auto, unfolding(crate::specs::Desk::arguments_fit))]
 fn arguments_fit(pid: u64, arg1: u64, arg2: u64) -> bool
     ensures { result ≡ arguments_fit (fields 0 0 pid arg1 arg2) }
 {
@@ -16,6 +17,7 @@ fn arguments_fit(pid: u64, arg1: u64, arg2: u64) -> bool
 }
 
 // Every field has room for its number.
+#[tactic(auto, unfolding(crate::specs::Desk::fields_fit, crate::specs::Desk::arguments_fit))]
 fn fields_fit(host: u64, cmd: u64, pid: u64, arg1: u64, arg2: u64) -> bool
     ensures { result ≡ fields_fit (fields host cmd pid arg1 arg2) }
 {
@@ -32,7 +34,10 @@ fn misfit_refusal(host: u64, cmd: u64, carried: usize, request: &[u8]) -> Refusa
     if STRING_BYTES < carried {
         return Refusal::LENGTH;
     }
-    if host == 0 || 256 <= host {
+    if host == 0 {
+        return Refusal::HEADER;
+    }
+    if 256 <= host {
         return Refusal::HEADER;
     }
     match request_form(byte_of(cmd)) {
