@@ -25,13 +25,13 @@ fn put_head(there: bool, host: u8, run: Run, out: &mut [u8]) -> usize
 }
 
 // The nine words, each after a blank.
-fn put_words(words: &[u16; 9], from: usize, out: &mut [u8]) -> usize
+fn put_words(words: [u16; 9], from: usize, out: &mut [u8]) -> usize
     requires { from + 54 ≤ length out.old }
-    ensures put { Put from (joined word_text words.now) out.old result out.new }
+    ensures put { Put from (joined word_text words) out.old result out.new }
     ensures upper_bound { result ≤ from + 54 }
 {
     let mut at = from;
-    for word in words {
+    for word in &words {
         at = put_field(b' ', *word, at, out);
     }
     at
@@ -98,7 +98,7 @@ fn put_record(p: Process, out: &mut [u8]) -> usize
 {
     let session = p.session;
     let head = put_head(p.there, p.host, p.run, out);
-    let words = put_words(&p.vector, head, out);
+    let words = put_words(p.vector, head, out);
     let entries = put_entries(&p.breaks, words, out);
     let size = put_named(b" size", p.size, entries, out);
     let watcher = put_named(b" watcher", session.watcher, size, out);

@@ -13,12 +13,12 @@ pub loop-word-preserved : goal.loop-word-preserved
 loop-word-preserved c = (
   omega (arith, c.put_field-at.ensures.upper_bound),
   search rules,
-  put-more word_text 0 c.args.words.now c.loop-word.word-index c.args.from c.loop-word.at c.put_field-at.result c.args.out.now c.loop-word.out c.put_field-at.new.out (omega arith) c.loop-word.invariant.2 c.put_field-at.ensures.put,
+  put-more word_text 0 c.args.words c.loop-word.word-index c.args.from c.loop-word.at c.put_field-at.result c.args.out.now c.loop-word.out c.put_field-at.new.out (omega arith) c.loop-word.invariant.2 c.put_field-at.ensures.put,
 )
 
 pub returns : goal.returns
 returns c =
     record {
-      put = put-joined-all word_text c.args.words.now c.loop-word.word-index c.args.from c.loop-word.at c.args.out.now c.loop-word.out (omega arith) c.loop-word.invariant.2;
+      put = put-joined-all word_text c.args.words c.loop-word.word-index c.args.from c.loop-word.at c.args.out.now c.loop-word.out (omega arith) c.loop-word.invariant.2;
       upper_bound = omega arith;
     }

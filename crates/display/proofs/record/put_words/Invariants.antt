@@ -8,4 +8,4 @@ use Rattle.display.specs.Line.{word_text}
 use Rattle.display.proofs.record.put_words.Given as goal
 
 abbrev pub invariant-loop-word : goal.invariant-loop-word
-invariant-loop-word l = (l.at ≤ l.from + 6 * l.word-index) × (length l.out ≡ length l.initial.out) × Put l.from (joined word_text (take l.word-index l.words)) l.initial.out l.at l.out
+invariant-loop-word l = (l.at ≤ l.from + 6 * l.word-index) × (length l.out ≡ length l.initial.out) × Put l.from (joined word_text (take l.word-index l.word-items)) l.initial.out l.at l.out
