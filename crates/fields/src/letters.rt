@@ -1,4 +1,5 @@
-// The requests of a line, each a single character.
+// The requests of a line, each a single character. They are numbers, and no enum: ReadsHeads and the rules of text lines speak of a line with any letter,
+// and text_door has the enum of what a known one asks for.
 ghost use Rattle.std.specs.Prelude.{◌≡◌};
 ghost use Rattle.fields.specs.Letters.{known};
 

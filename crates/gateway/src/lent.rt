@@ -66,7 +66,7 @@ pub(crate) fn check_line_buffer_and_state(
     check_state(state, memory.len() != CAPACITY)
 }
 
-// The same of a packet, whose buffer holds words.
+// The same of a packet, whose buffer holds words: one function of both would take the type and the length, and say no more.
 pub(crate) fn check_ack_buffer_and_state(
     state: &[u8],
     memory: &[u8],

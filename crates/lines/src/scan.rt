@@ -17,7 +17,7 @@ pub enum Phase {
     Bad,
 }
 
-// A line read so far, and how many of its bytes are kept.
+// A line read so far, and how many of its bytes are kept, in a buffer that is lent part by part: there is no heap, so the length stands beside it.
 #[derive(Clone, Copy)]
 pub struct Scan {
     pub phase: Phase,

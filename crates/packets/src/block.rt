@@ -64,6 +64,7 @@ fn halve_to_fit(
     ensures { result ≡ halved_to_fit 6 size at longest }
 {
     let mut count = longest;
+    // No for: it counts nothing, and halves until it fits.
     while 0 < count.0 {
         let base = base_of(at, count);
         if size.holds(base, count) {

@@ -18,7 +18,7 @@ pub struct Step {
     pub len: usize,
 }
 
-// What was read of the line after a block; how much of the block was used; and how many bytes of text were put.
+// What was read of the line after a block; how much of the block was used; and how many bytes of text were put, in a buffer that the caller lends.
 #[derive(Clone, Copy)]
 pub struct Fed {
     pub partial: Partial,

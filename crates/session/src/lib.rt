@@ -7,7 +7,7 @@ ghost use Rattle.session.specs.Session.{owed_number, is_owed_number, owed_of, ow
 
 use packets::next_id;
 
-// The host that the text lines come from.
+// The host that the text lines come from. A host is any number from 1 to 255, and these two are two of them.
 pub const TEXT_HOST: u8 = 253;
 
 // The host that the packets come from.

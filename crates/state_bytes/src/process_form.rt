@@ -19,7 +19,7 @@ use session::{Go, LAST_OWED_NUMBER, Session, owed_of};
 use std::array;
 use words::{flag, high_byte, low_byte, vector_bytes, word_of};
 
-// The nine words.
+// The nine words, where they lie: `vector_of` of words takes an array by value, and a copy of the bytes costs stack.
 fn read_vector(bytes: &[u8]) -> [u16; 9]
     requires { vector_width ≤ length bytes.now }
     ensures { result ≡ vector_of bytes.now }

@@ -28,13 +28,12 @@ fn right(request: TextRequest, process: Process) -> bool
 }
 
 // 122: the run state is one that the process can go on from, and a register has room for the value.
+#[tactic(auto, unfolding(crate::specs::At::row_of))]
 fn state_fits(request: TextRequest, line: Line, process: Process) -> bool
     ensures { result ≡ (row_of request).state line process }
 {
     match request {
-        TextRequest::ReadWord => true,
-        TextRequest::WriteWord => true,
-        TextRequest::ReadRegister => true,
+        TextRequest::ReadWord | TextRequest::WriteWord | TextRequest::ReadRegister => true,
         TextRequest::WriteRegister => line.fourth <= 65535,
         TextRequest::Continue => process.run.stopped_or_at_break(),
         TextRequest::Step => process.run.stopped_or_at_break(),
