@@ -85,8 +85,7 @@ fn is_acknowledged(kind: u8, number: u8) -> bool
     number == 0 && matches!(kind, STORE | FETCH | GO)
 }
 
-// Words, each after a blank, from an index on; the index after them. That of a state vector (display) takes its nine words by value, as this project passes
-// a vector.
+// Words, each after a blank, from an index on; the index after them. That of a state vector, in display, takes nine words by value.
 fn put_words(words: &[u16], from: usize, out: &mut [u8]) -> usize
     requires { from + 6 * length words.now ≤ length out.old }
     ensures put { Put from (joined word_text words.now) out.old result out.new }

@@ -1,4 +1,4 @@
-// The tests 7 to 12, 15 and 16 of a request to one process, and what they find: a decision, with the number that refuses or the entry that the request goes to.
+// The tests 7 to 12, 15 and 16 of a request to one process, and what they find: the entry that it goes to, or a refusal.
 #![tactic(auto)]
 
 mod decision;

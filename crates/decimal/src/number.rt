@@ -7,7 +7,8 @@ ghost use Rattle.decimal.specs.Read.{wrong, begun, checked, number_at, behind, e
 const BLANK: u8 = b' ';
 
 // A number, or nothing where it or one before it was wrong; and the index after it.
-// A flag and no Option: ReadsNumbers and the definitions of Read.antt speak of `ok`, `value` and `next` of a number that is wrong too.
+// A flag and no Option: what a line says (process_in and its like in the definitions of calls) is written by `value` and `next` of a number
+// that may be wrong.
 #[derive(Clone, Copy)]
 pub struct Number {
     pub ok: bool,

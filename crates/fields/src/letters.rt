@@ -1,5 +1,5 @@
-// The requests of a line, each a single character. They are numbers, and no enum: ReadsHeads and the rules of text lines speak of a line with any letter,
-// and text_door has the enum of what a known one asks for.
+// The requests of a line, each a single character. They are numbers, and no enum: a line has any letter, and the rules (text_rule_of) speak of
+// every number. text_door has the enum of what a known one asks for.
 ghost use Rattle.std.specs.Prelude.{◌≡◌};
 ghost use Rattle.fields.specs.Letters.{known};
 

@@ -2,8 +2,8 @@
 ghost use Rattle.std.specs.Prelude.{◌≡◌};
 ghost use Rattle.format.specs.Outcome.{number_of};
 
-// A refusal, which has the number of the test that failed: one of a fixed list, in the order of the tests, and never 0. That every number makes
-// a refusal and is that refusal's own (`outcomes_fit`, `readings_fit`) is why it is a number with a type, and no enum.
+// A refusal, by the number of the test that failed. The calls give the numbers below and no other. It is a number with a type, and no enum, since
+// every number makes a refusal and is read from it again (`outcomes_fit`, `readings_fit`).
 #[derive(Clone, Copy)]
 pub struct Refusal(pub u8);
 

@@ -1,8 +1,8 @@
 // The gateway: what answers the requests of the network, the text lines of the bench, the packets of the Pup door and the reports of the machine. Its state is a lent buffer
 // of 785 bytes: a call tests them where they lie, reads the one process that it goes to, and writes that one back. All processes lie in one lent
 // memory, and the state says where each begins; only CREATE and DESTROY change that.
-// State and memory are lent to each call as two parameters, and no struct of them: C and the programs lend them so, some calls take the state alone, and the
-// clauses of the calls name each.
+// State and memory are lent to each call as two parameters, and no struct of them: C and the programs lend them so, a tick and a query take the
+// state alone, and the clauses of the calls name each.
 #![tactic(auto)]
 
 mod fresh;

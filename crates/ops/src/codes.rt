@@ -1,5 +1,5 @@
-// The numbers that a message carries in CMD. They are numbers, and no enum: a header has any CMD, known or not, and the rules and their theorems (rule_of,
-// asked_tests, Isolation) speak of every number.
+// The numbers that a message carries in CMD. They are numbers, and no enum: a header has any CMD, known or not, and the rules and their
+// theorems (rule_of, asked_tests, Isolation) speak of every number.
 
 // The op codes of the requests.
 pub const NOP: u8 = 0;

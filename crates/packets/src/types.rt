@@ -1,5 +1,5 @@
-// The types of packets, and the fewest data words of each. They are numbers, and no enum: a packet of any type is answered, the rules speak of every number,
-// and packet_door has the enum of what a known one asks for.
+// The types of packets, and the fewest data words of each. They are numbers, and no enum: a packet of any type is answered, and the rules
+// (packet_row_of) speak of every number. packet_door has the enum of what a known one asks for.
 ghost use Rattle.std.specs.Prelude.{◌≡◌};
 ghost use Rattle.packets.specs.Types.{known_type, fewest_words, too_few};
 

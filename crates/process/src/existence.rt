@@ -7,8 +7,8 @@ use crate::record::{MEMORY_BYTES, Process};
 use run_state::Run;
 
 impl Process {
-    // Makes a new process of this host, of this size and with these bytes, which are all zero then. They are copied from an array of zeros, and not filled: that
-    // is the form that this place is to have.
+    // Makes a new process of this host, of this size and with these bytes, which are all zero then. They are
+    // copied from an array of zeros, and not filled, as docs/DECISIONS.md says under "The form each place takes".
     #[tactic(auto, unfolding(crate::specs::Request::created))]
     pub fn create(self, host: u8, size: u16, bytes: &mut [u8]) -> Self
         requires { (length bytes.old ≡ size) × (size ≤ memory_bytes) }

@@ -58,5 +58,5 @@ impl Language {
 pub fn begin(language: Language, state: &mut [u8; STATE])
     ensures { state.new ≡ first_state language state.old }
 {
-    fresh_start(language.there(), [MEMORY_BYTES as u16; 8], NO_DOOR, state);
+    let _ = fresh_start(language.there(), [MEMORY_BYTES as u16; 8], NO_DOOR, state);
 }

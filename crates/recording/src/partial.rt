@@ -5,8 +5,8 @@ ghost use Rattle.recording.specs.Session.{reading, nothing_read, phase_after, ty
 
 use lines::Phase;
 
-// What was read of a line: how many bytes of it are kept, how many characters it has, kept or not, and where its pairs led. The buffer is lent to each
-// character, and there is no heap, so the length stands here.
+// What was read of a line: how many bytes of it are kept, how many characters it has, kept or not, and where its pairs led. The buffer is lent
+// for each character, and there is no heap, so the length stands here.
 #[derive(Clone, Copy)]
 pub struct Partial {
     pub len: usize,

@@ -5,8 +5,8 @@
 ghost use Rattle.std.specs.Prelude.{◌≡◌};
 ghost use Rattle.run_state.specs.RunState.{run_number, is_run_number, run_of, moving, passing, stepping_or_passing, stopped_or_at_break, at_break, released, after_pass, goes_on, accepts, run_after};
 
-// The kinds of machine report. They are numbers, and no enum: a report of any kind is answered, and the rules and their theorems (bad_report, report_at)
-// speak of every number.
+// The kinds of machine report. They are numbers, and no enum: a report of any kind is answered, and the rules (bad_report, run_after) speak of
+// every number.
 pub const TRAP: u8 = 0;
 
 pub const HALT: u8 = 1;

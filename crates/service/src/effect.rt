@@ -22,7 +22,8 @@ pub fn changes(cmd: u8) -> bool
     cmd != STATUS && cmd != EXAMINE
 }
 
-// One method of the process for each op code; k is the entry that BREAK or UNBREAK goes to. A match, and no table of functions: each takes other arguments.
+// One method of the process for each op code; k is the entry that BREAK or UNBREAK goes to. A match, and no table of functions, since each
+// takes other arguments.
 pub(crate) fn perform(
     h: Header,
     k: usize,

@@ -1,5 +1,5 @@
-// One process of the bytes of a state, read and written where it lies. A state is a slice here, and a process a number: the gateway has tested both once, and an
-// array or a type for the number would be an Option that each call opens again.
+// One process of the bytes of a state, read and written where it lies. A state is a slice here, and a process a number: C lends the one, and
+// messages carry the other.
 ghost use Rattle.std.specs.Prelude.{◌≡◌, ◌*◌, ◌≤◌, ◌<◌, length};
 ghost use Rattle.state.specs.Records.{process_at, lowest_absent};
 ghost use Rattle.state.specs.Layout.{extent_at};

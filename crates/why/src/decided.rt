@@ -10,7 +10,7 @@ use format::{Header, number_of};
 use process::Process;
 use reasons::Reason;
 
-// The number that `decide` gives; 0 where it allows the request.
+// The number of the first test that fails; 0 where the request is allowed.
 fn number_for_process(h: Header, process: Process) -> u8
     ensures { result ≡ first_failing (process_tests h «process») }
 {
