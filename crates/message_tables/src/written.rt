@@ -1,7 +1,7 @@
 // The written form of every message, each with what the other end reads of it. The fields that a form uses are PID 2, ARG1 258 and
 // ARG2 3, and a counted string is "abc".
-use crate::show::End;
 use crate::show;
+use crate::show::End;
 use format::{Header, MESSAGE_BYTES};
 use ops::{ArgUse, Carried, Form};
 use std::io;
