@@ -58,5 +58,6 @@ impl Language {
 pub fn begin(language: Language, state: &mut [u8; STATE])
     ensures { state.new ≡ first_state language state.old }
 {
-    fresh_start(language.there(), [MEMORY_BYTES as u16; 8], NO_DOOR, state);
+    // Granted, since no process asks for more than there is.
+    let _ = fresh_start(language.there(), [MEMORY_BYTES as u16; 8], NO_DOOR, state);
 }
