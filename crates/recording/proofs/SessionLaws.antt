@@ -187,7 +187,7 @@ module _ (l : Language) (block : List ℕ) (at len : ℕ) (x : Session) (out out
       let w : waits (get_or block at 0) (length out - len) ≡ true = rw room at k.waits in
       let stop : fed_to x (take len out) (get_or block at 0 ∷ drop (at + 1) block) ≡ start = rw (cons, left, w) at G in
       let same : take len out ++ (last ++ drop (length out - len) (drop len out)) ≡ out =
-        rw k.buffer (ap (λ (l : List ℕ). take len out ++ l) (take-append-drop (length out - len) (drop len out)) ∙ take-append-drop len out) in
+      rw k.buffer (ap (λ (l : List ℕ). take len out ++ l) (take-append-drop (length out - len) (drop len out)) ∙ take-append-drop len out) in
       rw (← stop, k.line, k.state, k.memory, same) (record { session = sym X; used = omega (arith, length-drop (at + 1) block, b); text = laid-so-far len out out₀ h S D })
 
   -- the block is at its end

@@ -20,10 +20,10 @@ returns-then-c-ne10 c =
     let size : length c.args.line.now ≡ 1025 = search rules in (
       other-goes _ _ c.if-c-ne10.true,
       rw (ne_eqb _ _ c.if-c-ne10.true)
-      (record {
-        session = rw (c.push.ensures, c.pairs_begin-first.ensures, size) refl;
-        text = record { size = refl; fits = omega arith; laid = refl };
-      }),
+          (record {
+            session = rw (c.push.ensures, c.pairs_begin-first.ensures, size) refl;
+            text = record { size = refl; fits = omega arith; laid = refl };
+          }),
     )
 
 pub returns-in_err-room : goal.returns-in_err-room
@@ -38,10 +38,10 @@ returns c =
     let done = c.end_line-len.ensures in (
       no-wait _ _ first.enough,
       rw (eq-eqb _ _ c.if-c-ne10.false)
-      (steps-ended _ _ _ _ _ _ _ (c.new.ensures _)
-      (record {
-        state = done.state;
-        memory = done.memory;
-        text = prints-front _ _ _ _ _ first.enough (rw first.same at done.text);
-      })),
+          (steps-ended _ _ _ _ _ _ _ (c.new.ensures _)
+          (record {
+            state = done.state;
+            memory = done.memory;
+            text = prints-front _ _ _ _ _ first.enough (rw first.same at done.text);
+          })),
     )
