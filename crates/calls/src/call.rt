@@ -3,14 +3,14 @@ ghost use Rattle.std.specs.Prelude.{◌≡◌, ◌++◌, ◌+◌, ◌*◌, ◌�
 ghost use Rattle.lines.specs.declared.scan.Phase.TheVariants.{Open};
 ghost use Rattle.lines.specs.Scan.{bytes_of};
 ghost use Rattle.decimal.specs.Numeral.{numeral};
-ghost use Rattle.calls.specs.Effect.{Prints, Does};
+ghost use Rattle.calls.specs.Effect.{longest_text, Prints, Does};
 ghost use Rattle.calls.specs.Meaning.{zero_buffer, request_made, request_effect, report_made, report_effect, start_made, start_effect, store_effect};
 
 use crate::listing::Listing;
 use crate::number::{Report, read_report};
 use crate::show::{answer_unknown, ends_within, place};
 use crate::text::{Shown, put_beside, zero_line};
-use crate::{KEPT, LONGEST_TEXT, MEMORY, MESSAGE, STATE};
+use crate::{KEPT, MEMORY, MESSAGE, STATE};
 use decimal::{Number, put_number};
 use display::put_answer;
 use format::number_of;
@@ -31,8 +31,9 @@ fn make_request(
     state: &mut [u8; STATE],
     memory: &mut [u8; MEMORY],
     message: &[u8],
-    out: &mut [u8; LONGEST_TEXT],
+    out: &mut [u8],
 ) -> usize
+    requires { longest_text ≤ length out.old }
     ensures { Does (request_made message.now state.old memory.old) result state.new memory.new out.old out.new }
 {
     let mut reply = zero_buffer();
@@ -47,8 +48,9 @@ pub fn answer_request(
     state: &mut [u8; STATE],
     memory: &mut [u8; MEMORY],
     pairs: &[u8],
-    out: &mut [u8; LONGEST_TEXT],
+    out: &mut [u8],
 ) -> usize
+    requires { longest_text ≤ length out.old }
     ensures { Does (request_effect phase (bytes_of Open pairs.now) state.old memory.old) result state.new memory.new out.old out.new }
 {
     if !phase.is_full() {
@@ -66,8 +68,9 @@ fn make_report(
     state: &mut [u8; STATE],
     memory: &mut [u8; MEMORY],
     read: Report,
-    out: &mut [u8; LONGEST_TEXT],
+    out: &mut [u8],
 ) -> usize
+    requires { longest_text ≤ length out.old }
     ensures { Does (report_made shown read.process read.kind read.reason read.words state.old memory.old) result state.new memory.new out.old out.new }
 {
     let mut notice = zero_buffer();
@@ -94,8 +97,9 @@ pub fn answer_report(
     state: &mut [u8; STATE],
     memory: &mut [u8; MEMORY],
     line: &[u8],
-    out: &mut [u8; LONGEST_TEXT],
+    out: &mut [u8],
 ) -> usize
+    requires { longest_text ≤ length out.old }
     ensures { Does (report_effect shown line.now state.old memory.old) result state.new memory.new out.old out.new }
 {
     let Some(read) = read_report(line) else {
@@ -118,8 +122,9 @@ fn make_start(
     state: &mut [u8; STATE],
     memory: &mut [u8; MEMORY],
     listing: Listing,
-    out: &mut [u8; LONGEST_TEXT],
+    out: &mut [u8],
 ) -> usize
+    requires { longest_text ≤ length out.old }
     ensures { Does (start_made listing.there listing.sizes listing.door state.old memory.old) result state.new memory.new out.old out.new }
 {
     let started = fresh_start(listing.there, listing.sizes, listing.door, state);
@@ -136,8 +141,9 @@ pub fn answer_start(
     state: &mut [u8; STATE],
     memory: &mut [u8; MEMORY],
     line: &[u8],
-    out: &mut [u8; LONGEST_TEXT],
+    out: &mut [u8],
 ) -> usize
+    requires { longest_text ≤ length out.old }
     ensures { Does (start_effect line.now state.old memory.old) result state.new memory.new out.old out.new }
 {
     let word = at_most(5, line);
@@ -158,12 +164,8 @@ fn store(memory: &mut [u8], at: usize, byte: u8)
 }
 
 // store P ADDRESS BYTE
-pub fn answer_store(
-    state: &[u8; STATE],
-    memory: &mut [u8],
-    line: &[u8],
-    out: &mut [u8; LONGEST_TEXT],
-) -> usize
+pub fn answer_store(state: &[u8; STATE], memory: &mut [u8], line: &[u8], out: &mut [u8]) -> usize
+    requires { longest_text ≤ length out.old }
     ensures { Does (store_effect line.now state.now memory.old) result state.now memory.new out.old out.new }
 {
     let process = Number::start(5).then(line, 7);

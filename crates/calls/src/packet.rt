@@ -3,13 +3,13 @@ ghost use Rattle.std.specs.Prelude.{◌≡◌, ◌+◌, ◌*◌, ◌≤◌, fals
 ghost use Rattle.lists.specs.Joined.{joined};
 ghost use Rattle.format.specs.Outcome.{length_of};
 ghost use Rattle.lines.specs.Scan.{Put};
-ghost use Rattle.calls.specs.Effect.{Prints, Does};
+ghost use Rattle.calls.specs.Effect.{longest_text, Prints, Does};
 ghost use Rattle.calls.specs.Packet.{most_words, last_in, data_in, packet_in, IsPacket, acknowledged, word_text, ack_line, packet_shown};
 ghost use Rattle.calls.specs.Meaning.{zero_ack, packet_made, packet_effect};
 
 use crate::call::put_numbered;
 use crate::show::answer_unknown;
-use crate::{LONGEST_TEXT, MEMORY, STATE};
+use crate::{MEMORY, STATE};
 use decimal::{Number, put_field, put_number};
 use format::{Refusal, number_of};
 use gateway::packet;
@@ -145,8 +145,9 @@ fn make_packet(
     kind: u8,
     id: u32,
     words: &[u16],
-    out: &mut [u8; LONGEST_TEXT],
+    out: &mut [u8],
 ) -> usize
+    requires { longest_text ≤ length out.old }
     ensures { Does (packet_made kind id words.now state.old memory.old) result state.new memory.new out.old out.new }
 {
     let mut ack = zero_ack();
@@ -161,8 +162,9 @@ pub fn answer_packet(
     state: &mut [u8; STATE],
     memory: &mut [u8; MEMORY],
     line: &[u8],
-    out: &mut [u8; LONGEST_TEXT],
+    out: &mut [u8],
 ) -> usize
+    requires { longest_text ≤ length out.old }
     ensures { Does (packet_effect line.now state.old memory.old) result state.new memory.new out.old out.new }
 {
     let Some(Packet { kind, id, data }) = read_packet(line) else {

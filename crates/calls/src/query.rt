@@ -2,11 +2,11 @@
 ghost use Rattle.std.specs.Prelude.{◌≡◌, ◌≤◌, length};
 ghost use Rattle.lines.specs.declared.scan.Phase.TheVariants.{Open};
 ghost use Rattle.lines.specs.Scan.{bytes_of};
-ghost use Rattle.calls.specs.Effect.{Does};
+ghost use Rattle.calls.specs.Effect.{longest_text, Does};
 ghost use Rattle.calls.specs.Meaning.{recounted, why_made, why_effect};
 
 use crate::show::answer_unknown;
-use crate::{KEPT, LONGEST_TEXT, STATE};
+use crate::{KEPT, STATE};
 use display::put_reason;
 use gateway::why;
 use lines::{Phase, Scan, at_most};
@@ -30,8 +30,9 @@ fn make_why(
     state: &[u8; STATE],
     memory: &[u8],
     message: &[u8],
-    out: &mut [u8; LONGEST_TEXT],
+    out: &mut [u8],
 ) -> usize
+    requires { longest_text ≤ length out.old }
     ensures { Does (why_made count message.now state.now memory.now) result state.now memory.now out.old out.new }
 {
     let reason = recounted(count, why(state, message));
@@ -46,8 +47,9 @@ pub fn answer_why(
     state: &[u8; STATE],
     memory: &[u8],
     pairs: &[u8],
-    out: &mut [u8; LONGEST_TEXT],
+    out: &mut [u8],
 ) -> usize
+    requires { longest_text ≤ length out.old }
     ensures { Does (why_effect phase count (bytes_of Open pairs.now) state.now memory.now) result state.now memory.now out.old out.new }
 {
     if !phase.is_full() {

@@ -5,10 +5,10 @@ ghost use Rattle.process.specs.Sizes.{memory_bytes};
 ghost use Rattle.state.specs.Records.{start_of};
 ghost use Rattle.state.specs.Layout.{slot};
 ghost use Rattle.state_bytes.specs.State.{state_of};
-ghost use Rattle.calls.specs.Effect.{memory_size, Prints, Does};
+ghost use Rattle.calls.specs.Effect.{longest_text, memory_size, Prints, Does};
 ghost use Rattle.calls.specs.Meaning.{unknown_effect, ends_within, memory_effect, whole_memory_effect, process_effect};
 
-use crate::{LONGEST_TEXT, MEMORY, STATE};
+use crate::{MEMORY, STATE};
 use decimal::Number;
 use display::put_process;
 use lines::{at_most, put, put_pairs};
@@ -19,7 +19,8 @@ use state_bytes::{read_extent_at, read_process_at, read_start};
 const LONGEST_WHOLE: usize = 256;
 
 // A line that is no call.
-pub fn answer_unknown(state: &[u8], memory: &[u8], out: &mut [u8; LONGEST_TEXT]) -> usize
+pub fn answer_unknown(state: &[u8], memory: &[u8], out: &mut [u8]) -> usize
+    requires { longest_text ≤ length out.old }
     ensures { Does (unknown_effect state.now memory.now) result state.now memory.now out.old out.new }
 {
     put(b"?\n", 0, out)
@@ -43,9 +44,10 @@ pub(crate) fn place(state: &[u8; STATE], p: usize, address: usize) -> usize
 }
 
 // Puts so many bytes of memory from an index on, as far as it reaches, as a line.
-fn put_slot(from: usize, count: usize, memory: &[u8], out: &mut [u8; LONGEST_TEXT]) -> usize
+fn put_slot(from: usize, count: usize, memory: &[u8], out: &mut [u8]) -> usize
     requires count_le_memory_bytes { count ≤ memory_bytes }
     requires memory_len { length memory.now ≡ memory_size }
+    requires longest_text_in_bounds { longest_text ≤ length out.old }
     ensures { Prints (pairs_line (slot from count memory.now)) result out.old out.new }
 {
     let start = at_most(from, memory);
@@ -54,13 +56,9 @@ fn put_slot(from: usize, count: usize, memory: &[u8], out: &mut [u8; LONGEST_TEX
 }
 
 // memory P ADDRESS COUNT
-pub fn answer_memory(
-    state: &[u8; STATE],
-    memory: &[u8],
-    line: &[u8],
-    out: &mut [u8; LONGEST_TEXT],
-) -> usize
+pub fn answer_memory(state: &[u8; STATE], memory: &[u8], line: &[u8], out: &mut [u8]) -> usize
     requires memory_len { length memory.now ≡ memory_size }
+    requires longest_text_in_bounds { longest_text ≤ length out.old }
     ensures { Does (memory_effect line.now state.now memory.now) result state.now memory.now out.old out.new }
 {
     let process = Number::start(6).then(line, 7);
@@ -75,8 +73,9 @@ pub fn answer_memory(
 }
 
 // whole ADDRESS COUNT
-pub fn answer_whole(state: &[u8], memory: &[u8], line: &[u8], out: &mut [u8; LONGEST_TEXT]) -> usize
+pub fn answer_whole(state: &[u8], memory: &[u8], line: &[u8], out: &mut [u8]) -> usize
     requires memory_len { length memory.now ≡ memory_size }
+    requires longest_text_in_bounds { longest_text ≤ length out.old }
     ensures { Does (whole_memory_effect line.now state.now memory.now) result state.now memory.now out.old out.new }
 {
     let address = Number::start(5).then(line, MEMORY);
@@ -88,12 +87,8 @@ pub fn answer_whole(state: &[u8], memory: &[u8], line: &[u8], out: &mut [u8; LON
 }
 
 // process P
-pub fn answer_process(
-    state: &[u8; STATE],
-    memory: &[u8],
-    line: &[u8],
-    out: &mut [u8; LONGEST_TEXT],
-) -> usize
+pub fn answer_process(state: &[u8; STATE], memory: &[u8], line: &[u8], out: &mut [u8]) -> usize
+    requires { longest_text ≤ length out.old }
     ensures { Does (process_effect line.now state.now memory.now) result state.now memory.now out.old out.new }
 {
     let process = Number::start(7).then(line, 7);

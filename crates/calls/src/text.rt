@@ -2,12 +2,12 @@
 ghost use Rattle.std.specs.Prelude.{◌≡◌, [], ◌∷◌, ◌++◌, ◌+◌, ◌≤◌, length, take};
 ghost use Rattle.lines.specs.declared.scan.Phase.TheVariants.{Open};
 ghost use Rattle.lines.specs.Scan.{bytes_of, Put};
-ghost use Rattle.calls.specs.Effect.{line_size, Prints, Does};
+ghost use Rattle.calls.specs.Effect.{longest_text, line_size, Prints, Does};
 ghost use Rattle.calls.specs.Shown.{text_shown, mark_of, beside_notice};
 ghost use Rattle.calls.specs.Meaning.{zero_line, text_made, text_effect, raw_effect};
 
 use crate::show::answer_unknown;
-use crate::{LINE, LINE_KEPT, LONGEST_TEXT, MEMORY, STATE};
+use crate::{LINE, LINE_KEPT, MEMORY, STATE};
 use decimal::put_number;
 use format::number_of;
 use gateway::{line_length, text_line};
@@ -86,8 +86,9 @@ fn make_text(
     state: &mut [u8; STATE],
     memory: &mut [u8; MEMORY],
     text: &[u8],
-    out: &mut [u8; LONGEST_TEXT],
+    out: &mut [u8],
 ) -> usize
+    requires { longest_text ≤ length out.old }
     ensures { Does (text_made shown text.now state.old memory.old) result state.new memory.new out.old out.new }
 {
     let mut line = zero_line();
@@ -112,8 +113,9 @@ pub fn answer_text(
     state: &mut [u8; STATE],
     memory: &mut [u8; MEMORY],
     text: &[u8],
-    out: &mut [u8; LONGEST_TEXT],
+    out: &mut [u8],
 ) -> usize
+    requires { longest_text ≤ length out.old }
     ensures { Does (text_effect shown text.now state.old memory.old) result state.new memory.new out.old out.new }
 {
     let mut line = [0u8; LINE_KEPT];
@@ -127,8 +129,9 @@ pub fn answer_raw(
     state: &mut [u8; STATE],
     memory: &mut [u8; MEMORY],
     pairs: &[u8],
-    out: &mut [u8; LONGEST_TEXT],
+    out: &mut [u8],
 ) -> usize
+    requires { longest_text ≤ length out.old }
     ensures { Does (raw_effect phase (bytes_of Open pairs.now) state.old memory.old) result state.new memory.new out.old out.new }
 {
     if !phase.is_full() {

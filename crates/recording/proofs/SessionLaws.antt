@@ -5,8 +5,7 @@ use mathlib.Core.List.{List, [], ◌∷◌, ◌++◌}
 use Prim.Native.Nat.{ℕ, suc, ◌+◌, ◌-◌, ◌≤◌, ◌<◌}
 use native.Mathlib.Numerals.{add-one}
 use native.Mathlib.Omega.{arith}
-use borrow.Author.Tests.{lt-ltb, le-ltb, ne_eqb}
-use Rattle.std.proofs.lemmas.List.{append_assoc, drop-append-le}
+use borrow.Author.Tests.{ltb-false, le-ltb, eq-eqb}
 use lib.ListN.{length, take, drop, get_or, set, length-append, length-drop, take-append-drop, drop_of_length-le}
 use lib.Seq.{take_all, take-append_seam, take-suc-set, length-take-le, drop-append_seam, drop-cons, drop-drop}
 use lib.Dec.{eqb}
@@ -20,7 +19,7 @@ use Rattle.recording.specs.declared.partial.Partial.{Partial}
 use Rattle.recording.specs.declared.feeding.Step as code_step
 use Rattle.recording.specs.Command.{begins, raw_word, why_word}
 use Rattle.recording.specs.Line.{pairs_behind, pairs_from, capped}
-use Rattle.recording.specs.Session.{Reading, reading, nothing_read, phase_after, typed, Session, session, line_ended, stepped, waits, Fed, fed_to, fed, through, Stays, Steps, Feeds}
+use Rattle.recording.specs.Session.{Reading, reading, nothing_read, phase_after, typed, Session, session, line_ended, stepped, waits, Fed, fed_to, fed, through, Steps, Feeds}
 
 -- a recording's pairs begin within the first bytes
 behind-within : (line : List ℕ) → pairs_behind line ≤ 8
@@ -70,38 +69,14 @@ module _ (first c len size more : ℕ) (phase next : Phase) (line : List ℕ) (r
 
 -- ---- a line that ends
 
-&&-false : (t : Bool) → t && false ≡ false
-&&-false true = refl
-&&-false false = refl
-
-pub no-wait : (c n : ℕ) → 16384 ≤ n → waits c n ≡ false
+pub waits-room : (c n : ℕ) → waits c n ≡ false → c ≡ 10 → 16384 ≤ n
 unfolding waits
-no-wait c n h = rw (le-ltb n 16384 h) (&&-false (eqb c 10))
-
-pub line-waits : (c n : ℕ) → c ≡ 10 → n < 16384 → waits c n ≡ true
-unfolding waits
-line-waits c n e h = rw (e, lt-ltb n 16384 h) refl
-
-pub other-goes : (c n : ℕ) → (c ≡ 10 → ⊥) → waits c n ≡ false
-unfolding waits
-other-goes c n other = rw (ne_eqb c 10 other) refl
+waits-room c n w e = ltb-false n 16384 (rw (eq-eqb c 10 e) at w)
 
 pub steps-ended : (e : Effect) (r : code_step.Step) (line s m before after : List ℕ) → reading r.partial line ≡ nothing_read
     → Does e r.len s m before after → Steps (line_ended e) r line s m before after
 unfolding line_ended
 steps-ended e r line s m before after N d = record { session = rw (N, d.state, d.memory) refl; text = d.text }
-
--- a text at the start of the first bytes of a buffer stands at the start of the buffer
-pub prints-front : (text : List ℕ) (len k : ℕ) (out room : List ℕ) → k ≤ length out → Prints text len (take k out) room → Prints text len out (room ++ drop k out)
-unfolding overlay
-prints-front text len k out room h p =
-    let front : length (take k out) ≡ k = length-take-le k out h in
-    let behind = sym (drop-append-le (length text) (take k out) (drop k out) (omega (arith, p.size, p.fits))) ∙ ap (drop (length text)) (take-append-drop k out) in
-    record {
-      size = p.size;
-      fits = omega (arith, p.fits, front, h);
-      laid = ap (λ (l : List ℕ). l ++ drop k out) p.laid ∙ append_assoc text (drop (length text) (take k out)) (drop k out) ∙ ap (λ (l : List ℕ). text ++ l) behind;
-    }
 
 -- ---- a turn of the loop over a block
 
@@ -146,27 +121,22 @@ module _ (l : Language) (block : List ℕ) (at len : ℕ) (x : Session) (out out
   left : length out₀ - length (take len out) ≡ length out - len
   left = omega (arith, length-take-le len out h, S)
 
-  -- the part of the buffer that is left
-  room : length (take (length out - len) (drop len out)) ≡ length out - len
-  room = length-take-le (length out - len) (drop len out) (omega (arith, length-drop len out))
-
   -- one character was read
-  pub turn : (r : code_step.Step) (line s m last : List ℕ) → at < length block
-      → (waits (get_or block at 0) (length (take (length out - len) (drop len out))) ≡ false)
-      × Steps (stepped l (get_or block at 0) x) r line s m (take (length out - len) (drop len out)) last
+  pub turn : (r : code_step.Step) (line s m last : List ℕ) → at < length block → waits (get_or block at 0) (length out - len) ≡ false
+      → Steps (stepped l (get_or block at 0) x) r line s m (take (length out - len) (drop len out)) last
       → (goal : Fed) → fed l (length out₀) x (take len out) (drop at block) ≡ goal
       → (len + r.len ≤ length (take len out ++ (last ++ drop (length out - len) (drop len out))))
       × (length (take len out ++ (last ++ drop (length out - len) (drop len out))) ≡ length out₀)
       × (drop (len + r.len) (take len out ++ (last ++ drop (length out - len) (drop len out))) ≡ drop (len + r.len) out₀)
       × (fed l (length out₀) (session (reading r.partial line) s m) (take (len + r.len) (take len out ++ (last ++ drop (length out - len) (drop len out)))) (drop (at + 1) block) ≡ goal)
   unfolding fed
-  turn r line s m last b (wait, e) goal G =
-      let w : waits (get_or block at 0) (length out - len) ≡ false = rw room at wait in
+  turn r line s m last b w e goal G =
       let text = (stepped l (get_or block at 0) x).text in
       let n = r.len in
       let N = e.text.size in
       let T = e.text.laid in
-      let fits : len + n ≤ length out = omega (arith, e.text.fits, room, h) in
+      let part : length (take (length out - len) (drop len out)) ≡ length out - len = length-take-le (length out - len) (drop len out) (omega (arith, length-drop len out)) in
+      let fits : len + n ≤ length out = omega (arith, e.text.fits, part, h) in
       let same = length-after len n text out last h N T fits in
       let cons : drop at block ≡ get_or block at 0 ∷ drop (at + 1) block = drop-cons block at 0 b ∙ ap (λ (k : ℕ). get_or block at 0 ∷ drop k block) (sym (add-one at)) in
       let next : fed l (length out₀) (stepped l (get_or block at 0) x).session (take len out ++ text) (drop (at + 1) block) ≡ goal = rw (cons, left, w) at G in (
@@ -177,18 +147,13 @@ module _ (l : Language) (block : List ℕ) (at len : ℕ) (x : Session) (out out
       )
 
   -- the next line might not fit
-  pub feeds-wait : (partial : Partial) (line s m line₁ s₁ m₁ last : List ℕ) (start : Fed) → x ≡ session (reading partial line) s m → at < length block
-      → Stays (get_or block at 0) line s m line₁ s₁ m₁ (take (length out - len) (drop len out)) last
-      → fed l (length out₀) x (take len out) (drop at block) ≡ start
-      → Feeds start (record { partial = partial; used = at; len = len }) block line₁ s₁ m₁ out₀ (take len out ++ (last ++ drop (length out - len) (drop len out)))
+  pub feeds-wait : (partial : Partial) (line s m : List ℕ) (start : Fed) → x ≡ session (reading partial line) s m → at < length block → waits (get_or block at 0) (length out - len) ≡ true
+      → fed l (length out₀) x (take len out) (drop at block) ≡ start → Feeds start (record { partial = partial; used = at; len = len }) block line s m out₀ out
   unfolding fed
-  feeds-wait partial line s m line₁ s₁ m₁ last start X b k G =
+  feeds-wait partial line s m start X b w G =
       let cons : drop at block ≡ get_or block at 0 ∷ drop (at + 1) block = drop-cons block at 0 b ∙ ap (λ (k : ℕ). get_or block at 0 ∷ drop k block) (sym (add-one at)) in
-      let w : waits (get_or block at 0) (length out - len) ≡ true = rw room at k.waits in
       let stop : fed_to x (take len out) (get_or block at 0 ∷ drop (at + 1) block) ≡ start = rw (cons, left, w) at G in
-      let same : take len out ++ (last ++ drop (length out - len) (drop len out)) ≡ out =
-      rw k.buffer (ap (λ (l : List ℕ). take len out ++ l) (take-append-drop (length out - len) (drop len out)) ∙ take-append-drop len out) in
-      rw (← stop, k.line, k.state, k.memory, same) (record { session = sym X; used = omega (arith, length-drop (at + 1) block, b); text = laid-so-far len out out₀ h S D })
+      rw (← stop) (record { session = sym X; used = omega (arith, length-drop (at + 1) block, b); text = laid-so-far len out out₀ h S D })
 
   -- the block is at its end
   pub feeds-all : (partial : Partial) (line s m : List ℕ) (start : Fed) → x ≡ session (reading partial line) s m → at ≡ length block
@@ -234,6 +199,14 @@ fed-end l size x text block =
     let rest : List ℕ = (fed l size x text block).rest in
     let same : length block - length rest ≡ length e.used = omega (arith, ap (λ (l : List ℕ). length l) e.whole, length-append e.used rest) in
     ap (λ (k : ℕ). drop k block) same ∙ ap (drop (length e.used)) (sym e.whole) ∙ drop-append_seam e.used rest
+
+&&-false : (t : Bool) → t && false ≡ false
+&&-false true = refl
+&&-false false = refl
+
+no-wait : (c n : ℕ) → 16384 ≤ n → waits c n ≡ false
+unfolding waits
+no-wait c n h = rw (le-ltb n 16384 h) (&&-false (eqb c 10))
 
 -- with room for a line, something is used of every block
 pub fed-moves : (l : Language) (size : ℕ) (x : Session) (block : List ℕ) → 16384 ≤ size → 0 < length block → length (fed l size x [] block).rest < length block

@@ -1,5 +1,5 @@
 -- A text that is read character by character: what is kept of a line that has not ended, and what a block of text does and prints.
-use Rattle.std.specs.Prelude.{◌≡◌, Bool, true, cond, ◌&&◌, List, [], ◌∷◌, ◌++◌, ℕ, ◌+◌, ◌-◌, length, take, ltb}
+use Rattle.std.specs.Prelude.{◌≡◌, Bool, cond, ◌&&◌, List, [], ◌∷◌, ◌++◌, ℕ, ◌+◌, ◌-◌, length, take, ltb}
 use Rattle.lines.specs.declared.scan.Phase.{Phase}
 use Rattle.lines.specs.declared.scan.Phase.TheVariants.{Open}
 use Rattle.lines.specs.Scan.{next, is_newline}
@@ -95,14 +95,6 @@ fed l size x text (c ∷ cs) =
 unfoldable pub through : Language → Session → List ℕ → Session
 through l x [] = x
 through l x (c ∷ cs) = through l (stepped l c x).session cs
-
--- a character waits for room, and a function did nothing: the line's buffer, state, memory and the buffer are as before
-pub record Stays (c : ℕ) (l₀ s₀ m₀ l s m before after : List ℕ) : Type 0 where
-  pub waits : waits c (length before) ≡ true
-  pub line : l ≡ l₀
-  pub state : s ≡ s₀
-  pub memory : m ≡ m₀
-  pub buffer : after ≡ before
 
 -- a function did one step: the line's buffer, state and memory after it, and the text at the start of a buffer
 pub record Steps (e : Step) (r : code_step.Step) (line s m before after : List ℕ) : Type 0 where

@@ -1,8 +1,8 @@
 // A block of text, whose lines are carried out one after another.
-ghost use Rattle.std.specs.Prelude.{◌≡◌, false, [], length, MatchOption};
-ghost use Rattle.calls.specs.Effect.{Does};
+ghost use Rattle.std.specs.Prelude.{◌≡◌, false, [], ◌≤◌, length};
+ghost use Rattle.calls.specs.Effect.{longest_text, Does};
 ghost use Rattle.recording.specs.Line.{pairs_from, line_effect};
-ghost use Rattle.recording.specs.Session.{reading, session, waits, stepped, fed, Stays, Steps, Feeds};
+ghost use Rattle.recording.specs.Session.{reading, session, waits, stepped, fed, Steps, Feeds};
 
 use crate::KEPT;
 use crate::language::Language;
@@ -33,8 +33,9 @@ fn end_line(
     state: &mut [u8; STATE],
     memory: &mut [u8; MEMORY],
     line: &[u8],
-    out: &mut [u8; LONGEST_TEXT],
+    out: &mut [u8],
 ) -> usize
+    requires { longest_text ≤ length out.old }
     ensures { Does (line_effect language partial.phase partial.size (reading partial line.now).line state.old memory.old) result state.new memory.new out.old out.new }
 {
     let n = at_most(partial.len, line);
@@ -57,8 +58,15 @@ fn pairs_begin(language: Language, partial: Partial, line: &[u8]) -> usize
     language.pairs_from(&line[..n])
 }
 
-// One character: a newline ends the line, which is then carried out. Where the room may be too little for the text of a line, a newline waits:
-// then nothing is done.
+// Whether a character has to wait until there is room for the text of a line.
+#[tactic(auto, unfolding(crate::specs::Session::waits))]
+fn must_wait(c: u8, room: usize) -> bool
+    ensures { result ≡ waits c room }
+{
+    c == b'\n' && room < LONGEST_TEXT
+}
+
+// One character: a newline ends the line, which is then carried out.
 fn read_character(
     language: Language,
     partial: Partial,
@@ -67,22 +75,22 @@ fn read_character(
     memory: &mut [u8; MEMORY],
     line: &mut [u8; KEPT],
     out: &mut [u8],
-) -> Option<Step>
-    ensures { MatchOption result (Stays c line.old state.old memory.old line.new state.new memory.new out.old out.new) (λ step. (waits c (length out.old) ≡ false) × Steps (stepped language c (session (reading partial line.old) state.old memory.old)) step line.new state.new memory.new out.old out.new) }
+) -> Step
+    requires { waits c (length out.old) ≡ false }
+    ensures { Steps (stepped language c (session (reading partial line.old) state.old memory.old)) result line.new state.new memory.new out.old out.new }
 {
     if c != b'\n' {
         let first = pairs_begin(language, partial, line);
-        return Some(Step {
+        return Step {
             partial: partial.push(first, c, line),
             len: 0,
-        });
+        };
     }
-    let room = out.first_chunk_mut::<LONGEST_TEXT>()?;
-    let len = end_line(language, partial, state, memory, line, room);
-    Some(Step {
+    let len = end_line(language, partial, state, memory, line, out);
+    Step {
         partial: Partial::new(),
         len,
-    })
+    }
 }
 
 // Feeds a block of text, which may begin and end within a line. Stops before the end of a line whose text might not fit: the rest of the
@@ -101,7 +109,14 @@ pub fn feed(
     let mut now = partial;
     let mut len = 0;
     for at in 0..block.len() {
-        let Some(step) = read_character(
+        if must_wait(block[at], out.len() - len) {
+            return Fed {
+                partial: now,
+                used: at,
+                len,
+            };
+        }
+        let step = read_character(
             language,
             now,
             block[at],
@@ -109,13 +124,7 @@ pub fn feed(
             memory,
             line,
             &mut out[len..],
-        ) else {
-            return Fed {
-                partial: now,
-                used: at,
-                len,
-            };
-        };
+        );
         now = step.partial;
         len += step.len;
     }

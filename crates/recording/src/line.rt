@@ -1,14 +1,14 @@
 // The answer to one line.
-ghost use Rattle.std.specs.Prelude.{◌≡◌};
-ghost use Rattle.calls.specs.Effect.{Does};
+ghost use Rattle.std.specs.Prelude.{◌≡◌, ◌≤◌, length};
+ghost use Rattle.calls.specs.Effect.{longest_text, Does};
 ghost use Rattle.recording.specs.Line.{pairs_in, command_effect, line_effect};
 
 use crate::command::{Command, begins, command_of};
 use crate::language::Language;
 use calls::{
-    LONGEST_TEXT, MEMORY, STATE, Shown, answer_memory, answer_packet, answer_process, answer_raw,
-    answer_report, answer_request, answer_start, answer_store, answer_text, answer_tick,
-    answer_unknown, answer_whole, answer_why,
+    MEMORY, STATE, Shown, answer_memory, answer_packet, answer_process, answer_raw, answer_report,
+    answer_request, answer_start, answer_store, answer_text, answer_tick, answer_unknown,
+    answer_whole, answer_why,
 };
 use lines::{Phase, at_most};
 
@@ -29,8 +29,9 @@ fn answer_command(
     state: &mut [u8; STATE],
     memory: &mut [u8; MEMORY],
     line: &[u8],
-    out: &mut [u8; LONGEST_TEXT],
+    out: &mut [u8],
 ) -> usize
+    requires { longest_text ≤ length out.old }
     ensures { Does (command_effect shown phase size line.now state.old memory.old command) result state.new memory.new out.old out.new }
 {
     let request = at_most(8, line);
@@ -60,8 +61,9 @@ fn answer_at_door(
     state: &mut [u8; STATE],
     memory: &mut [u8; MEMORY],
     line: &[u8],
-    out: &mut [u8; LONGEST_TEXT],
+    out: &mut [u8],
 ) -> usize
+    requires { longest_text ≤ length out.old }
     ensures { Does (line_effect Language.TextDoor phase size line.now state.old memory.old) result state.new memory.new out.old out.new }
 {
     if begins(line, b"0x") {
@@ -87,8 +89,9 @@ pub(crate) fn answer_line(
     state: &mut [u8; STATE],
     memory: &mut [u8; MEMORY],
     line: &[u8],
-    out: &mut [u8; LONGEST_TEXT],
+    out: &mut [u8],
 ) -> usize
+    requires { longest_text ≤ length out.old }
     ensures { Does (line_effect language phase size line.now state.old memory.old) result state.new memory.new out.old out.new }
 {
     match language {

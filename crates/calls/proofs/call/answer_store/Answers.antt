@@ -24,7 +24,7 @@ returns-then-not-ends_within c =
     rw (← is.2, ← is.1, ← is.0) (does-wrong _ _ _ _ _ _ _ _ _ wrong c.answer_unknown.ensures)
 
 pub put-requires : goal.put-requires
-put-requires c = omega arith
+put-requires c = omega (arith, c.requires)
 
 pub returns : goal.returns
 unfolding store_effect machine_stored
@@ -36,5 +36,5 @@ returns c =
     (does-right _ _ _ _ _ _ _ _ _ right (record {
       state = refl;
       memory = c.store.ensures ∙ ap (λ (k : ℕ). set c.args.memory.now k c.then-byte.result.value) c.place-at.ensures;
-      text = prints-put ok _ _ _ (omega arith) c.put.ensures;
+      text = prints-put ok _ _ _ (omega (arith, c.requires)) c.put.ensures;
     }))

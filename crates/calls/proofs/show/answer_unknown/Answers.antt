@@ -8,4 +8,4 @@ use Rattle.calls.proofs.show.answer_unknown.Goals as goal
 
 pub returns : goal.returns
 unfolding unknown_effect
-returns c = record { state = refl; memory = refl; text = prints-put (63 ∷ 10 ∷ []) _ _ _ (omega arith) c.put.ensures }
+returns c = record { state = refl; memory = refl; text = prints-put (63 ∷ 10 ∷ []) _ _ _ (omega (arith, c.requires)) c.put.ensures }
