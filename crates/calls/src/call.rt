@@ -148,7 +148,7 @@ pub fn answer_start(
 {
     let word = at_most(5, line);
     let listing = Listing::new().part(&line[word..]);
-    if !listing.is_complete() {
+    if !listing.place.is_complete() {
         return answer_unknown(state, memory, out);
     }
     make_start(state, memory, listing, out)

@@ -4,6 +4,7 @@ ghost use Rattle.std.specs.Prelude.{◌≡◌, true, ◌+◌, ◌-◌, ◌*◌, 
 ghost use Rattle.calls.specs.Listing.{is_digit, goes_on, at, named, sized, size_of, doored, only, empty, next_in, next_listing, listed, complete};
 
 use process::MEMORY_BYTES;
+use std::marker::Model;
 
 // No size is greater, whether a process may have it or not.
 const MOST_SIZE: u16 = 65535;
@@ -37,11 +38,60 @@ pub enum Place {
     Wrong,
 }
 
+impl Place {
+    // Whether the line may end here.
+    #[tactic(auto, unfolding(crate::specs::Listing::complete))]
+    pub fn is_complete(self) -> bool
+        ensures { result ≡ complete self }
+    {
+        matches!(
+            self,
+            Place::Behind | Place::Named | Place::Sized | Place::Door
+        )
+    }
+}
+
+// The number of a process, below 8: so no function here has to ask for that.
+#[derive(Clone, Copy)]
+pub struct ProcessNumber {
+    number: usize,
+}
+
+impl Model for ProcessNumber {
+    ghost use Rattle.std.specs.Prelude.{ℕ, ◌<◌};
+
+    ghost Value = { ℕ };
+
+    ghost view = { λ n. n.number };
+
+    ghost invariant = { λ n. n.number < 8 };
+
+    ghost inverse = { λ n. record { number = n } };
+}
+
+impl ProcessNumber {
+    // The process with this number.
+    fn new(number: usize) -> ProcessNumber
+        requires { number < 8 }
+        ensures { result ≡ number }
+    {
+        ProcessNumber { number }
+    }
+
+    // Its number.
+    fn number(self) -> usize
+        ensures value { result ≡ self }
+        ensures process_bound { result < 8 }
+    {
+        self.number
+    }
+}
+
 // Where the reading after the word stands, which process was named last, which were listed, the size of each, and the process of the Pup door.
 #[derive(Clone, Copy)]
 pub struct Listing {
     pub place: Place,
-    pub process: usize,
+    pub process: ProcessNumber,
     pub there: [bool; 8],
     pub sizes: [u16; 8],
     pub door: u8,
@@ -70,7 +120,7 @@ impl Listing {
     {
         Listing {
             place: Place::Behind,
-            process: 0,
+            process: ProcessNumber::new(0),
             there: [false; 8],
             sizes: [MEMORY_BYTES as u16; 8],
             door: NO_DOOR,
@@ -90,7 +140,7 @@ impl Listing {
         ensures { result ≡ named p self }
     {
         self.place = Place::Named;
-        self.process = p;
+        self.process = ProcessNumber::new(p);
         self.there[p] = true;
         self.sizes[p] = MEMORY_BYTES as u16;
         self
@@ -98,11 +148,10 @@ impl Listing {
 
     // This is the size so far of the process that was named last.
     fn sized(mut self, size: u16) -> Listing
-        requires { self.process < 8 }
         ensures { result ≡ sized size self }
     {
         self.place = Place::Sized;
-        self.sizes[self.process] = size;
+        self.sizes[self.process.number()] = size;
         self
     }
 
@@ -153,7 +202,6 @@ impl Listing {
     // After a colon.
     #[tactic(auto, unfolding(crate::specs::Listing::next_in, crate::specs::Listing::is_digit))]
     fn after_colon(self, c: u8) -> Listing
-        requires { self.process < 8 }
         ensures { result ≡ next_in Place.Colon c self }
     {
         if is_digit(b'9', c) {
@@ -164,10 +212,9 @@ impl Listing {
 
     // After a digit of a size.
     fn after_digit(self, c: u8) -> Listing
-        requires { self.process < 8 }
         ensures { result ≡ next_in Place.Sized c self }
     {
-        let size = self.sizes[self.process];
+        let size = self.sizes[self.process.number()];
         if goes_on(MOST_SIZE, size, c) {
             return self.sized(10 * size + ((c - b'0') as u16));
         }
@@ -196,10 +243,9 @@ impl Listing {
     }
 
     // One character more.
+    #[tactic(auto, unfolding(crate::specs::Listing::next_in))]
     fn push(self, c: u8) -> Listing
-        requires { self.process < 8 }
-        ensures value { result ≡ next_listing self c }
-        ensures process_bound { result.process < 8 }
+        ensures { result ≡ next_listing self c }
     {
         match self.place {
             Place::Behind => self.only(b' ', Place::Before, c),
@@ -218,7 +264,6 @@ impl Listing {
 
     // A part of the line.
     pub fn part(self, text: &[u8]) -> Listing
-        requires { self.process < 8 }
         ensures { result ≡ listed self text.now }
     {
         let mut listing = self;
@@ -226,16 +271,5 @@ impl Listing {
             listing = listing.push(*c);
         }
         listing
-    }
-
-    // Whether the line may end here.
-    #[tactic(auto, unfolding(crate::specs::Listing::complete))]
-    pub fn is_complete(self) -> bool
-        ensures { result ≡ complete self.place }
-    {
-        matches!(
-            self.place,
-            Place::Behind | Place::Named | Place::Sized | Place::Door
-        )
     }
 }

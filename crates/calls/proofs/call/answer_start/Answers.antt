@@ -1,15 +1,11 @@
 -- `calls::call::answer_start` meets its contract, by whether the line may end. Assumes nothing.
 use mathlib.Core.Path.{◌≡◌, sym, ap, ◌∙◌}
 use mathlib.Core.Bool.{true, false}
-use native.Mathlib.Omega.{arith}
 use Rattle.calls.specs.declared.listing.Listing.{Listing}
 use Rattle.calls.specs.Listing.{complete}
 use Rattle.calls.specs.Meaning.{start_listing, start_effect}
 use Rattle.calls.proofs.MeaningLaws.{does-right, does-wrong, start-listing}
 use Rattle.calls.proofs.call.answer_start.Goals as goal
-
-pub part-listing-requires : goal.part-listing-requires
-part-listing-requires c = rw c.new.ensures (omega arith)
 
 pub returns-then-not-is_complete : goal.returns-then-not-is_complete
 unfolding start_effect
