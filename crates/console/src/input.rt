@@ -25,11 +25,11 @@ fn read<R: Read>(input: &mut R, block: &mut [u8]) -> io::Result<usize>
     Ok(0)
 }
 
-// A gateway that plays lines in a language: what was read of a line that has not ended, the bytes that are kept of it, the gateway's state and
-// memory, and room for what a block prints.
+// A gateway that plays lines: what was read of a line that has not ended, the bytes that are kept of it, the gateway's state and memory, and room for
+// what a block prints. The language is none of its fields: each program has one, and what is passed on as a parameter is compiled for that one, where
+// a field would be asked at each character.
 #[derive(Drop)]
 struct Gateway {
-    language: Language,
     partial: Partial,
     line: [u8; KEPT],
     state: [u8; STATE],
@@ -43,7 +43,6 @@ impl Gateway {
         let mut state = [0u8; STATE];
         begin(language, &mut state);
         Gateway {
-            language,
             partial: Partial::new(),
             line: [0u8; KEPT],
             state,
@@ -53,15 +52,14 @@ impl Gateway {
     }
 
     // Feeds all of a block, and writes out what it prints, until a write fails; the error of that write.
-    fn play<W: Write>(&mut self, block: &[u8], output: &mut W) -> io::Result<()>
-        ensures session { session_of self.new ≡ through self.old.language (session_of self.old) block.now }
-        ensures language { self.new.language ≡ self.old.language }
+    fn play<W: Write>(&mut self, language: Language, block: &[u8], output: &mut W) -> io::Result<()>
+        ensures { session_of self.new ≡ through language (session_of self.old) block.now }
     {
         let mut done = Ok(());
         let mut rest = block;
         while !rest.is_empty() {
             let fed = feed(
-                self.language,
+                language,
                 self.partial,
                 &mut self.state,
                 &mut self.memory,
@@ -79,14 +77,19 @@ impl Gateway {
     }
 
     // Plays blocks of the input until it ends, or until it cannot be read or nothing can be written.
-    fn play_input<R: Read, W: Write>(&mut self, input: &mut R, output: &mut W) -> io::Result<()> {
+    fn play_input<R: Read, W: Write>(
+        &mut self,
+        language: Language,
+        input: &mut R,
+        output: &mut W,
+    ) -> io::Result<()> {
         let mut block = [0u8; BLOCK];
         for _ in 0..u64::MAX {
             let n = read(input, &mut block)?;
             if n == 0 {
                 return Ok(());
             }
-            self.play(&block[..n], output)?;
+            self.play(language, &block[..n], output)?;
         }
         Ok(())
     }
@@ -97,11 +100,11 @@ fn run<R: Input + Print>(rt: &R, language: Language) -> io::Result<()> {
     let mut input = rt.reader();
     let mut output = io::writer(rt);
     let mut gateway = Gateway::new(language);
-    let done = gateway.play_input(&mut input, &mut output);
+    let done = gateway.play_input(language, &mut input, &mut output);
     if gateway.partial.len == 0 {
         return done;
     }
-    done.and(gateway.play(b"\n", &mut output))
+    done.and(gateway.play(language, b"\n", &mut output))
 }
 
 // Each line is a request.

@@ -19,8 +19,10 @@ fn put_pair(b: u8, at: usize, out: &mut [u8])
     requires { at + 3 ≤ length out.old }
     ensures { out.new ≡ pair_at b at out.old }
 {
+    let [high, low] = pair(b);
     out[at] = b' ';
-    put(&pair(b), at + 1, out);
+    out[at + 1] = high;
+    out[at + 2] = low;
 }
 
 // Each byte after a blank.

@@ -25,16 +25,23 @@ pub struct Scan {
 }
 
 impl Phase {
-    // One character more.
+    // One character more. The phase is asked before the character: of a line that is none, no digit is worked out.
     #[tactic(auto, unfolding(crate::specs::Scan::next, crate::specs::Scan::opened))]
     pub fn next(self, c: u8) -> Phase
         ensures { result ≡ next self c }
     {
-        match (self, digit_value(c)) {
-            (Phase::Open, Some(v)) => Phase::Half(v),
-            (Phase::Half(_), Some(_)) => Phase::Full,
-            (Phase::Full, _) if c == b' ' => Phase::Open,
-            _ => Phase::Bad,
+        match self {
+            Phase::Open => match digit_value(c) {
+                Some(v) => Phase::Half(v),
+                None => Phase::Bad,
+            },
+            Phase::Half(_) => match digit_value(c) {
+                Some(_) => Phase::Full,
+                None => Phase::Bad,
+            },
+            Phase::Full if c == b' ' => Phase::Open,
+            Phase::Full => Phase::Bad,
+            Phase::Bad => self,
         }
     }
 
@@ -60,20 +67,26 @@ impl Scan {
     }
 
     // One character more: the byte that it completes goes to the buffer, if there is room.
-    #[tactic(auto, unfolding(crate::specs::Scan::made, crate::specs::Scan::kept, crate::specs::Scan::filled))]
+    #[tactic(auto, unfolding(crate::specs::Scan::next, crate::specs::Scan::made, crate::specs::Scan::kept, crate::specs::Scan::filled))]
     fn push(self, c: u8, buffer: &mut [u8]) -> Scan
         ensures phase_value { result.phase ≡ next self.phase c }
         ensures len_value { result.len ≡ filled (length buffer.old) self.len (made self.phase c) }
         ensures buffer_after { buffer.new ≡ kept self.len (made self.phase c) buffer.old }
     {
-        let phase = self.phase.next(c);
         let mut len = self.len;
-        if let (Phase::Half(high), Some(low)) = (self.phase, digit_value(c)) {
-            if len < buffer.len() {
-                buffer[len] = high % 16 * 16 + low;
-                len += 1;
-            }
+        let Phase::Half(high) = self.phase else {
+            let phase = self.phase.next(c);
+            return Scan { phase, len };
+        };
+        let Some(low) = digit_value(c) else {
+            let phase = Phase::Bad;
+            return Scan { phase, len };
+        };
+        if len < buffer.len() {
+            buffer[len] = high % 16 * 16 + low;
+            len += 1;
         }
+        let phase = Phase::Full;
         Scan { phase, len }
     }
 

@@ -4,9 +4,9 @@ use mathlib.Core.Bool.{Bool, true, false, ◌&&◌, true≢false}
 use mathlib.Core.List.{List, [], ◌∷◌, ◌++◌}
 use Prim.Native.Nat.{ℕ, zero, suc, ◌≤◌, ◌<◌}
 use native.Mathlib.Omega.{arith}
-use borrow.Author.Tests.{eq-eqb, ne_eqb, eqb-true, eqb-false}
-use lib.ListN.{length, take}
-use lib.Dec.{eqb}
+use borrow.Author.Tests.{eq-eqb, ne_eqb, eqb-true, eqb-false, lt-ltb}
+use lib.ListN.{length, take, get_or}
+use lib.Dec.{eqb, ltb}
 use Rattle.std.specs.List.{starts_with}
 use Rattle.lists.proofs.Bool.{&&-left, &&-right}
 use Rattle.recording.specs.declared.command.Command.{Command}
@@ -21,6 +21,10 @@ begins-short (c ∷ text) (d ∷ line) h = go (eqb d c) (begins-short text line 
     go : (t : Bool) → false ≡ begins text line → false ≡ t && begins text line
     go true e = e
     go false e = refl
+
+and-false : (t : Bool) → t && false ≡ false
+and-false true = refl
+and-false false = refl
 
 eqb-sym : (a b : ℕ) → eqb a b ≡ eqb b a
 eqb-sym a b = go (eqb a b) refl
@@ -50,6 +54,17 @@ unfolding begins
 begins-more [] line more h = refl
 begins-more (c ∷ text) [] more h = absurd (omega (arith, h))
 begins-more (c ∷ text) (d ∷ line) more h = ap (λ (t : Bool). eqb d c && t) (begins-more text line more (omega (arith, h)))
+
+-- a line that has not a blank in the fourth place begins with no word of three letters and a blank
+pub no-fourth-blank : (a b c : ℕ) (line : List ℕ) → ltb 3 (length line) && eqb (get_or line 3 0) 32 ≡ false → begins (a ∷ b ∷ c ∷ 32 ∷ []) line ≡ false
+unfolding begins
+no-fourth-blank a b c [] e = refl
+no-fourth-blank a b c (x ∷ []) e = and-false (eqb x a)
+no-fourth-blank a b c (x ∷ y ∷ []) e = rw (and-false (eqb y b)) (and-false (eqb x a))
+no-fourth-blank a b c (x ∷ y ∷ z ∷ []) e = rw (and-false (eqb z c), and-false (eqb y b)) (and-false (eqb x a))
+no-fourth-blank a b c (x ∷ y ∷ z ∷ w ∷ line) e =
+    let other : eqb w 32 ≡ false = rw (lt-ltb 3 (length (x ∷ y ∷ z ∷ w ∷ line)) (omega arith)) at e in
+    rw (other, and-false (eqb z c), and-false (eqb y b)) (and-false (eqb x a))
 
 -- no line has both words
 pub request-not-raw : (line : List ℕ) → begins request_word line ≡ true → begins raw_word line ≡ true → ⊥

@@ -10,18 +10,16 @@ pub loop-rest-smaller : goal.loop-rest-smaller
 loop-rest-smaller g c =
     let i = c.loop-rest in
     let some : 0 < length i.rest.now = search rules in
-    shorter i.self.language (length i.self.text) (session_of i.self) i.rest.now c.feed-fed.result.used (omega arith) some c.feed-fed.ensures.used
+    shorter c.args.language (length i.self.text) (session_of i.self) i.rest.now c.feed-fed.result.used (omega arith) some c.feed-fed.ensures.used
 
 pub loop-rest-preserved : goal.loop-rest-preserved
 loop-rest-preserved g c =
-    let i = c.loop-rest in (
-      i.invariant.0,
-      turned c.args.self.now.language (length i.self.text) (session_of i.self) _ _ i.rest.now c.feed-fed.result.used (rw i.invariant.0 at c.feed-fed.ensures.session) (rw i.invariant.0 at c.feed-fed.ensures.used) i.invariant.1,
-    )
+    let i = c.loop-rest in
+    turned c.args.language (length i.self.text) (session_of i.self) _ _ i.rest.now c.feed-fed.result.used c.feed-fed.ensures.session c.feed-fed.ensures.used i.invariant
 
-pub returns-clause-session : goal.returns-clause-session
+pub returns : goal.returns
 unfolding through
-returns-clause-session g c =
+returns g c =
     let i = c.loop-rest in
     let none : i.rest.now ≡ [] = nil_from_length i.rest.now (search rules) in
-    rw none at i.invariant.1
+    rw none at i.invariant

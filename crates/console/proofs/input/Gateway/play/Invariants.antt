@@ -6,8 +6,7 @@ use Rattle.console.proofs.input.Gateway.play.Given as goal
 
 abbrev pub invariant-loop-rest : goal.invariant-loop-rest
 invariant-loop-rest g l =
-    (l.self.language ≡ l.fn.self.language)
-    × (through l.fn.self.language (session_of l.self) l.rest ≡ through l.fn.self.language (session_of l.fn.self) l.block)
+    through l.language (session_of l.self) l.rest ≡ through l.language (session_of l.fn.self) l.block
 
 abbrev pub decreases-loop-rest : goal.decreases-loop-rest
 decreases-loop-rest g l = length l.rest
