@@ -61,7 +61,7 @@
 #define PALUSTRODE_GO_REPLY 131
 #define PALUSTRODE_ACK 132
 
-/* The stack that a call needs, in bytes, what it calls included: 1,856 were measured on x86-64 (docs/EMBEDDING.md says how). */
+/* The stack that a call needs, in bytes, what it calls included: 1,824 were measured on x86-64 (docs/EMBEDDING.md says how). */
 #define PALUSTRODE_STACK_BYTES 1936
 
 /* The op codes of requests, in CMD. A CAN'T has PALUSTRODE_CANT added. */

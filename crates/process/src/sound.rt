@@ -53,14 +53,20 @@ impl Process {
         setter == self.host || (setter != 0 && setter == self.session.watcher)
     }
 
-    // No entry before k, which is in use, has its address.
+    // No entry before k, which is in use, has its address: those before it alone are looked at.
     fn address_is_unique(self, k: usize, address: u16) -> bool
         requires k_lt_entry_count { k < entry_count }
         requires k_value { in_use (entry self k) ≡ true }
         requires address_value { address ≡ (entry self k).address }
         ensures { result ≡ address_is_unique self k }
     {
-        self.find(EntryQuery::At(address)) == Some(k)
+        let query = EntryQuery::At(address);
+        for b in &self.breaks[..k] {
+            if b.matches(query) {
+                return false;
+            }
+        }
+        true
     }
 
     // Entry k, which is b, is free, or keeps the rules. `earlier` says that an earlier entry is lifted.

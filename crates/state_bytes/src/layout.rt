@@ -10,7 +10,7 @@ ghost use Rattle.state_bytes.specs.Widths.{process_count, process_width, state_w
 use crate::place::{is_there, read_extent_at};
 use crate::process_form::read_extent;
 use crate::starts::read_start;
-use crate::widths::{PROCESS_BYTES, PROCESS_COUNT, STATE_BYTES, THERE_AT};
+use crate::widths::{PROCESS_BYTES, PROCESS_COUNT, STARTS_AT, STATE_BYTES, THERE_AT};
 use state::CAPACITY;
 
 // The sizes of the processes that are there, together: the index of the first free byte.
@@ -19,8 +19,9 @@ pub fn used_bytes(state: &[u8]) -> usize
     ensures { result ≡ used (state_of state.now) }
 {
     let mut used = 0;
-    for p in 0..PROCESS_COUNT {
-        used += read_extent_at(state, p) as usize;
+    for at in (0..STARTS_AT).step_by(PROCESS_BYTES) {
+        let end = at + PROCESS_BYTES;
+        used += read_extent(&state[at..end]) as usize;
     }
     used
 }

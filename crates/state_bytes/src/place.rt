@@ -67,11 +67,13 @@ pub fn lowest_absent(state: &[u8]) -> usize
     requires { state_width ≤ length state.now }
     ensures { result ≡ lowest_absent (state_of state.now) }
 {
+    // An index that runs beside p: a multiple of p would be a process number multiplied.
+    let mut there = THERE_AT;
     for p in 0..PROCESS_COUNT {
-        let there = is_there(state, p);
-        if !there {
+        if state[there] % 2 == 0 {
             return p;
         }
+        there += PROCESS_BYTES;
     }
     PROCESS_COUNT
 }
