@@ -1,13 +1,14 @@
--- Laws of the word that a line begins with: the test of it, and the front of a long line. Assumes nothing.
+-- Laws of the word that a line begins with: the loop that compares, and the front of a long line. Assumes nothing.
 use mathlib.Core.Path.{◌≡◌, refl, sym, ap, ◌∙◌}
 use mathlib.Core.Bool.{Bool, true, false, ◌&&◌, true≢false}
 use mathlib.Core.List.{List, [], ◌∷◌, ◌++◌}
-use Prim.Native.Nat.{ℕ, zero, suc, ◌≤◌, ◌<◌}
+use Prim.Native.Nat.{ℕ, zero, suc, ◌+◌, ◌≤◌, ◌<◌}
+use native.Mathlib.Numerals.{add-one}
 use native.Mathlib.Omega.{arith}
-use borrow.Author.Tests.{eq-eqb, ne_eqb, eqb-true, eqb-false, lt-ltb}
-use lib.ListN.{length, take, get_or}
-use lib.Dec.{eqb, ltb}
-use Rattle.std.specs.List.{starts_with}
+use borrow.Author.Tests.{eq-eqb, ne_eqb, eqb-true}
+use lib.ListN.{length, take, drop, get_or, drop_of_length-le}
+use lib.Seq.{drop-cons}
+use lib.Dec.{eqb}
 use Rattle.lists.proofs.Bool.{&&-left, &&-right}
 use Rattle.recording.specs.declared.command.Command.{Command}
 use Rattle.recording.specs.Command.{begins, request_word, line_word, raw_word, why_word, any_length}
@@ -22,23 +23,24 @@ begins-short (c ∷ text) (d ∷ line) h = go (eqb d c) (begins-short text line 
     go true e = e
     go false e = refl
 
-and-false : (t : Bool) → t && false ≡ false
-and-false true = refl
-and-false false = refl
+-- a turn of the loop that compares
+module _ (text line : List ℕ) (i : ℕ) (h : i < length text) (k : i < length line) where
+  here : (xs : List ℕ) → i < length xs → drop i xs ≡ get_or xs i 0 ∷ drop (i + 1) xs
+  here xs l = drop-cons xs i 0 l ∙ ap (λ (n : ℕ). get_or xs i 0 ∷ drop n xs) (sym (add-one i))
 
-eqb-sym : (a b : ℕ) → eqb a b ≡ eqb b a
-eqb-sym a b = go (eqb a b) refl
-  where
-    go : (t : Bool) → eqb a b ≡ t → eqb a b ≡ eqb b a
-    go true e = e ∙ sym (eq-eqb b a (sym (eqb-true a b e)))
-    go false e = e ∙ sym (ne_eqb b a (λ f. eqb-false a b e (sym f)))
+  turn : begins (drop i text) (drop i line) ≡ eqb (get_or line i 0) (get_or text i 0) && begins (drop (i + 1) text) (drop (i + 1) line)
+  unfolding begins
+  turn = rw (here text h, here line k)
 
--- as std's `starts_with` tests it
-pub begins-starts : (text line : List ℕ) → starts_with eqb line text ≡ begins text line
+  pub begins-next : get_or line i 0 ≡ get_or text i 0 → begins (drop (i + 1) text) (drop (i + 1) line) ≡ begins (drop i text) (drop i line)
+  begins-next e = sym (turn ∙ ap (λ (t : Bool). t && begins (drop (i + 1) text) (drop (i + 1) line)) (eq-eqb (get_or line i 0) (get_or text i 0) e))
+
+  pub begins-other : (get_or line i 0 ≡ get_or text i 0 → ⊥) → false ≡ begins (drop i text) (drop i line)
+  begins-other n = sym (turn ∙ ap (λ (t : Bool). t && begins (drop (i + 1) text) (drop (i + 1) line)) (ne_eqb (get_or line i 0) (get_or text i 0) n))
+
+pub begins-end : (text line : List ℕ) (i : ℕ) → length text ≤ i → true ≡ begins (drop i text) line
 unfolding begins
-begins-starts [] line = refl
-begins-starts (c ∷ text) [] = refl
-begins-starts (c ∷ text) (d ∷ line) = rw (eqb-sym c d) (ap (λ (t : Bool). eqb d c && t) (begins-starts text line))
+begins-end text line i h = rw (drop_of_length-le text h)
 
 -- a word is found in the front of a line that is long enough for it
 pub begins-take : (text line : List ℕ) (n : ℕ) → length text ≤ n → begins text (take n line) ≡ begins text line
@@ -54,17 +56,6 @@ unfolding begins
 begins-more [] line more h = refl
 begins-more (c ∷ text) [] more h = absurd (omega (arith, h))
 begins-more (c ∷ text) (d ∷ line) more h = ap (λ (t : Bool). eqb d c && t) (begins-more text line more (omega (arith, h)))
-
--- a line that has not a blank in the fourth place begins with no word of three letters and a blank
-pub no-fourth-blank : (a b c : ℕ) (line : List ℕ) → ltb 3 (length line) && eqb (get_or line 3 0) 32 ≡ false → begins (a ∷ b ∷ c ∷ 32 ∷ []) line ≡ false
-unfolding begins
-no-fourth-blank a b c [] e = refl
-no-fourth-blank a b c (x ∷ []) e = and-false (eqb x a)
-no-fourth-blank a b c (x ∷ y ∷ []) e = rw (and-false (eqb y b)) (and-false (eqb x a))
-no-fourth-blank a b c (x ∷ y ∷ z ∷ []) e = rw (and-false (eqb z c), and-false (eqb y b)) (and-false (eqb x a))
-no-fourth-blank a b c (x ∷ y ∷ z ∷ w ∷ line) e =
-    let other : eqb w 32 ≡ false = rw (lt-ltb 3 (length (x ∷ y ∷ z ∷ w ∷ line)) (omega arith)) at e in
-    rw (other, and-false (eqb z c), and-false (eqb y b)) (and-false (eqb x a))
 
 -- no line has both words
 pub request-not-raw : (line : List ℕ) → begins request_word line ≡ true → begins raw_word line ≡ true → ⊥

@@ -1,5 +1,5 @@
 // The three languages.
-ghost use Rattle.std.specs.Prelude.{◌≡◌, ◌&&◌, length, get_or, ltb, eqb};
+ghost use Rattle.std.specs.Prelude.{◌≡◌};
 ghost use Rattle.recording.specs.Line.{there_at, pairs_behind, pairs_from, first_state};
 
 use crate::command::begins;
@@ -18,21 +18,11 @@ pub enum Language {
     TextDoor,
 }
 
-// Whether the fourth character of a line is a blank, as behind `raw` and `why` and behind no other word.
-fn blank_is_fourth(line: &[u8]) -> bool
-    ensures { result ≡ ltb 3 (length line.now) && eqb (get_or line.now 3 0) 32 }
-{
-    3 < line.len() && line[3] == b' '
-}
-
-// Where in a line of a recording the pairs begin. It is asked at each character of a line, so one character of it is looked at before any word is.
+// Where in a line of a recording the pairs begin.
 #[tactic(auto, unfolding(crate::specs::Line::pairs_behind))]
 fn pairs_behind(line: &[u8]) -> usize
     ensures { result ≡ pairs_behind line.now }
 {
-    if !blank_is_fourth(line) {
-        return 8;
-    }
     if begins(line, b"raw ") || begins(line, b"why ") {
         4
     } else {
