@@ -10,6 +10,7 @@ use lib.ListN.{length, get_or, length-append, get_or-append}
 use lib.Dec.{ltb, eqb}
 use lib.Pow.{pow-add}
 use Rattle.io.specs.Digits.{hex_digit_ascii, last_digits, IsDigitCount}
+use Rattle.lines.specs.Scan.{Put}
 use Rattle.decimal.specs.Numeral.{numeral_in, numeral, field, digit_of, digits_of, value_from, plain}
 
 -- ---- one digit, or more
@@ -236,17 +237,22 @@ numeral-back (c ∷ cs) p =
 
 -- ---- lengths
 
+-- a numeral of one digit, and one of more
+size-small : (n : ℕ) → n < 10 → length (numeral n) ≡ 1
+size-small n h = ap (λ (l : List ℕ). length l) (numeral-small n h)
+
+size-large : (n : ℕ) → 10 ≤ n → length (numeral n) ≡ length (numeral (n / 10)) + 1
+size-large n h = ap (λ (l : List ℕ). length l) (numeral-large n h) ∙ length-append (numeral (n / 10)) ((48 + n % 10) ∷ [])
+
 more-digits : (m b : ℕ) → 1 ≤ m → ((n : ℕ) → n < b → length (numeral n) ≤ m) → (n : ℕ) → n < 10 * b → length (numeral n) ≤ m + 1
 more-digits m b some short n h =
-    by_size n (λ low. omega (arith, ap (λ (l : List ℕ). length l) (numeral-small n low), some))
-    (λ large.
-    let size : length (numeral n) ≡ length (numeral (n / 10)) + 1 = ap (λ (l : List ℕ). length l) (numeral-large n large) ∙ length-append (numeral (n / 10)) ((48 + n % 10) ∷ []) in
-    omega (arith, size, short (n / 10) (omega (arith, h))))
+    by_size n (λ low. omega (arith, size-small n low, some))
+    (λ large. omega (arith, size-large n large, short (n / 10) (omega (arith, h))))
 
 pub three-digits : (n : ℕ) → n < 1000 → length (numeral n) ≤ 3
 three-digits =
     more-digits 2 100 (omega arith)
-    (more-digits 1 10 (omega arith) (λ n h. omega (arith, ap (λ (l : List ℕ). length l) (numeral-small n h))))
+    (more-digits 1 10 (omega arith) (λ n h. omega (arith, size-small n h)))
 
 pub five-digits : (n : ℕ) → n < 100000 → length (numeral n) ≤ 5
 five-digits = more-digits 4 10000 (omega arith) (more-digits 3 1000 (omega arith) three-digits)
@@ -271,6 +277,22 @@ twenty-digits =
     (more-digits 12 1000000000000 (omega arith)
     (more-digits 11 100000000000 (omega arith)
     (more-digits 10 10000000000 (omega arith) ten-digits)))))))))
+
+-- a number that is no larger has no longer numeral
+no-longer : (n m : ℕ) → m ≤ n → length (numeral m) ≤ length (numeral n)
+no-longer = by_digits (λ (n : ℕ). (m : ℕ) → m ≤ n → length (numeral m) ≤ length (numeral n))
+    (λ n h m less. omega (arith, size-small n h, size-small m (omega (arith, h, less))))
+    (λ n h r m less.
+    by_size m (λ low. omega (arith, size-small m low, size-large n h))
+    (λ high. omega (arith, size-large m high, size-large n h, r (m / 10) (omega (arith, less)))))
+
+-- where there is room for so many digits there is room for the numeral of a number that is no larger than one with so many at most
+pub numeral-fits : (at most size m n : ℕ) → m ≤ n → length (numeral n) ≤ most → at + most ≤ size → at + length (numeral m) ≤ size
+numeral-fits at most size m n less short room = omega (arith, no-longer n m less, short, room)
+
+-- and it ends within that room
+pub numeral-ends : (at most next m n : ℕ) (buffer last : List ℕ) → m ≤ n → length (numeral n) ≤ most → Put at (numeral m) buffer next last → next ≤ at + most
+numeral-ends at most next m n buffer last less short p = omega (arith, no-longer n m less, short, p.0)
 
 pub length-field : (mark n : ℕ) → n < 65536 → length (field mark n) ≤ 6
 unfolding field
