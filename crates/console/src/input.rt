@@ -27,7 +27,7 @@ fn read<R: Read>(input: &mut R, block: &mut [u8]) -> io::Result<usize>
 
 // A gateway that plays lines: what was read of a line that has not ended, the bytes that are kept of it, the gateway's state and memory, and room for
 // what a block prints. The language is none of its fields: each program has one, and what is passed on as a parameter is compiled for that one, where
-// a field would be asked at each character.
+// a field would be asked at the first characters of each line.
 #[derive(Drop)]
 struct Gateway {
     partial: Partial,

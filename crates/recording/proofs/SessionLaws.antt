@@ -42,6 +42,13 @@ reading-as : (xs ys : List ℕ) (m n : ℕ) (p q : Phase) → xs ≡ ys → m �
     → ◌≡◌ {A = Reading} (record { line = xs; size = m; phase = p }) (record { line = ys; size = n; phase = q })
 reading-as xs ys m n p q X S P = rw (X, S, P)
 
+-- where the pairs of a line begin makes no difference once they have begun, as in each language they have after eight bytes
+pub typed-begun : (l : Language) (first room c : ℕ) (r : Reading) → first ≤ length r.line → 8 ≤ length r.line → typed first room c r ≡ typed (pairs_from l r.line) room c r
+unfolding typed phase_after
+typed-begun l first room c r f h =
+    reading-as _ _ _ _ _ _ refl refl
+    (rw (le-ltb (length r.line) first f, le-ltb (length r.line) (pairs_from l r.line) (omega (arith, h, pairs-within l r.line))) refl)
+
 module _ (first c len size more : ℕ) (phase next : Phase) (line : List ℕ) (room : first ≤ length line) (M : more ≡ capped (size + 1))
     (N : next ≡ phase_after len first phase c) where
   -- there is no room for it

@@ -22,8 +22,8 @@ pub enum Command {
     Unknown,
 }
 
-// Whether a line begins with this text. It is asked at each character of a line, so it ends at the first byte that differs: `starts_with` compares
-// all of so short a text at once, which takes longer.
+// Whether a line begins with this text. It is asked at each of the first characters of a line, so it ends at the first byte that differs:
+// `starts_with` compares all of so short a text at once, which takes longer.
 pub(crate) fn begins(line: &[u8], text: &[u8]) -> bool
     ensures { result ≡ begins text.now line.now }
 {

@@ -5,7 +5,7 @@ ghost use Rattle.recording.specs.Line.{pairs_from, line_effect};
 ghost use Rattle.recording.specs.Session.{reading, session, waits, stepped, fed, Steps, Feeds};
 
 use crate::KEPT;
-use crate::language::Language;
+use crate::language::{BEGUN, Language};
 use crate::line::answer_line;
 use crate::partial::Partial;
 use calls::{LONGEST_TEXT, MEMORY, STATE};
@@ -66,7 +66,8 @@ fn must_wait(c: u8, room: usize) -> bool
     c == b'\n' && room < LONGEST_TEXT
 }
 
-// One character: a newline ends the line, which is then carried out.
+// One character: a newline ends the line, which is then carried out. Where the pairs of a line begin is asked of its first bytes alone, after which they
+// have begun in each language.
 fn read_character(
     language: Language,
     partial: Partial,
@@ -80,7 +81,11 @@ fn read_character(
     ensures { Steps (stepped language c (session (reading partial line.old) state.old memory.old)) result line.new state.new memory.new out.old out.new }
 {
     if c != b'\n' {
-        let first = pairs_begin(language, partial, line);
+        let first = if partial.len < BEGUN {
+            pairs_begin(language, partial, line)
+        } else {
+            0
+        };
         return Step {
             partial: partial.push(first, c, line),
             len: 0,

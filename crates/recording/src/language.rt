@@ -18,6 +18,9 @@ pub enum Language {
     TextDoor,
 }
 
+// After so many bytes of a line its pairs have begun, in each language and behind each word.
+pub(crate) const BEGUN: usize = 8;
+
 // Where in a line of a recording the pairs begin.
 #[tactic(auto, unfolding(crate::specs::Line::pairs_behind))]
 fn pairs_behind(line: &[u8]) -> usize
